@@ -1,0 +1,10 @@
+pub mod Fields
+pub mod IntLaws
+pub mod VarintLaws
+pub mod CountLaws
+pub mod MarkLaws
+pub mod TextLaws
+pub mod TagLaws
+pub mod ComposedLaws
+pub mod Scan
+pub mod Puts
