@@ -1,0 +1,45 @@
+-- Facts on lists.
+use Rattle.std.proofs.Common.{◌≡◌, ℕ, Bool, ◌&&◌, ◌||◌, ◌==◌, List, [], ◌∷◌, ◌++◌, map, length, refl, sym, ap, ◌∙◌, arith}
+use Rattle.std.specs.declared.cmp.Ordering.{Ordering}
+use Rattle.std.specs.declared.cmp.Ordering.TheVariants.{Less}
+use Rattle.std.specs.Bool.{Decides}
+use Rattle.std.specs.List.{AllByRecursion, list_any}
+use Rattle.std.specs.List.Sorted.{IsStrictlySortedBy}
+use Rattle.std.specs.Ordering.{on}
+use Rattle.std.specs.Cmp.Lexicographic.{pointwise}
+use Rattle.std.proofs.lemmas.Bool.Decides.{Decides-eqb}
+use Rattle.group_types.proofs.BoolLemmas.{or_group}
+
+pub empty_of_length : {A : Type 0} (xs : List A) → length xs ≡ 0 → xs ≡ []
+empty_of_length [] none = refl
+empty_of_length (x ∷ xs) none = absurd (omega arith)
+
+pub any_append : {K : Type 0} (test : K → Bool) (xs ys : List K) → list_any test (xs ++ ys) ≡ (list_any test xs || list_any test ys)
+any_append test [] ys = refl
+any_append test (x ∷ xs) ys = ap (λ b. test x || b) (any_append test xs ys) ∙ or_group (test x) (list_any test xs) (list_any test ys)
+
+-- lists of different lengths differ
+pub lengths_differ : {A : Type 0} (xs ys : List A) (m n : ℕ) → m ≡ length xs → n ≡ length ys → (m ≡ n → ⊥) → Decides (m == n) (xs ≡ ys)
+lengths_differ xs ys m n p q differ =
+    (λ so. absurd (differ ((Decides-eqb m n).0 so)), λ is. absurd (differ (p ∙ ap length is ∙ sym q)))
+
+-- a list that rises by what f shows of its elements shows a list that rises
+pub sorted-map : {A K : Type 0} (f : A → K) (R : K → K → Ordering) (xs : List A) → IsStrictlySortedBy (on f R) xs → IsStrictlySortedBy R (map f xs)
+unfolding IsStrictlySortedBy
+sorted-map f R [] sorted = tt
+sorted-map {A} {K} f R (x ∷ xs) sorted = (below xs sorted.0, sorted-map f R xs sorted.1)
+  where
+    below : (ys : List A) → AllByRecursion (λ y. R (f x) (f y) ≡ Less) ys → AllByRecursion (λ k. R (f x) k ≡ Less) (map f ys)
+    below [] all = tt
+    below (y ∷ ys) all = (all.0, below ys all.1)
+
+-- to compare elements by what f shows of them is to compare what f shows
+pub pointwise-map : {A K : Type 0} (f : A → K) (E : K → K → Bool) (xs ys : List A) → pointwise (on f E) xs ys ≡ pointwise E (map f xs) (map f ys)
+pointwise-map f E [] [] = refl
+pointwise-map f E [] (y ∷ ys) = refl
+pointwise-map f E (x ∷ xs) [] = refl
+pointwise-map f E (x ∷ xs) (y ∷ ys) = ap (λ b. E (f x) (f y) && b) (pointwise-map f E xs ys)
+
+pub list_any-map : {A K : Type 0} (f : A → K) (test : K → Bool) (xs : List A) → list_any test (map f xs) ≡ list_any (λ x. test (f x)) xs
+list_any-map f test [] = refl
+list_any-map f test (x ∷ xs) = ap (λ b. test (f x) || b) (list_any-map f test xs)

@@ -1,0 +1,14 @@
+use Rattle.std.proofs.lemmas.Bool.Decides.{same_from_decides}
+use Rattle.group_types.specs.Sets.{is_nothing}
+use Rattle.group_types.proofs.Orders.{partition_cmp_total}
+use Rattle.group_types.proofs.ListSets.{of_list-nothing}
+use Rattle.group_types.proofs.SetLemmas.{is_nothing-Decides}
+use Rattle.group_types.proofs.part_set.PartSet.is_empty.Goals as goal
+
+pub returns-clause-empty : goal.returns-clause-empty
+returns-clause-empty c =
+    rw (← c.self.view_is) (of_list-nothing partition_cmp_total c.self.inside.parts.keys c.is_empty.result c.is_empty.ensures)
+
+pub returns-clause-value : goal.returns-clause-value
+returns-clause-value c =
+    same_from_decides c.is_empty.result (is_nothing c.args.self.now) (returns-clause-empty c) (is_nothing-Decides c.args.self.now)

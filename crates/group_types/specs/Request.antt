@@ -1,0 +1,75 @@
+-- A heartbeat, without its bytes (KIP-848, "ConsumerGroupHeartbeat API").
+use Rattle.std.specs.Prelude.{ℕ, zero, suc, ℤ, pos, negsuc, Bool, true, false, ◌||◌, ◌&&◌, not, int_lt, int_le, is_none, is_some, length, ◌==◌, List, Option, Some, None}
+use Rattle.std.specs.Ordering.{int_eq}
+use Rattle.group_types.specs.declared.partition.Partition.{Partition}
+use Rattle.group_types.specs.Text.{Text}
+use Rattle.group_types.specs.AssignorName.{assignor_named}
+
+pub record Heartbeat : Type 0 where
+  pub group : Text
+  pub member : Text  -- the member id, empty where it has none yet
+  pub epoch : ℤ  -- 0 joins, -1 leaves, -2 goes away for a while
+  pub instance : Option Text
+  pub rack : Option Text
+  pub rebalance_timeout : ℤ  -- in milliseconds, -1 where it is as before
+  pub names : Option (List Text)
+  pub assignor : Option Text
+  pub owned : Option (List Partition)  -- the partitions that TopicPartitions names
+
+-- what a heartbeat is, by its member epoch
+pub data Kind : Type 0 where
+  Joins : Kind
+  Beats : ℕ → Kind  -- at this member epoch, 1 or more
+  Leaves : Kind
+  GoesAway : Kind
+  IsNone : Kind  -- below -2
+
+abbrev pub kind_of : ℤ → Kind
+kind_of (pos zero) = Joins
+kind_of (pos (suc n)) = Beats (suc n)
+kind_of (negsuc zero) = Leaves
+kind_of (negsuc (suc zero)) = GoesAway
+kind_of (negsuc (suc (suc n))) = IsNone
+
+abbrev pub is_empty : {X : Type 0} → List X → Bool
+is_empty xs = length xs == 0
+
+abbrev pub is_given_empty : {X : Type 0} → Option (List X) → Bool
+is_given_empty None = false
+is_given_empty (Some xs) = is_empty xs
+
+abbrev pub is_given_some : {X : Type 0} → Option (List X) → Bool
+is_given_some None = false
+is_given_some (Some xs) = not (is_empty xs)
+
+-- A join is invalid without a rebalance timeout, without names, under an empty instance id, or where it
+-- says to own a partition.
+abbrev pub is_invalid_join : Heartbeat → Bool
+is_invalid_join q =
+    int_eq q.rebalance_timeout (negsuc 0) || is_none q.names || is_given_empty q.instance || is_given_some q.owned
+
+-- What is invalid beside an empty group id, by the kind of heartbeat: a member epoch that means nothing, no
+-- member id where one is wanted, no instance id to go away under, a rebalance timeout below -1.
+abbrev pub is_invalid_as : Heartbeat → Kind → Bool
+is_invalid_as q Joins = int_lt q.rebalance_timeout (negsuc 0) || is_invalid_join q
+is_invalid_as q (Beats epoch) = is_empty q.member || int_lt q.rebalance_timeout (negsuc 0)
+is_invalid_as q Leaves = is_empty q.member
+is_invalid_as q GoesAway = is_empty q.member || is_none q.instance
+is_invalid_as q IsNone = true
+
+-- INVALID_REQUEST
+abbrev pub is_invalid : Heartbeat → Bool
+is_invalid q = is_empty q.group || is_invalid_as q (kind_of q.epoch)
+
+abbrev pub is_unknown : Option Text → Bool
+is_unknown None = false
+is_unknown (Some name) = is_none (assignor_named name)
+
+-- UNSUPPORTED_ASSIGNOR, where the member epoch is 0 or more
+abbrev pub is_unsupported : Heartbeat → Bool
+is_unsupported q = int_le (pos 0) q.epoch && is_unknown q.assignor
+
+-- All that a member may say is said: it joins, or timeout, names and partitions are given.
+abbrev pub is_full : Heartbeat → Bool
+is_full q =
+    int_eq q.epoch (pos 0) || (not (int_eq q.rebalance_timeout (negsuc 0)) && is_some q.names && is_some q.owned)

@@ -1,0 +1,11 @@
+-- Names and ids: a text is the list of its bytes, and texts are ordered byte by byte.
+use Rattle.std.specs.Prelude.{ℕ, List}
+use Rattle.std.specs.declared.cmp.Ordering.{Ordering}
+use Rattle.std.specs.Ordering.{nat_cmp}
+use Rattle.std.specs.Cmp.Lexicographic.{slice_cmp}
+
+abbrev pub Text : Type 0
+Text = List ℕ
+
+abbrev pub text_cmp : Text → Text → Ordering
+text_cmp = slice_cmp nat_cmp

@@ -1,0 +1,31 @@
+//! The types that every crate of the coordinator shares: partitions and sets of them, member ids, epochs, stamps,
+//! moments and error codes.
+//!
+//! Contracts see each type as the plain value that it stands for, and each call gives exactly that value or says that
+//! memory is short and changes nothing. Start from [`PartSet`] and [`MemberId`].
+#![tactic(auto)]
+
+mod assignor_name;
+mod code;
+mod epoch;
+pub mod limits;
+mod member_id;
+mod moment;
+mod name_set;
+mod part_set;
+mod partition;
+mod stamp;
+#[cfg(test)]
+mod tests;
+mod wanted;
+
+pub use assignor_name::AssignorName;
+pub use code::Code;
+pub use epoch::{Epoch, EpochNumber};
+pub use member_id::{MemberId, made_ids_differ};
+pub use moment::Moment;
+pub use name_set::NameSet;
+pub use part_set::PartSet;
+pub use partition::Partition;
+pub use stamp::Stamp;
+pub use wanted::Wanted;
