@@ -1,0 +1,8 @@
+use Rattle.std.proofs.Common.{sym, subst}
+use Rattle.topic_meta.specs.Facts.{AreImageTopics}
+use Rattle.topic_meta.specs.Stored.{topics_in}
+use Rattle.topic_meta.proofs.Shown.{empty-AreImageTopics}
+use Rattle.topic_meta.proofs.image.Image.empty.Goals as goal
+
+pub invariant_of-result : goal.invariant_of-result
+invariant_of-result c = subst (λ es. AreImageTopics (topics_in es)) (sym c.new.ensures.empty) empty-AreImageTopics
