@@ -1,0 +1,5 @@
+pub mod Puts
+pub mod MessageLaws
+pub mod HeadLaws
+pub mod GivesLaws
+pub mod RequestLaws

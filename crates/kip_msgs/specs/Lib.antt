@@ -1,0 +1,11 @@
+pub mod Values
+pub mod Api
+pub mod Spelling
+pub mod Faults
+pub mod Reading
+pub mod Heads
+pub mod Answers
+pub mod Topics
+pub mod Views
+pub mod Writable
+pub mod Laws

@@ -1,0 +1,19 @@
+//! Laws of the spelling, proved where nothing runs.
+
+ghost use Rattle.kip_msgs.specs.Laws.{OneRequestABody, OneHeartbeatReplyABody, OneBodyARequest, OneBodyAReply};
+
+/// A body spells at most one request.
+pub fn one_request_a_body()
+    ensures { OneRequestABody }
+{}
+
+/// A body spells at most one reply to a heartbeat.
+pub fn one_heartbeat_reply_a_body()
+    ensures { OneHeartbeatReplyABody }
+{}
+
+/// A request has one body, and so has a reply.
+pub fn one_body_a_message()
+    ensures request { OneBodyARequest }
+    ensures reply { OneBodyAReply }
+{}

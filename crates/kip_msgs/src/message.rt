@@ -1,0 +1,14 @@
+use crate::header::{RequestHeader, ResponseHeader};
+use crate::heartbeat::{HeartbeatReply, HeartbeatRequest};
+
+/// A request body: a header and the message of its API.
+#[derive(Debug, Drop)]
+pub enum Request<'a> {
+    Heartbeat(RequestHeader<'a>, HeartbeatRequest<'a>),
+}
+
+/// A reply body: a header and the message of its API.
+#[derive(Debug, Drop)]
+pub enum Reply<'a> {
+    Heartbeat(ResponseHeader<'a>, HeartbeatReply<'a>),
+}

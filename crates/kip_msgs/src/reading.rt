@@ -1,0 +1,103 @@
+//! Request bodies, read whole.
+
+ghost use Rattle.std.specs.Prelude.{◌≡◌, ℕ, List, ◌↔◌, IfOk, IsOkAnd, IsErrOf};
+ghost use Rattle.flex_wire.specs.declared.fault.WireFault.TheVariants.{Short, NoMemory};
+ghost use Rattle.kip_msgs.specs.declared.api.Api.{Api};
+ghost use Rattle.kip_msgs.specs.Api.{IsRead};
+ghost use Rattle.kip_msgs.specs.Values.{RequestValue};
+ghost use Rattle.kip_msgs.specs.Spelling.{SpellsRequest};
+ghost use Rattle.kip_msgs.specs.Reading.{Gives, GivesInMemory, version_at, api_at, request_behind_at, request_at};
+ghost use Rattle.kip_msgs.specs.Heads.{BeginsWith, HasUnknownKey, HasUnknownVersion, EndsInHead, HasLeftOver};
+ghost use Rattle.kip_msgs.specs.Answers.{AnswersInMemory, FailsInMemory};
+ghost use Rattle.kip_msgs.specs.Views.{request_value};
+
+mod heartbeat;
+mod lists;
+
+use crate::api::Api;
+use crate::fault::MsgFault;
+use crate::message::Request;
+use flex_wire::take_i16;
+use heartbeat::take_heartbeat;
+use std::alloc::Global;
+
+fn version_of(api: Option<Api>, bytes: &[u8]) -> Result<(Api, &[u8]), MsgFault>
+    ensures { Gives (λ x. (x.0, x.1.now)) result (version_at api bytes.now) }
+{
+    let Some(api) = api else {
+        return Err(MsgFault::UnknownApi);
+    };
+    let (version, rest) = take_i16(bytes)?;
+    if version != api.version() {
+        return Err(MsgFault::UnknownVersion);
+    }
+    Ok((api, rest))
+}
+
+#[tactic(auto, unfolding(crate::specs::Reading::api_at))]
+fn head_of(body: &[u8]) -> Result<(Api, &[u8]), MsgFault>
+    ensures { Gives (λ x. (x.0, x.1.now)) result (api_at body.now) }
+{
+    let (key, rest) = take_i16(body)?;
+    version_of(Api::with_key(key), rest)
+}
+
+/// The API that a request body names by its key and version, and the bytes behind them, from the
+/// correlation id on (Kafka protocol guide, "Request Header v2"). Takes no memory.
+///
+/// Faults, in this order: `Short` in the key; `UnknownApi`, also at the key of a commit, of which no
+/// request is read; `Short` in the version; `UnknownVersion`.
+pub fn api_of(body: &[u8]) -> Result<(Api, &[u8]), MsgFault>
+    ensures found { IfOk result (λ x. IsRead x.0 × BeginsWith x.0 x.1.now body.now) }
+    ensures only { (api : Api) (rest : List ℕ) → IsRead api → BeginsWith api rest body.now →
+        IsOkAnd result (λ x. (x.0 ≡ api) × (x.1.now ≡ rest)) }
+    ensures unknown_api { IsErrOf result MsgFault.UnknownApi ↔ HasUnknownKey body.now }
+    ensures unknown_version { IsErrOf result MsgFault.UnknownVersion ↔ HasUnknownVersion body.now }
+    ensures short { IsErrOf result (MsgFault.Wire Short) ↔ EndsInHead body.now }
+{
+    head_of(body)
+}
+
+#[tactic(auto, unfolding(crate::specs::Reading::request_behind_at))]
+fn request_behind<'a>(alloc: Global, api: Api, bytes: &'a [u8]) -> Result<Request<'a>, MsgFault>
+    ensures { GivesInMemory request_value result (request_behind_at api bytes.now) }
+{
+    match api {
+        Api::Heartbeat => {
+            let (header, message, rest) = take_heartbeat(alloc, bytes)?;
+            if !rest.is_empty() {
+                return Err(MsgFault::LeftOver);
+            }
+            Ok(Request::Heartbeat(header, message))
+        }
+        Api::Commit => Err(MsgFault::UnknownApi),
+    }
+}
+
+#[tactic(auto, unfolding(crate::specs::Reading::request_at))]
+fn request_of<'a>(alloc: Global, body: &'a [u8]) -> Result<Request<'a>, MsgFault>
+    ensures exact { GivesInMemory request_value result (request_at body.now) }
+    // A head that isn't read wants no memory.
+    ensures head { (fault : MsgFault) → api_at body.now ≡ Err fault → IsErrOf result fault }
+{
+    let (api, rest) = head_of(body)?;
+    request_behind(alloc, api, rest)
+}
+
+/// Reads a request body (Kafka protocol guide, "Request Header v2"; KIP-848): the request that all
+/// of its bytes spell, tagged fields included. Texts and tagged fields are lent from `body`; no
+/// count takes memory before its elements are read.
+///
+/// Faults, in this order: those of [`api_of`]; a field's; `LeftOver` where bytes stand behind the
+/// last field. `NoMemory` comes only behind a version that is known.
+pub fn read_request<'a>(alloc: Global, body: &'a [u8]) -> Result<Request<'a>, MsgFault>
+    ensures found { IfOk result (λ request. SpellsRequest (request_value request) body.now) }
+    ensures only { (v : RequestValue) → SpellsRequest v body.now → AnswersInMemory request_value result v }
+    ensures unknown_api { IsErrOf result MsgFault.UnknownApi ↔ HasUnknownKey body.now }
+    ensures unknown_version { IsErrOf result MsgFault.UnknownVersion ↔ HasUnknownVersion body.now }
+    ensures left_over { IsErrOf result MsgFault.LeftOver → HasLeftOver body.now }
+    ensures left_over_or_no_memory { HasLeftOver body.now → FailsInMemory MsgFault.LeftOver result }
+    ensures memory_by_itself { ¬ IsErrOf result (MsgFault.Wire NoMemory) }
+{
+    request_of(alloc, body)
+}
