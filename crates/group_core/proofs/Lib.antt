@@ -1,0 +1,11 @@
+pub mod FirstJoin
+pub mod Single
+pub mod GrantLemmas
+pub mod Named
+pub mod MemberLemmas
+pub mod SubscribedLemmas
+pub mod NameLemmas
+pub mod Joined
+pub mod Steps
+pub mod OneStep
+pub mod Answered

@@ -1,0 +1,58 @@
+//! What a request gives for a member's record.
+ghost use Rattle.std.specs.Prelude.{◌≡◌, IfOk, map, string_bytes};
+ghost use Rattle.std.specs.Option.{option_map, option_copied, option_and_then};
+ghost use Rattle.group_types.specs.Sets.{nothing, of_list};
+ghost use Rattle.group_types.specs.AssignorName.{assignor_named};
+ghost use Rattle.group_types.specs.Join.{names_after, timeout_after};
+
+use group_types::{AssignorName, NameSet};
+use kip_msgs::Names;
+use std::alloc::{AllocError, Global};
+
+/// A copy of a text, where there is one.
+pub fn text_of(alloc: Global, text: Option<&str>) -> Result<Option<String>, AllocError>
+    ensures { IfOk result (λ copy. option_map string_bytes copy ≡ option_copied text.entry) }
+{
+    match text {
+        Some(text) => Ok(Some(String::from_str(alloc, text)?)),
+        None => Ok(None),
+    }
+}
+
+/// The set of the names, or of none.
+pub fn names_of(alloc: Global, given: &Option<Names<'_>>) -> Result<NameSet, AllocError>
+    ensures { IfOk result (λ names. names ≡ names_after nothing given.now) }
+{
+    match given {
+        Some(names) => set_of(alloc, names.as_slice()),
+        None => Ok(NameSet::new(alloc)),
+    }
+}
+
+/// The set of the names of a list.
+fn set_of(alloc: Global, names: &[&str]) -> Result<NameSet, AllocError>
+    ensures { IfOk result (λ set. set ≡ of_list (map (λ name. name.now) names.now)) }
+{
+    let mut set = NameSet::new(alloc);
+    for name in names {
+        set.insert(alloc, name)?;
+    }
+    Ok(set)
+}
+
+/// The rebalance timeout in milliseconds; 0 where none was given yet.
+pub fn timeout_of(given: i32) -> u32
+    ensures { result ≡ timeout_after 0 given }
+{
+    u32::try_from(given).unwrap_or(0)
+}
+
+/// The assignor that is named, where there is such an assignor.
+pub fn assignor_of(name: Option<&str>) -> Option<AssignorName>
+    ensures { result ≡ option_and_then assignor_named (option_copied name.entry) }
+{
+    match name {
+        Some(name) => AssignorName::of(name),
+        None => None,
+    }
+}

@@ -1,0 +1,75 @@
+use super::*;
+
+/// An entry of TopicPartitions with these indexes.
+fn owned(alloc: Global, indexes: &[i32]) -> Result<TopicPartitionsList<'static>, AllocError> {
+    let mut partitions = Indexes::new(alloc);
+    for index in indexes {
+        partitions.push(*index)?;
+    }
+    let mut list = TopicPartitionsList::new(alloc);
+    list.push(TopicPartitions {
+        topic_id: Uuid::from_bytes([0x11; 16]),
+        partitions,
+        tags: TaggedFields::new(alloc),
+    })?;
+    Ok(list)
+}
+
+/// The code of the answer that a request gets of a new group.
+fn code(rt: &HostRuntime, request: &HeartbeatRequest<'_>) -> Result<Code, Fail> {
+    let mut group = Group::new(rt.alloc(), 0);
+    let Outcome::Replied(reply) = outcome(rt, &mut group, request)? else {
+        return Err("a join is answered".into());
+    };
+    let accepted = reply.code == Code::NoError;
+    if accepted != (group.members() == 1) || accepted != reply.member.is_some() {
+        return Err("a member is made exactly where it is told its id".into());
+    }
+    Ok(reply.code)
+}
+
+#[test]
+fn joins_say_what_they_must(rt: HostRuntime) -> Result<(), Fail> {
+    let mut request = tried!(rt, join(rt.alloc(), &["t"]), true);
+    request.rebalance_timeout_ms = -1;
+    assert_eq!(rt; code(&rt, &request)?, Code::InvalidRequest);
+    request.rebalance_timeout_ms = -2;
+    assert_eq!(rt; code(&rt, &request)?, Code::InvalidRequest);
+    request.rebalance_timeout_ms = 0;
+    assert_eq!(rt; code(&rt, &request)?, Code::NoError);
+    request.group_id = "";
+    assert_eq!(rt; code(&rt, &request)?, Code::InvalidRequest);
+    request.group_id = "g";
+    request.subscribed_topic_names = None;
+    assert_eq!(rt; code(&rt, &request)?, Code::InvalidRequest);
+    Ok(())
+}
+
+#[test]
+fn joins_own_nothing(rt: HostRuntime) -> Result<(), Fail> {
+    let mut request = tried!(rt, join(rt.alloc(), &["t"]), true);
+    let none = tried!(rt, owned(rt.alloc(), &[]), true);
+    request.topic_partitions = Some(none);
+    assert_eq!(rt; code(&rt, &request)?, Code::NoError);
+    let one = tried!(rt, owned(rt.alloc(), &[0]), true);
+    request.topic_partitions = Some(one);
+    assert_eq!(rt; code(&rt, &request)?, Code::InvalidRequest);
+    Ok(())
+}
+
+#[test]
+fn assignors_are_range_and_uniform(rt: HostRuntime) -> Result<(), Fail> {
+    let mut request = tried!(rt, join(rt.alloc(), &["t"]), true);
+    for (assignor, expected) in [
+        ("range", Code::NoError),
+        ("uniform", Code::NoError),
+        ("sticky", Code::UnsupportedAssignor),
+        ("", Code::UnsupportedAssignor),
+    ] {
+        request.server_assignor = Some(assignor);
+        assert_eq!(rt; code(&rt, &request)?, expected, "at {assignor}");
+    }
+    request.rebalance_timeout_ms = -1;
+    assert_eq!(rt; code(&rt, &request)?, Code::InvalidRequest);
+    Ok(())
+}
