@@ -1,0 +1,9 @@
+pub mod ListingLemmas
+pub mod LengthLemmas
+pub mod ReplyLemmas
+pub mod RunLemmas
+pub mod GroupLemmas
+pub mod OneAnswer
+pub mod FirstJoin
+pub mod GrowthLemmas
+pub mod AnswerLemmas

@@ -1,0 +1,29 @@
+-- What holds of every step of the coordinator.
+use Rattle.std.specs.Prelude.{◌≡◌, ◌≢◌, ℕ, pos, List, [], None}
+use Rattle.std.specs.FinMap as finite
+use Rattle.kip_msgs.specs.Values.{RequestHeaderValue, HeartbeatRequestValue, heartbeat_request}
+use Rattle.group_types.specs.declared.stamp.Stamp.{Stamp}
+use Rattle.coord_node.specs.Coordinator.{Coordinator, Event, Frame, Answer, Closes}
+use Rattle.coord_node.specs.Steps.{IsRequest, Step}
+
+-- an event has one answer at a node, and leaves one node
+abbrev pub OneAnswer : Type 0
+OneAnswer =
+    (c : Coordinator) (event : Event) (a b : Answer) (n o : Coordinator)
+    → Step c event a n → Step c event b o → (a ≡ b) × (n ≡ o)
+
+-- KIP-848, "Consumer Group Heartbeat": a member joins with MemberEpoch 0 and no MemberId; here it has no
+-- InstanceId either, and is the first of its group.
+pub record IsFirstJoin (c : Coordinator) (v : HeartbeatRequestValue) : Type 0 where
+  pub epoch : v.member_epoch ≡ pos 0
+  pub member : v.member_id ≡ []
+  pub instance : v.instance_id ≡ None
+  pub absent : finite.get c.groups v.group_id ≡ None
+
+-- a first join is answered: it never closes
+abbrev pub AnswersFirstJoins : Type 0
+AnswersFirstJoins =
+    (c : Coordinator) (header : RequestHeaderValue) (v : HeartbeatRequestValue) (body : List ℕ) (stamp : Stamp)
+    (moment : ℕ) (answer : Answer) (new : Coordinator)
+    → IsRequest (heartbeat_request header v) body → IsFirstJoin c v
+    → Step c (Frame body stamp moment) answer new → answer ≢ Closes

@@ -1,0 +1,10 @@
+pub mod Listing
+pub mod Growth
+pub mod Replies
+pub mod Coordinator
+pub mod Steps
+pub mod Laws
+pub mod Stored
+pub mod NodeView
+pub mod Answers
+pub mod Events

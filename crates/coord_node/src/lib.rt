@@ -1,0 +1,21 @@
+//! The coordinator of one node: the bytes of frames in, the bytes of replies out.
+//!
+//! For every list of frames and images, the bytes that a [`Node`] appends are those of the coordinator's run
+//! (KIP-848), and its state is the run's. Start from [`Node::answer`] for one frame, and from [`Node::run`] for a list
+//! of events.
+#![tactic(auto)]
+
+mod event;
+mod frame;
+mod laws;
+mod listing;
+mod node;
+mod run;
+
+pub use event::{Answered, NodeEvent};
+pub use group_core::{Group, Image, Moment, Stamp};
+pub use laws::{one_answer, path_is_answered};
+pub use node::Node;
+
+#[cfg(test)]
+mod tests;

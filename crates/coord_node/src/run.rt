@@ -1,0 +1,40 @@
+//! Lists of events.
+ghost use Rattle.std.specs.Prelude.{◌≡◌, [], OnOk};
+ghost use Rattle.coord_node.specs.Events.{Runs};
+
+use crate::event::NodeEvent;
+use crate::node::Node;
+use std::alloc::{AllocError, Global};
+use std::collections::VecDeque;
+
+impl Node {
+    /// Takes the events from the front, and appends the replies to the frames in their order. Where memory is short,
+    /// the events that have no answer yet are left, the first of them in front.
+    pub fn run(
+        &mut self,
+        alloc: Global,
+        events: &mut VecDeque<NodeEvent>,
+        out: &mut Vec<u8>,
+    ) -> Result<(), AllocError>
+        ensures run { Runs self.old events.old.items self.new events.new.items out.old.items out.new.items }
+        ensures all { OnOk result (events.new.items ≡ []) }
+    {
+        while let Some(event) = events.front() {
+            match event {
+                NodeEvent::Frame {
+                    body,
+                    stamp,
+                    moment,
+                } => {
+                    self.answer(alloc, body.as_slice(), *stamp, *moment, out)?;
+                    let _ = events.pop_front();
+                }
+                NodeEvent::Image { .. } => match events.pop_front() {
+                    Some(NodeEvent::Image { image }) => self.set_image(image),
+                    Some(NodeEvent::Frame { .. }) | None => unreachable!(),
+                },
+            }
+        }
+        Ok(())
+    }
+}
