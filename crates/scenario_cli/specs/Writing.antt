@@ -1,0 +1,8 @@
+-- What a writer holds after some of its bytes may have been refused.
+use Rattle.std.specs.Prelude.{ℕ, List, Option}
+use Rattle.std.specs.Io.KnownBytes.{Appends}
+
+-- only more bytes came
+pub record Grows (old new : Option (List ℕ)) : Type 0 where
+  pub bytes : List ℕ
+  pub appends : Appends old new bytes

@@ -1,0 +1,68 @@
+//! The command line.
+ghost use Rattle.std.specs.Prelude.{◌≡◌, ◌⊎◌};
+
+use clap::Command;
+use clap::error::ErrorKind;
+use std::alloc::Global;
+use std::convert::AsStr;
+use std::io;
+use std::rt::Env;
+use thiserror::Error;
+
+/// What the program is asked to do.
+#[derive(Clone, Copy, Debug, PartialEq, Eq)]
+pub enum Subcommand {
+    /// Answer the request frames on standard input.
+    Reply,
+}
+
+/// Why a command line asks for nothing that the program does. The text ends its line.
+#[derive(Debug, Drop, Error)]
+pub enum CommandLineFault {
+    /// The line is wrong, or asks for help, and the text is what `clap` says of it.
+    #[error("{0}")]
+    Refused(clap::Error),
+    /// The words could not be read.
+    #[error("reading the command line: {0}\n")]
+    Unread(io::Error),
+}
+
+impl CommandLineFault {
+    /// The status with which the program ends: 1 where memory was short, 2 where the command line was wrong.
+    pub fn status(&self) -> u8
+        ensures { (result ≡ 1) ⊎ (result ≡ 2) }
+    {
+        let is_for_memory = match self {
+            CommandLineFault::Refused(error) => error.kind() == ErrorKind::OutOfMemory,
+            CommandLineFault::Unread(error) => error.kind() == io::ErrorKind::OutOfMemory,
+        };
+        if is_for_memory { 1 } else { 2 }
+    }
+}
+
+/// The subcommand that the program's command line names.
+pub fn read(rt: &(impl Env + AllocGlobal)) -> Result<Subcommand, CommandLineFault> {
+    let words = words_of(rt).map_err(CommandLineFault::Unread)?;
+    subcommand_of(rt.alloc(), words.as_slice()).map_err(CommandLineFault::Refused)
+}
+
+/// The words of the program's command line.
+fn words_of(rt: &(impl Env + AllocGlobal)) -> io::Result<Vec<String>> {
+    Ok(std::env::args(rt)?.collect(rt.alloc())?)
+}
+
+/// The subcommand that the words name, the program's own name first. A call for help is an error too, whose text is
+/// the help.
+pub fn subcommand_of<'a, S: AsStr>(
+    alloc: Global,
+    words: &'a [S],
+) -> Result<Subcommand, clap::Error> {
+    let reply = Command::new(alloc, "reply").about("Answers the request frames on standard input");
+    let command = Command::new(alloc, "coord")
+        .about("The coordinator of consumer groups, on lines of text")
+        .bin_name("coord")?
+        .subcommand_required(true)
+        .subcommand(reply)?;
+    command.try_get_matches_from(words)?;
+    Ok(Subcommand::Reply)
+}
