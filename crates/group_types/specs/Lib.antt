@@ -12,6 +12,8 @@ pub mod Wanted
 pub mod Group
 pub mod Settle
 pub mod Renewal
+pub mod Assignors
+pub mod Owners
 pub mod Leave
 pub mod Tick
 pub mod Request

@@ -1,0 +1,53 @@
+-- KIP-848, "Server Side Assignors": who owns which partition of a view.
+use Rattle.std.specs.Prelude.{◌≡◌, ◌↔◌, ℕ, ◌+◌, ◌-◌, ◌*◌, ◌/◌, ◌%◌, ◌<◌, pos, List, length, Some, IsTrue, if◌then◌else◌, nat_lt, slice_get, MatchOption}
+use Rattle.std.specs.List.{Contains}
+use Rattle.std.specs.FinMap as finite
+use Rattle.group_types.specs.declared.partition.Partition.{Partition}
+use Rattle.group_types.specs.Text.{Text}
+use Rattle.group_types.specs.Sets.{has}
+use Rattle.group_types.specs.Partition.{partition_cmp, Partitions}
+use Rattle.group_types.specs.Topics.{Topic, Topics}
+use Rattle.group_types.specs.Assignors.{Subscriber, subscribers_of}
+use Rattle.group_types.specs.Renewal.{IsSubscribed}
+
+-- the owner of each partition that has one, by the owner's id
+abbrev pub Spread : Type 0
+Spread = finite.FinMap partition_cmp Text
+
+-- the set has just the partitions that the member owns
+abbrev pub IsShare : Spread → Text → Partitions → Type 0
+IsShare spread id set = (p : Partition) → IsTrue (has set p) ↔ (finite.get spread p ≡ Some id)
+
+-- some member with this id subscribes the partition
+abbrev pub IsSubscriber : Topics → List Subscriber → Partition → Text → Type 0
+IsSubscriber view subs p id =
+    (m : Subscriber) × Contains subs m × (m.id ≡ id) × IsSubscribed view m.names p
+
+-- Each partition that some member subscribes has exactly one owner, who subscribes it; nothing else is owned.
+abbrev pub IsLawful : Topics → List Subscriber → Spread → Type 0
+IsLawful view subs spread =
+    (p : Partition) → MatchOption (finite.get spread p) ((id : Text) → ¬ IsSubscriber view subs p id) (IsSubscriber view subs p)
+
+-- The place among k subscribers of the one who owns index i of n partitions: the partitions go in rising runs to the
+-- subscribers in member order, and the first n mod k of these get one more than the rest.
+abbrev pub range_place : ℕ → ℕ → ℕ → ℕ
+range_place n k i =
+    let q = n / k in let r = n % k in
+    if nat_lt i (r * (q + 1)) then i / (q + 1) else r + (i - r * (q + 1)) / q
+
+-- the partition has an index of a topic of the view, and this is its owner under range
+pub record IsRangeOwner (view : Topics) (subs : List Subscriber) (p : Partition) (id : Text) : Type 0 where
+  pub name : Text
+  pub topic : Topic
+  pub of_view : finite.get view name ≡ Some topic
+  pub same_id : p.topic ≡ topic.id
+  pub index : ℕ
+  pub is_index : p.index ≡ pos index
+  pub below : index < topic.count
+  pub owner : Subscriber
+  pub place : slice_get (subscribers_of subs name) (range_place topic.count (length (subscribers_of subs name)) index) ≡ Some owner
+  pub same_owner : owner.id ≡ id
+
+-- every partition has its owner under range, and no other has one
+abbrev pub IsRange : Topics → List Subscriber → Spread → Type 0
+IsRange view subs spread = (p : Partition) (id : Text) → (finite.get spread p ≡ Some id) ↔ IsRangeOwner view subs p id

@@ -1,0 +1,10 @@
+pub mod Places
+pub mod Counts
+pub mod MemberOrder
+pub mod Apart
+pub mod Spreads
+pub mod IdOrder
+pub mod Turns
+pub mod Dealt
+pub mod Lawful
+pub mod Changes

@@ -1,0 +1,4 @@
+pub mod Members
+pub mod Shares
+pub mod Turns
+pub mod Laws

@@ -1,0 +1,131 @@
+//! The assignor `range`.
+
+ghost use Rattle.std.specs.Prelude.{◌≡◌, ◌<◌, ◌≤◌, ◌+◌, ◌^◌, ◌↔◌, ℕ, length, take, All, IfOk, OnOk};
+ghost use Rattle.group_types.specs.declared.partition.Partition.{Partition as Key};
+ghost use Rattle.group_types.specs.Assignors.{subscribers_of};
+ghost use Rattle.group_types.specs.Owners.{IsLawful, IsRange, range_place};
+ghost use Rattle.range_assign.specs.Members.{subscribers_in};
+ghost use Rattle.range_assign.specs.Turns.{AddsRun, IsRangeShare, counts_of};
+
+use crate::assignor::Assignor;
+use crate::spread::{Share, Spread};
+use crate::subs::{Subs, Subscriber};
+use group_types::{PartSet, Partition};
+use std::alloc::{AllocError, Global};
+use topic_meta::{View, ViewTopic};
+use uuid::Uuid;
+
+/// The assignor `range`: of each topic, the partitions go in rising runs to the subscribers in member order, and the
+/// first of these get one more than the rest where the numbers don't divide.
+#[derive(Clone, Copy, Debug)]
+pub struct Range;
+
+impl Assignor for Range {
+    fn assign(
+        &self,
+        alloc: Global,
+        _former: &Spread,
+        subs: &Subs<'_>,
+        view: &View,
+    ) -> Result<Spread, AllocError>
+        ensures lawful { IfOk result (λ spread. IsLawful view.now subs.now spread) }
+        ensures range { IfOk result (λ spread. IsRange view.now subs.now spread) }
+    {
+        let members = subs.members();
+        let topics = view.topics();
+        let counts = subscriber_counts(alloc, topics, members)?;
+        let mut places = vec![in alloc; 0; topics.len()]?;
+        let mut shares = Vec::with_capacity(alloc, members.len())?;
+        for (at, member) in members.iter().enumerate() {
+            let set = take_turns(alloc, members, at, topics, &counts, &mut places)?;
+            let id = member.id.copy(alloc)?;
+            shares.push(Share { id, set })?;
+        }
+        Ok(Spread::of(shares))
+    }
+}
+
+/// How many members subscribe each topic.
+fn subscriber_counts(
+    alloc: Global,
+    topics: &[ViewTopic],
+    members: &[Subscriber<'_>],
+) -> Result<Vec<usize>, AllocError>
+    ensures { IfOk result (λ counts. counts.items ≡ counts_of topics.now (subscribers_in members.now)) }
+{
+    topics
+        .iter()
+        .map(|topic| count_subscribers(members, topic.name.as_str()))
+        .collect(alloc)
+}
+
+/// How many members subscribe the topic with this name.
+fn count_subscribers(members: &[Subscriber<'_>], name: &str) -> usize
+    ensures { result ≡ length (subscribers_of (subscribers_in members.now) name.now) }
+{
+    members
+        .iter()
+        .filter(|member| member.names.contains(name))
+        .count()
+}
+
+/// The partitions of the member at a place among the members. The topics' places are those of the next subscribers, and
+/// go on past this member where it subscribes.
+fn take_turns(
+    alloc: Global,
+    members: &[Subscriber<'_>],
+    at: usize,
+    topics: &[ViewTopic],
+    counts: &[usize],
+    places: &mut [usize],
+) -> Result<PartSet, AllocError>
+    requires within { at < length members.now }
+    requires few { All (λ t. t.count ≤ 2 ^ 31) topics.now }
+    requires counted { counts.now ≡ counts_of topics.now (subscribers_in members.now) }
+    requires placed { places.old ≡ counts_of topics.now (take at (subscribers_in members.now)) }
+    ensures moved { OnOk result (places.new ≡ counts_of topics.now (take (at + 1) (subscribers_in members.now))) }
+    ensures share { IfOk result (IsRangeShare topics.now (subscribers_in members.now) at) }
+{
+    let member = &members[at];
+    let mut set = PartSet::new(alloc);
+    for (t, topic) in topics.iter().enumerate() {
+        if member.names.contains(topic.name.as_str()) {
+            let (first, end) = run_of(topic.count as usize, counts[t], places[t]);
+            add_run(&mut set, topic.id, first, end)?;
+            places[t] += 1;
+        }
+    }
+    Ok(set)
+}
+
+/// The indexes of the subscriber at a place: the first, and one past the last.
+pub(crate) fn run_of(count: usize, subscribers: usize, place: usize) -> (usize, usize)
+    requires { place < subscribers }
+    ensures run { (i : ℕ) → i < count → ((result.0 ≤ i) × (i < result.1)) ↔ (range_place count subscribers i ≡ place) }
+    ensures within { (result.0 ≤ result.1) × (result.1 ≤ count) }
+{
+    let (shorter, longer_runs) = (count / subscribers, count % subscribers);
+    if place < longer_runs {
+        let first = place * (shorter + 1);
+        (first, first + shorter + 1)
+    } else {
+        let first = place * shorter + longer_runs;
+        (first, first + shorter)
+    }
+}
+
+/// Adds the partitions of a topic with the indexes from the first to before the end. Where memory is short, some of
+/// them may be in already.
+fn add_run(set: &mut PartSet, topic: Uuid, first: usize, end: usize) -> Result<(), AllocError>
+    requires rise { first ≤ end }
+    requires few { end ≤ 2 ^ 31 }
+    ensures { OnOk result (AddsRun set.old set.new topic first end) }
+{
+    for index in first..end {
+        set.insert(Partition {
+            topic,
+            index: index as i32,
+        })?;
+    }
+    Ok(())
+}

@@ -1,0 +1,128 @@
+//! Who owns which partition.
+
+ghost use Rattle.std.specs.Prelude.{◌≡◌, ◌<◌, ◌∷◌, IfSome, IsPermutation, MatchOption, vec_capacity, vec_len};
+ghost use Rattle.std.specs.FinMap as finite;
+ghost use Rattle.group_types.specs.declared.partition.Partition.{Partition as Key};
+ghost use Rattle.group_types.specs.Owners.{IsShare};
+ghost use Rattle.range_assign.specs.Shares.{AreInIdOrder, AreShares, HasNoShare, IdsRise, IsPlace, TakesShare, renamed, share_in, shares_in, spread_of, without_member};
+
+use group_types::{MemberId, PartSet};
+use std::alloc::Global;
+use std::marker::Model;
+
+/// The partitions of one member.
+#[derive(Drop)]
+pub struct Share {
+    pub id: MemberId,
+    pub set: PartSet,
+}
+
+/// Who owns which partition: each partition has at most one owner.
+///
+/// The shares are in the order of their ids' bytes, so that a member's share is found without a walk over the others.
+#[derive(Drop)]
+pub struct Spread {
+    shares: Vec<Share>,
+}
+
+impl Model for Spread {
+    ghost use Rattle.group_types.specs.Owners.{Spread as Owners};
+    ghost use Rattle.range_assign.specs.Shares.{AreInIdOrder, owners_code, shares_in, spread_of};
+
+    ghost Value = { Owners };
+
+    ghost coded = { owners_code };
+
+    ghost view = { λ s. spread_of (shares_in s.shares.items) };
+
+    ghost invariant = { λ s. AreInIdOrder (shares_in s.shares.items) };
+}
+
+impl Spread {
+    /// The spread in which no partition has an owner. Takes no memory.
+    pub fn empty(alloc: Global) -> Spread
+        ensures { result ≡ finite.empty }
+    {
+        Spread {
+            shares: Vec::new(alloc),
+        }
+    }
+
+    /// The spread of these shares, of which no two have one id or one partition. Takes no memory.
+    pub fn of(shares: Vec<Share>) -> Spread
+        requires { AreShares (shares_in shares.items) }
+        ensures { result ≡ spread_of (shares_in shares.items) }
+    {
+        let mut shares = shares;
+        shares.sort_unstable_by(|a, b| a.id.compare(b.id.as_str()));
+        Spread { shares }
+    }
+
+    /// The partitions of the member with this id, or none where it owns none. Takes no memory.
+    pub fn share_of(&self, id: &str) -> Option<&PartSet>
+        ensures { MatchOption result ((p : Key) → ¬ (finite.get self.now p ≡ Some id.now))
+            (λ set. IsShare self.now id.now set.now) }
+    {
+        match place_of(&self.shares, id) {
+            Ok(place) => Some(&self.shares[place].set),
+            Err(_) => None,
+        }
+    }
+
+    /// Takes the member with this id out: its partitions have no owner any more. Takes no memory.
+    pub fn drop_member(&mut self, id: &str)
+        ensures { self.new ≡ without_member self.old id.now }
+    {
+        let _ = take_share(&mut self.shares, id);
+    }
+
+    /// Gives the partitions of the old id to the new one, which owns none. Takes no memory.
+    pub fn rename(&mut self, old: &str, new: MemberId)
+        requires { (p : Key) → ¬ (finite.get self.old p ≡ Some new) }
+        ensures { self.new ≡ renamed self.old old.now new }
+    {
+        let _ = take_share(&mut self.shares, new.as_str());
+        if let Some(set) = take_share(&mut self.shares, old) {
+            put_share(&mut self.shares, Share { id: new, set });
+        }
+    }
+}
+
+/// Takes the share with this id out, if there is one.
+fn take_share(shares: &mut Vec<Share>, id: &str) -> Option<PartSet>
+    requires { AreInIdOrder (shares_in shares.old.items) }
+    ensures order { AreInIdOrder (shares_in shares.new.items) }
+    ensures taken { TakesShare (shares_in shares.old.items) (shares_in shares.new.items) id.now result }
+    ensures gone { HasNoShare (shares_in shares.new.items) id.now }
+    ensures room { IfSome result (λ _. vec_len shares.new < vec_capacity shares.new) }
+{
+    let Ok(place) = place_of(shares, id) else {
+        return None;
+    };
+    let Share { id: _, set } = shares.remove(place);
+    Some(set)
+}
+
+/// Puts the share among the others, for which there is room.
+fn put_share(shares: &mut Vec<Share>, share: Share)
+    requires room { vec_len shares.old < vec_capacity shares.old }
+    requires order { AreInIdOrder (shares_in shares.old.items) }
+    requires apart { AreShares (share_in share ∷ shares_in shares.old.items) }
+    ensures order { AreInIdOrder (shares_in shares.new.items) }
+    ensures put { IsPermutation (share_in share ∷ shares_in shares.old.items) (shares_in shares.new.items) }
+{
+    let Err(place) = place_of(shares, share.id.as_str()) else {
+        unreachable!()
+    };
+    let Ok(()) = shares.insert(place, share) else {
+        unreachable!()
+    };
+}
+
+/// The place of the share with this id, or the place where such a share goes.
+fn place_of(shares: &[Share], id: &str) -> Result<usize, usize>
+    requires { IdsRise (shares_in shares.now) }
+    ensures { IsPlace (shares_in shares.now) id.now result }
+{
+    shares.binary_search_by(|share| share.id.compare(id))
+}

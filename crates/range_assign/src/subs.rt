@@ -1,0 +1,105 @@
+//! The members of a group as an assignor sees them.
+
+ghost use Rattle.std.specs.Prelude.{◌≡◌, map, IsSorted, IsPermutation};
+ghost use Rattle.group_types.specs.Assignors.{IdsAreApart, asks_for, assignor_of, member_cmp, votes};
+ghost use Rattle.range_assign.specs.Members.{subscriber_of, subscribers_in};
+
+use group_types::{AssignorName, MemberId, NameSet};
+use std::cmp::Ordering;
+use std::marker::Model;
+
+/// A member of a group as an assignor sees it.
+#[derive(Clone, Copy)]
+pub struct Subscriber<'a> {
+    pub id: &'a MemberId,
+    /// The id that a static member keeps over restarts.
+    pub instance: Option<&'a str>,
+    /// The topics that the member subscribes.
+    pub names: &'a NameSet,
+    /// The assignor that the member asks for.
+    pub assignor: Option<AssignorName>,
+}
+
+/// The members of a group in member order: those with an instance, by its bytes; then the others, by their ids' bytes.
+#[derive(Drop)]
+pub struct Subs<'a> {
+    members: Vec<Subscriber<'a>>,
+}
+
+impl<'a> Model for Subs<'a> {
+    ghost use Rattle.std.specs.Prelude.{List};
+    ghost use Rattle.group_types.specs.Assignors.{Subscriber as Member};
+    ghost use Rattle.range_assign.specs.Members.{AreInOrder, subscribers_code, subscribers_in};
+
+    ghost Value = { List Member };
+
+    ghost coded = { subscribers_code };
+
+    ghost view = { λ s. subscribers_in s.members.items };
+
+    ghost invariant = { λ s. AreInOrder (subscribers_in s.members.items) };
+}
+
+impl<'a> Subs<'a> {
+    /// The members in member order. No two have one id. Takes no memory.
+    pub fn of(members: Vec<Subscriber<'a>>) -> Subs<'a>
+        requires { IdsAreApart (subscribers_in members.items) }
+        ensures same { IsPermutation (subscribers_in members.entry.items) result }
+        ensures sorted { IsSorted member_cmp result }
+    {
+        let mut members = members;
+        members.sort_unstable_by(|a, b| member_order(a, b));
+        Subs { members }
+    }
+
+    /// The members, in member order.
+    pub fn members(&self) -> &[Subscriber<'a>]
+        ensures all { subscribers_in result.now ≡ self.now }
+        ensures sorted { IsSorted member_cmp self.now }
+        ensures apart { IdsAreApart self.now }
+    {
+        &self.members
+    }
+
+    /// The group's assignor: range where more members ask for it than for uniform, otherwise uniform.
+    pub fn assignor(&self) -> AssignorName
+        ensures { result ≡ assignor_of self.now }
+    {
+        let members = self.members();
+        if count_votes(members, AssignorName::Range) > count_votes(members, AssignorName::Uniform) {
+            AssignorName::Range
+        } else {
+            AssignorName::Uniform
+        }
+    }
+}
+
+/// Which of two members comes first.
+fn member_order(a: &Subscriber<'_>, b: &Subscriber<'_>) -> Ordering
+    ensures { result ≡ member_cmp (subscriber_of a.now) (subscriber_of b.now) }
+{
+    let by_id = a.id.compare(b.id.as_str());
+    match (a.instance, b.instance) {
+        (Some(one), Some(other)) => one.cmp(other).then(by_id),
+        (Some(_), None) => Ordering::Less,
+        (None, Some(_)) => Ordering::Greater,
+        (None, None) => by_id,
+    }
+}
+
+/// How many members ask for the assignor.
+fn count_votes(members: &[Subscriber<'_>], name: AssignorName) -> usize
+    ensures { result ≡ votes (subscribers_in members.now) name }
+{
+    members
+        .iter()
+        .filter(|member| asks_for(name, member.assignor))
+        .count()
+}
+
+/// Whether the vote is one for the assignor.
+fn asks_for(name: AssignorName, vote: Option<AssignorName>) -> bool
+    ensures { result ≡ asks_for name vote }
+{
+    vote == Some(name)
+}
