@@ -7,7 +7,7 @@ use Rattle.std.proofs.lemmas.Map.Text.{is_eq-slice_cmp}
 use Rattle.group_types.specs.declared.partition.Partition.{Partition}
 use Rattle.group_types.specs.Text.{Text, text_cmp}
 use Rattle.group_types.proofs.Orders.{text_cmp_total}
-use Rattle.kip_msgs.specs.declared.topics.TopicPartitions.{TopicPartitions}
+use Rattle.kip_msgs.specs.declared.heartbeat.TopicPartitions.{TopicPartitions}
 use Rattle.kip_msgs.specs.Topics.{topic_partitions_value, topic_partitions_values}
 use Rattle.coord_node.specs.Listing.{alone}
 use Rattle.coord_node.specs.Growth.{is_of, with_index, behind}

@@ -2,7 +2,7 @@
 use Rattle.std.proofs.Common.{◌≡◌, ℕ, ℤ, Bool, true, false, List, ◌++◌, length, Option, Some, None, inl, inr, pos, refl, sym, ap, subst, ◌∙◌}
 use Rattle.std.specs.FinMap as finite
 use Rattle.flex_wire.specs.Spelling.{int32}
-use Rattle.kip_msgs.specs.Values.{RequestValue, heartbeat_request}
+use Rattle.kip_msgs.specs.Values.{RequestValue, heartbeat_request, commit_request}
 use Rattle.kip_msgs.specs.Laws.{OneRequestABody}
 use Rattle.group_types.specs.declared.stamp.Stamp.{Stamp}
 use Rattle.group_types.specs.Request.{Heartbeat}
@@ -62,6 +62,7 @@ module _ (one_request : OneRequestABody) (one_heartbeat : HasOneAnswer) where
       let given : one.0 ≡ other.0 = same.0 in
       let sent : Sends header.correlation_id one.0 b = subst (λ (x : group.Answer). Sends header.correlation_id x b) (sym given) other.2 in
       (same_sent header.correlation_id one.0 a b one.2 sent, same.1)
+  same_request c (commit_request header v) stamp moment a b n o one other = (one.0 ∙ sym other.0, one.1 ∙ sym other.1)
 
   same_answer : (c : Coordinator) (body : List ℕ) (stamp : Stamp) (moment : ℕ) (a b : Answer) (n o : Coordinator)
       → FrameStep c body stamp moment a n → FrameStep c body stamp moment b o → (a ≡ b) × (n ≡ o)

@@ -57,8 +57,10 @@ IsSmall-assignment set few =
 IsWritableAssignment-set : (set : Partitions) → length (in_order set) ≤ 1000000 → IsWritableAssignment (assignment_value set)
 IsWritableAssignment-set set few =
     record {
-      count = omega (arith, length-listed (in_order set));
-      each = writable_topics (listed (in_order set)) 1000000 (omega (arith, indexes_in-listed (in_order set))) (omega arith) (HaveNoTags-listed (in_order set));
+      topic_partitions = record {
+        count = omega (arith, length-listed (in_order set));
+        each = writable_topics (listed (in_order set)) 1000000 (omega (arith, indexes_in-listed (in_order set))) (omega arith) (HaveNoTags-listed (in_order set));
+      };
       tags = FitsTaggedFields-nil;
     }
 

@@ -1,7 +1,7 @@
 -- The coordinator's run: what each event does to the node, and what is answered.
 use Rattle.std.specs.Prelude.{◌≡◌, ◌⊎◌, ℕ, ◌≤◌, ℤ, Bool, true, false, nat_lt, List, [], ◌∷◌, length, Option, Some, None}
 use Rattle.std.specs.FinMap as finite
-use Rattle.kip_msgs.specs.Values.{RequestValue, heartbeat_request}
+use Rattle.kip_msgs.specs.Values.{RequestValue, heartbeat_request, commit_request}
 use Rattle.kip_msgs.specs.Spelling.{SpellsRequest}
 use Rattle.group_types.specs.declared.limits.TheConstants.{SMALLEST_BODY, LARGEST_BODY, MOST_GROUPS}
 use Rattle.group_types.specs.declared.code.Code.{Code}
@@ -63,11 +63,13 @@ Sends correlation group.Closes (Replied frame) = ⊥
 Sends correlation group.Closes Closes = Unit {0}
 Sends correlation group.Closes (Done removed) = ⊥
 
+-- By the API of the request. Commits aren't described yet: a commit closes, and changes nothing.
 abbrev pub RequestStep : Coordinator → RequestValue → Stamp → ℕ → Answer → Coordinator → Type 0
 RequestStep c (heartbeat_request header v) stamp moment answer new =
     (given : group.Answer)
     × HeartbeatAt (finite.get c.groups v.group_id) c (heartbeat_of v) stamp moment given new
     × Sends header.correlation_id given answer
+RequestStep c (commit_request header v) stamp moment answer new = (answer ≡ Closes) × (new ≡ c)
 
 -- a body's length is within the limits, and it is the request
 pub record IsRequest (v : RequestValue) (body : List ℕ) : Type 0 where

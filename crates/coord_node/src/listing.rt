@@ -7,21 +7,21 @@ ghost use Rattle.coord_node.specs.Growth.{behind};
 
 use flex_wire::TaggedFields;
 use group_types::{PartSet, Partition};
-use kip_msgs::{Indexes, TopicPartitions, TopicPartitionsList};
+use kip_msgs::{Array, TopicPartitions};
 use std::alloc::{AllocError, Global};
 
 /// The topics of a set by their ids' bytes, each with its indexes rising. Fails where memory is short.
 pub(crate) fn topics_of<'a>(
     alloc: Global,
     set: &PartSet,
-) -> Result<TopicPartitionsList<'a>, AllocError>
-    ensures { IfOk result (λ topics. topics ≡ listed (in_order set.now)) }
+) -> Result<Array<TopicPartitions<'a>>, AllocError>
+    ensures { IfOk result (λ topics. topic_partitions_values topics ≡ listed (in_order set.now)) }
 {
     let mut topics = Vec::new(alloc);
     for partition in set.iter() {
         add(alloc, &mut topics, partition)?;
     }
-    Ok(TopicPartitionsList::of_vec(topics))
+    Ok(Array::of_vec(topics))
 }
 
 /// Adds a partition behind those that are listed: to the last entry where that is of its topic.
@@ -48,7 +48,7 @@ fn add<'a>(
 fn entry_of<'a>(alloc: Global, partition: &Partition) -> Result<TopicPartitions<'a>, AllocError>
     ensures { IfOk result (λ entry. topic_partitions_value entry ≡ alone partition.now) }
 {
-    let mut partitions = Indexes::new(alloc);
+    let mut partitions = Array::new(alloc);
     partitions.push(partition.index)?;
     Ok(TopicPartitions {
         topic_id: partition.topic,

@@ -71,7 +71,7 @@ impl Node {
 
     /// Answers the body of one frame, which came with a stamp at a moment: appends the one frame that spells the reply,
     /// or closes and changes nothing. A body closes that is no request or is outside the lengths of a frame, and today
-    /// every heartbeat but the first of its group. Where memory is short nothing has changed.
+    /// every commit and every heartbeat but the first of its group. Where memory is short nothing has changed.
     pub fn answer(
         &mut self,
         alloc: Global,
@@ -96,7 +96,7 @@ impl Node {
         }
     }
 
-    /// Answers a request, by its API.
+    /// Answers a request, by its API. Today a commit closes the connection.
     fn request(
         &mut self,
         alloc: Global,
@@ -113,6 +113,7 @@ impl Node {
             Request::Heartbeat(header, message) => {
                 self.heartbeat(alloc, header.correlation_id, message, stamp, now, out)
             }
+            Request::Commit(..) => Ok(Answered::Closes),
         }
     }
 

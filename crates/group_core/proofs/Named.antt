@@ -5,7 +5,7 @@ use lib.Dec.{eqb-suc-zero}
 use Rattle.std.specs.List.{flat_map, list_any}
 use Rattle.group_types.specs.declared.partition.Partition.{Partition}
 use Rattle.group_types.specs.Request.{is_empty}
-use Rattle.kip_msgs.specs.declared.topics.TopicPartitions.{TopicPartitions}
+use Rattle.kip_msgs.specs.declared.heartbeat.TopicPartitions.{TopicPartitions}
 use Rattle.kip_msgs.specs.Topics.{topic_partitions_value, topic_partitions_values}
 use Rattle.group_core.specs.Request.{partitions_of}
 

@@ -3,12 +3,13 @@ ghost use Rattle.std.specs.Prelude.{◌≡◌, ◌↔◌, IsTrue, MatchOption, n
 ghost use Rattle.std.specs.List.{flat_map, list_any};
 ghost use Rattle.group_types.specs.Request.{is_empty, is_invalid, is_invalid_join, is_unsupported};
 ghost use Rattle.group_types.specs.HeartbeatStep.{first_refusal, Accepted, Refused};
+ghost use Rattle.kip_msgs.specs.Topics.{topic_partitions_values};
 ghost use Rattle.kip_msgs.specs.Views.{heartbeat_request_value};
 ghost use Rattle.group_core.specs.Request.{heartbeat_of, partitions_of};
 ghost use Rattle.group_core.specs.Checks.{MakesMember};
 
 use group_types::{AssignorName, Code};
-use kip_msgs::{HeartbeatRequest, TopicPartitions, TopicPartitionsList};
+use kip_msgs::{Array, HeartbeatRequest, TopicPartitions};
 
 /// Whether the heartbeat joins under no member id and no instance id (KIP-848, "Consumer Group Heartbeat").
 pub fn makes_member(request: &HeartbeatRequest<'_>) -> bool
@@ -67,8 +68,8 @@ fn is_invalid_join(request: &HeartbeatRequest<'_>) -> bool
 }
 
 /// Whether the list names a partition: an entry without indexes names none.
-fn names_partition(list: &TopicPartitionsList<'_>) -> bool
-    ensures { result ≡ not (is_empty (flat_map partitions_of list.now)) }
+fn names_partition(list: &Array<TopicPartitions<'_>>) -> bool
+    ensures { result ≡ not (is_empty (flat_map partitions_of (topic_partitions_values list.now))) }
 {
     has_index(list.as_slice())
 }

@@ -6,7 +6,7 @@ ghost use Rattle.group_types.specs.AssignorName.{assignor_named};
 ghost use Rattle.group_types.specs.Join.{names_after, timeout_after};
 
 use group_types::{AssignorName, NameSet};
-use kip_msgs::Names;
+use kip_msgs::Array;
 use std::alloc::{AllocError, Global};
 
 /// A copy of a text, where there is one.
@@ -20,8 +20,8 @@ pub fn text_of(alloc: Global, text: Option<&str>) -> Result<Option<String>, Allo
 }
 
 /// The set of the names, or of none.
-pub fn names_of(alloc: Global, given: &Option<Names<'_>>) -> Result<NameSet, AllocError>
-    ensures { IfOk result (λ names. names ≡ names_after nothing given.now) }
+pub fn names_of(alloc: Global, given: &Option<Array<&str>>) -> Result<NameSet, AllocError>
+    ensures { IfOk result (λ names. names ≡ names_after nothing (option_map (map (λ name. name.now)) given.now)) }
 {
     match given {
         Some(names) => set_of(alloc, names.as_slice()),

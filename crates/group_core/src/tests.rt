@@ -2,7 +2,7 @@
 
 use crate::*;
 use flex_wire::TaggedFields;
-use kip_msgs::{Indexes, Names, TopicPartitions, TopicPartitionsList};
+use kip_msgs::{Array, TopicPartitions};
 use std::alloc::{AllocError, Global};
 use std::test::Fail;
 use topic_meta::{ImageFault, TopicEntry};
@@ -33,9 +33,9 @@ const STAMP: Stamp = Stamp {
 
 /// A join that names these topics, under no id and no instance.
 fn join<'a>(alloc: Global, names: &[&'a str]) -> Result<HeartbeatRequest<'a>, AllocError> {
-    let mut given = Names::new(alloc);
+    let mut given = Array::new(alloc);
     for name in names {
-        given.push(name)?;
+        given.push(*name)?;
     }
     Ok(HeartbeatRequest {
         group_id: "g",

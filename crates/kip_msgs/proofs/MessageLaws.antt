@@ -1,26 +1,28 @@
 -- Each message is a field: what is read is spelled so and fits, and what is spelled so is read.
 use Rattle.std.proofs.Common.{◌≡◌, ℕ, Bool, true, false, List, [], ◌∷◌, ◌++◌, Option, Some, None, Ok, refl, sym, ap, subst, ◌∙◌, append_assoc}
 use Rattle.std.specs.Prelude.{FitsSigned, IfSome}
-use Rattle.std.specs.Int.{w16, w32}
-use Rattle.flex_wire.specs.Spelling.{int16, int32, nullable_string, tagged_fields, mark}
+use Rattle.std.specs.Int.{w16, w32, w64}
+use Rattle.flex_wire.specs.Spelling.{int16, int32, int64, nullable_string, tagged_fields, mark}
 use Rattle.flex_wire.specs.Reading.{Read, signed_at, mark_at}
 use Rattle.flex_wire.specs.Laws.{AreBytes, IsField}
-use Rattle.flex_wire.specs.Composed.{pair_at}
 use Rattle.flex_wire.proofs.Fields.{bind_ok, ok_is, AreBytes-rest}
-use Rattle.flex_wire.proofs.IntLaws.{signed_is_field, wide16, wide32, uuid_is_field}
+use Rattle.flex_wire.proofs.IntLaws.{signed_is_field, wide16, wide32, wide64, uuid_is_field}
 use Rattle.flex_wire.proofs.MarkLaws.{mark_is_field}
 use Rattle.flex_wire.proofs.TextLaws.{compact_string_is_field, compact_nullable_string_is_field, nullable_string_is_field}
 use Rattle.flex_wire.proofs.TagLaws.{tagged_fields_is_field}
 use Rattle.flex_wire.proofs.ComposedLaws.{nothing_is_field, pair_is_field, made_is_field, refitted_is_field, array_is_field, nullable_array_is_field}
 use Rattle.kip_msgs.specs.Values.{RequestHeaderValue}
-use Rattle.kip_msgs.specs.Spelling.{fields, nullable_struct, FitsRequestHeader, response_header_fields, FitsResponseHeader, topic_partitions_fields, FitsTopicPartitions, heartbeat_request_fields, FitsHeartbeatRequest, assignment_fields, FitsAssignment, heartbeat_reply_fields, FitsHeartbeatReply}
-use Rattle.kip_msgs.specs.Reading.{marked_at, nullable_struct_at, request_header_at, response_header_at, topic_partitions_at, heartbeat_request_at, assignment_at, heartbeat_reply_at, heartbeat_body_at}
+use Rattle.kip_msgs.specs.Spelling.{fields, nullable_struct, FitsRequestHeader, response_header_fields, FitsResponseHeader, topic_partitions_fields, FitsTopicPartitions, heartbeat_request_fields, FitsHeartbeatRequest, assignment_fields, FitsAssignment, heartbeat_reply_fields, FitsHeartbeatReply, commit_request_partition_fields, FitsCommitRequestPartition, commit_request_topic_fields, FitsCommitRequestTopic, commit_request_fields, FitsCommitRequest, commit_reply_partition_fields, FitsCommitReplyPartition, commit_reply_topic_fields, FitsCommitReplyTopic, commit_reply_fields, FitsCommitReply}
+use Rattle.kip_msgs.specs.Reading.{marked_at, nullable_struct_at, request_header_at, response_header_at, topic_partitions_at, heartbeat_request_at, assignment_at, heartbeat_reply_at, commit_request_partition_at, commit_request_topic_at, commit_request_at, commit_reply_partition_at, commit_reply_topic_at, commit_reply_at, heartbeat_body_at, commit_body_at, heartbeat_reply_body_at, commit_reply_body_at}
 
 pub int16_is_field : IsField (FitsSigned w16) int16 (signed_at w16)
 int16_is_field = signed_is_field w16 wide16
 
 pub int32_is_field : IsField (FitsSigned w32) int32 (signed_at w32)
 int32_is_field = signed_is_field w32 wide32
+
+int64_is_field : IsField (FitsSigned w64) int64 (signed_at w64)
+int64_is_field = signed_is_field w64 wide64
 
 -- what stands behind the key and the version of a request's header
 abbrev pub header_rest : RequestHeaderValue → List ℕ
@@ -142,11 +144,122 @@ heartbeat_reply_is_field =
     (pair_is_field (nullable_struct_is_field assignment_is_field)
     (pair_is_field tagged_fields_is_field nothing_is_field)))))))))
 
+pub commit_request_partition_is_field : IsField FitsCommitRequestPartition commit_request_partition_fields commit_request_partition_at
+unfolding commit_request_partition_fields commit_request_partition_at
+commit_request_partition_is_field =
+    refitted_is_field
+    (λ v f. record {
+      partition_index = f.0;
+      committed_offset = f.1.0;
+      committed_leader_epoch = f.1.1.0;
+      committed_metadata = f.1.1.1.0;
+      tags = f.1.1.1.1.0;
+    })
+    (λ v f. (f.partition_index, (f.committed_offset, (f.committed_leader_epoch, (f.committed_metadata, (f.tags, tt))))))
+    (made_is_field _ (λ v. (v.partition_index, (v.committed_offset, (v.committed_leader_epoch, (v.committed_metadata, (v.tags, tt)))))) (λ _. refl) (λ _. refl)
+    (pair_is_field int32_is_field
+    (pair_is_field int64_is_field
+    (pair_is_field int32_is_field
+    (pair_is_field compact_nullable_string_is_field
+    (pair_is_field tagged_fields_is_field nothing_is_field))))))
+
+pub commit_request_topic_is_field : IsField FitsCommitRequestTopic commit_request_topic_fields commit_request_topic_at
+unfolding commit_request_topic_fields commit_request_topic_at
+commit_request_topic_is_field =
+    refitted_is_field
+    (λ v f. record {
+      name = f.0;
+      partitions = f.1.0;
+      tags = f.1.1.0;
+    })
+    (λ v f. (f.name, (f.partitions, (f.tags, tt))))
+    (made_is_field _ (λ v. (v.name, (v.partitions, (v.tags, tt)))) (λ _. refl) (λ _. refl)
+    (pair_is_field compact_string_is_field
+    (pair_is_field (array_is_field commit_request_partition_is_field)
+    (pair_is_field tagged_fields_is_field nothing_is_field))))
+
+pub commit_request_is_field : IsField FitsCommitRequest commit_request_fields commit_request_at
+unfolding commit_request_fields commit_request_at
+commit_request_is_field =
+    refitted_is_field
+    (λ v f. record {
+      group_id = f.0;
+      generation_id_or_member_epoch = f.1.0;
+      member_id = f.1.1.0;
+      group_instance_id = f.1.1.1.0;
+      topics = f.1.1.1.1.0;
+      tags = f.1.1.1.1.1.0;
+    })
+    (λ v f. (f.group_id, (f.generation_id_or_member_epoch, (f.member_id, (f.group_instance_id, (f.topics, (f.tags, tt)))))))
+    (made_is_field _ (λ v. (v.group_id, (v.generation_id_or_member_epoch, (v.member_id, (v.group_instance_id, (v.topics, (v.tags, tt))))))) (λ _. refl) (λ _. refl)
+    (pair_is_field compact_string_is_field
+    (pair_is_field int32_is_field
+    (pair_is_field compact_string_is_field
+    (pair_is_field compact_nullable_string_is_field
+    (pair_is_field (array_is_field commit_request_topic_is_field)
+    (pair_is_field tagged_fields_is_field nothing_is_field)))))))
+
+pub commit_reply_partition_is_field : IsField FitsCommitReplyPartition commit_reply_partition_fields commit_reply_partition_at
+unfolding commit_reply_partition_fields commit_reply_partition_at
+commit_reply_partition_is_field =
+    refitted_is_field
+    (λ v f. record {
+      partition_index = f.0;
+      error_code = f.1.0;
+      tags = f.1.1.0;
+    })
+    (λ v f. (f.partition_index, (f.error_code, (f.tags, tt))))
+    (made_is_field _ (λ v. (v.partition_index, (v.error_code, (v.tags, tt)))) (λ _. refl) (λ _. refl)
+    (pair_is_field int32_is_field
+    (pair_is_field int16_is_field
+    (pair_is_field tagged_fields_is_field nothing_is_field))))
+
+pub commit_reply_topic_is_field : IsField FitsCommitReplyTopic commit_reply_topic_fields commit_reply_topic_at
+unfolding commit_reply_topic_fields commit_reply_topic_at
+commit_reply_topic_is_field =
+    refitted_is_field
+    (λ v f. record {
+      name = f.0;
+      partitions = f.1.0;
+      tags = f.1.1.0;
+    })
+    (λ v f. (f.name, (f.partitions, (f.tags, tt))))
+    (made_is_field _ (λ v. (v.name, (v.partitions, (v.tags, tt)))) (λ _. refl) (λ _. refl)
+    (pair_is_field compact_string_is_field
+    (pair_is_field (array_is_field commit_reply_partition_is_field)
+    (pair_is_field tagged_fields_is_field nothing_is_field))))
+
+pub commit_reply_is_field : IsField FitsCommitReply commit_reply_fields commit_reply_at
+unfolding commit_reply_fields commit_reply_at
+commit_reply_is_field =
+    refitted_is_field
+    (λ v f. record {
+      throttle_time_ms = f.0;
+      topics = f.1.0;
+      tags = f.1.1.0;
+    })
+    (λ v f. (f.throttle_time_ms, (f.topics, (f.tags, tt))))
+    (made_is_field _ (λ v. (v.throttle_time_ms, (v.topics, (v.tags, tt)))) (λ _. refl) (λ _. refl)
+    (pair_is_field int32_is_field
+    (pair_is_field (array_is_field commit_reply_topic_is_field)
+    (pair_is_field tagged_fields_is_field nothing_is_field))))
+
 -- a heartbeat's body behind the key and the version
 pub heartbeat_body_is_field : IsField (λ p. FitsRequestHeader p.0 × FitsHeartbeatRequest p.1) (λ p. header_rest p.0 ++ heartbeat_request_fields p.1) heartbeat_body_at
 unfolding heartbeat_body_at
 heartbeat_body_is_field = pair_is_field request_header_is_field heartbeat_request_is_field
 
--- a reply's body
-pub reply_body_is_field : IsField (λ p. FitsResponseHeader p.0 × FitsHeartbeatReply p.1) (λ p. response_header_fields p.0 ++ heartbeat_reply_fields p.1) (pair_at response_header_at heartbeat_reply_at)
-reply_body_is_field = pair_is_field response_header_is_field heartbeat_reply_is_field
+-- a commit's body behind the key and the version
+pub commit_body_is_field : IsField (λ p. FitsRequestHeader p.0 × FitsCommitRequest p.1) (λ p. header_rest p.0 ++ commit_request_fields p.1) commit_body_at
+unfolding commit_body_at
+commit_body_is_field = pair_is_field request_header_is_field commit_request_is_field
+
+-- the body of a reply to a heartbeat
+pub heartbeat_reply_body_is_field : IsField (λ p. FitsResponseHeader p.0 × FitsHeartbeatReply p.1) (λ p. response_header_fields p.0 ++ heartbeat_reply_fields p.1) heartbeat_reply_body_at
+unfolding heartbeat_reply_body_at
+heartbeat_reply_body_is_field = pair_is_field response_header_is_field heartbeat_reply_is_field
+
+-- the body of a reply to a commit
+pub commit_reply_body_is_field : IsField (λ p. FitsResponseHeader p.0 × FitsCommitReply p.1) (λ p. response_header_fields p.0 ++ commit_reply_fields p.1) commit_reply_body_at
+unfolding commit_reply_body_at
+commit_reply_body_is_field = pair_is_field response_header_is_field commit_reply_is_field

@@ -1,5 +1,5 @@
 -- The APIs, and how a request's header names them.
-use Rattle.std.specs.Prelude.{◌≡◌, ℤ, pos, negsuc, Option, Some, None, ◌==◌, if◌then◌else◌}
+use Rattle.std.specs.Prelude.{ℤ, pos, negsuc, Option, Some, None, ◌==◌, if◌then◌else◌}
 use Rattle.kip_msgs.specs.declared.api.Api.{Api}
 use Rattle.kip_msgs.specs.declared.api.Api.TheVariants.{Heartbeat, Commit}
 
@@ -13,11 +13,7 @@ abbrev pub version_of : Api → ℤ
 version_of Heartbeat = pos 0
 version_of Commit = pos 9
 
--- The API of a key, where requests of it are read: heartbeats alone.
+-- The API of a key, where there is one.
 abbrev pub api_with_key : ℤ → Option Api
-api_with_key (pos key) = if key == 68 then Some Heartbeat else None
+api_with_key (pos key) = if key == 68 then Some Heartbeat else (if key == 8 then Some Commit else None)
 api_with_key (negsuc _) = None
-
--- Requests of the API are read.
-abbrev pub IsRead : Api → Type 0
-IsRead api = api_with_key (key_of api) ≡ Some api

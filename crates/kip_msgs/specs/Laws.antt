@@ -1,17 +1,16 @@
 -- The laws between bodies and messages.
 use Rattle.std.specs.Prelude.{◌≡◌, ℕ, List}
-use Rattle.kip_msgs.specs.Values.{ResponseHeaderValue, HeartbeatReplyValue, RequestValue, ReplyValue, heartbeat_reply}
+use Rattle.kip_msgs.specs.Values.{RequestValue, ReplyValue, reply_api}
 use Rattle.kip_msgs.specs.Spelling.{SpellsRequest, SpellsReply}
 
 -- All of a body is at most one request.
 abbrev pub OneRequestABody : Type 0
 OneRequestABody = (v w : RequestValue) (body : List ℕ) → SpellsRequest v body → SpellsRequest w body → v ≡ w
 
--- All of a body is at most one reply to a heartbeat.
-abbrev pub OneHeartbeatReplyABody : Type 0
-OneHeartbeatReplyABody =
-    (g h : ResponseHeaderValue) (v w : HeartbeatReplyValue) (body : List ℕ) →
-    SpellsReply (heartbeat_reply g v) body → SpellsReply (heartbeat_reply h w) body → (g ≡ h) × (v ≡ w)
+-- All of a body is at most one reply of each API.
+abbrev pub OneReplyABody : Type 0
+OneReplyABody =
+    (v w : ReplyValue) (body : List ℕ) → reply_api v ≡ reply_api w → SpellsReply v body → SpellsReply w body → v ≡ w
 
 -- A request has one body.
 abbrev pub OneBodyARequest : Type 0

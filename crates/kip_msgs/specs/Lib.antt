@@ -1,5 +1,5 @@
-pub mod Values
 pub mod Api
+pub mod Values
 pub mod Spelling
 pub mod Faults
 pub mod Reading
@@ -8,4 +8,5 @@ pub mod Answers
 pub mod Topics
 pub mod Views
 pub mod Writable
+pub mod TagCount
 pub mod Laws

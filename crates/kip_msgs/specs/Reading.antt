@@ -1,7 +1,7 @@
 -- Reading a message from the front of a list of bytes: its value and the bytes after it, or the
 -- first fault that is met.
 use Rattle.std.specs.Prelude.{◌≡◌, ◌≢◌, ℕ, List, length, Option, Some, None, Result, Ok, Err, Bool, true, false, ◌==◌, if◌then◌else◌}
-use Rattle.std.specs.Int.{w16, w32}
+use Rattle.std.specs.Int.{w16, w32, w64}
 use Rattle.std.specs.Ordering.{int_eq}
 use Rattle.flex_wire.specs.declared.fault.WireFault.{WireFault}
 use Rattle.flex_wire.specs.Reading.{Read, ◌>>=◌, signed_at, uuid_at, compact_string_at, compact_nullable_string_at, nullable_string_at, mark_at, tagged_fields_at}
@@ -12,7 +12,7 @@ use Rattle.kip_msgs.specs.declared.fault.MsgFault.{MsgFault}
 use Rattle.kip_msgs.specs.declared.fault.MsgFault.TheVariants.{UnknownApi, UnknownVersion, LeftOver, NoMemory}
 use Rattle.kip_msgs.specs.Api.{version_of, api_with_key}
 use Rattle.kip_msgs.specs.Faults.{message_fault}
-use Rattle.kip_msgs.specs.Values.{RequestHeaderValue, ResponseHeaderValue, TopicPartitionsValue, HeartbeatRequestValue, AssignmentValue, HeartbeatReplyValue, RequestValue, heartbeat_request}
+use Rattle.kip_msgs.specs.Values.{RequestHeaderValue, ResponseHeaderValue, TopicPartitionsValue, HeartbeatRequestValue, AssignmentValue, HeartbeatReplyValue, CommitRequestPartitionValue, CommitRequestTopicValue, CommitRequestValue, CommitReplyPartitionValue, CommitReplyTopicValue, CommitReplyValue, RequestValue, heartbeat_request, commit_request, ReplyValue, heartbeat_reply, commit_reply}
 
 -- ---- messages, and their parts
 
@@ -95,11 +95,75 @@ heartbeat_reply_at =
     (pair_at (nullable_struct_at assignment_at)
     (pair_at tagged_fields_at nothing_at))))))))
 
+unfoldable pub commit_request_partition_at : Reader CommitRequestPartitionValue
+commit_request_partition_at =
+    made_at (λ x. record {
+      partition_index = x.0;
+      committed_offset = x.1.0;
+      committed_leader_epoch = x.1.1.0;
+      committed_metadata = x.1.1.1.0;
+      tags = x.1.1.1.1.0;
+    })
+    (pair_at (signed_at w32)
+    (pair_at (signed_at w64)
+    (pair_at (signed_at w32)
+    (pair_at compact_nullable_string_at
+    (pair_at tagged_fields_at nothing_at)))))
+
+unfoldable pub commit_request_topic_at : Reader CommitRequestTopicValue
+commit_request_topic_at =
+    made_at (λ x. record { name = x.0; partitions = x.1.0; tags = x.1.1.0 })
+    (pair_at compact_string_at (pair_at (array_at commit_request_partition_at) (pair_at tagged_fields_at nothing_at)))
+
+unfoldable pub commit_request_at : Reader CommitRequestValue
+commit_request_at =
+    made_at (λ x. record {
+      group_id = x.0;
+      generation_id_or_member_epoch = x.1.0;
+      member_id = x.1.1.0;
+      group_instance_id = x.1.1.1.0;
+      topics = x.1.1.1.1.0;
+      tags = x.1.1.1.1.1.0;
+    })
+    (pair_at compact_string_at
+    (pair_at (signed_at w32)
+    (pair_at compact_string_at
+    (pair_at compact_nullable_string_at
+    (pair_at (array_at commit_request_topic_at)
+    (pair_at tagged_fields_at nothing_at))))))
+
+unfoldable pub commit_reply_partition_at : Reader CommitReplyPartitionValue
+commit_reply_partition_at =
+    made_at (λ x. record { partition_index = x.0; error_code = x.1.0; tags = x.1.1.0 })
+    (pair_at (signed_at w32) (pair_at (signed_at w16) (pair_at tagged_fields_at nothing_at)))
+
+unfoldable pub commit_reply_topic_at : Reader CommitReplyTopicValue
+commit_reply_topic_at =
+    made_at (λ x. record { name = x.0; partitions = x.1.0; tags = x.1.1.0 })
+    (pair_at compact_string_at (pair_at (array_at commit_reply_partition_at) (pair_at tagged_fields_at nothing_at)))
+
+unfoldable pub commit_reply_at : Reader CommitReplyValue
+commit_reply_at =
+    made_at (λ x. record { throttle_time_ms = x.0; topics = x.1.0; tags = x.1.1.0 })
+    (pair_at (signed_at w32) (pair_at (array_at commit_reply_topic_at) (pair_at tagged_fields_at nothing_at)))
+
 -- ---- whole bodies
 
 -- What stands behind the key and the version of a heartbeat.
 unfoldable pub heartbeat_body_at : Reader (RequestHeaderValue × HeartbeatRequestValue)
 heartbeat_body_at = pair_at request_header_at heartbeat_request_at
+
+-- What stands behind the key and the version of a commit.
+unfoldable pub commit_body_at : Reader (RequestHeaderValue × CommitRequestValue)
+commit_body_at = pair_at request_header_at commit_request_at
+
+-- The body of a reply to a heartbeat.
+unfoldable pub heartbeat_reply_body_at : Reader (ResponseHeaderValue × HeartbeatReplyValue)
+heartbeat_reply_body_at = pair_at response_header_at heartbeat_reply_at
+
+-- The body of a reply to a commit.
+unfoldable pub commit_reply_body_at : Reader (ResponseHeaderValue × CommitReplyValue)
+commit_reply_body_at = pair_at response_header_at commit_reply_at
 
 -- What a function returned, seen by view, is what reading gives.
 abbrev pub Gives : {X Y : Type 0} → (X → Y) → Result X MsgFault → Result Y MsgFault → Type 0
@@ -135,11 +199,20 @@ api_at body = and_then (field_of (signed_at w16 body)) (λ key. version_at (api_
 abbrev pub whole : {A : Type 0} → A → List ℕ → Result A MsgFault
 whole x rest = if length rest == 0 then Ok x else Err LeftOver
 
+-- A field that is all of the bytes, and the message that it makes.
+abbrev pub whole_at : {V W : Type 0} → (V → W) → Reader V → List ℕ → Result W MsgFault
+whole_at make read bytes = and_then (field_of (read bytes)) (λ x. whole (make x.0) x.1)
+
 -- The request behind the API, all of the bytes.
 unfoldable pub request_behind_at : Api → List ℕ → Result RequestValue MsgFault
-request_behind_at Heartbeat bytes = and_then (field_of (heartbeat_body_at bytes)) (λ x. whole (heartbeat_request x.0.0 x.0.1) x.1)
-request_behind_at Commit bytes = Err UnknownApi
+request_behind_at Heartbeat = whole_at (λ p. heartbeat_request p.0 p.1) heartbeat_body_at
+request_behind_at Commit = whole_at (λ p. commit_request p.0 p.1) commit_body_at
 
 -- All of the body.
 unfoldable pub request_at : List ℕ → Result RequestValue MsgFault
 request_at body = and_then (api_at body) (λ api. request_behind_at api.0 api.1)
+
+-- A reply of the API, all of the body.
+unfoldable pub reply_at : Api → List ℕ → Result ReplyValue MsgFault
+reply_at Heartbeat = whole_at (λ p. heartbeat_reply p.0 p.1) heartbeat_reply_body_at
+reply_at Commit = whole_at (λ p. commit_reply p.0 p.1) commit_reply_body_at

@@ -2,13 +2,13 @@
 -- each schema of the Kafka protocol guide and of KIP-848, under the schema's names. Each structure
 -- ends in its tagged fields (KIP-482).
 use Rattle.std.specs.Prelude.{◌≡◌, ℕ, List, [], ◌∷◌, ◌++◌, Option, Some, None, IfSome, true, false, FitsSigned}
-use Rattle.std.specs.Int.{w16, w32}
-use Rattle.flex_wire.specs.Spelling.{int16, int32, uuid, FitsUuid, compact_string, compact_nullable_string, nullable_string, FitsText, FitsNullableText, mark, tagged_fields, FitsTaggedFields}
+use Rattle.std.specs.Int.{w16, w32, w64}
+use Rattle.flex_wire.specs.Spelling.{int16, int32, int64, uuid, FitsUuid, compact_string, compact_nullable_string, nullable_string, FitsText, FitsNullableText, mark, tagged_fields, FitsTaggedFields}
 use Rattle.flex_wire.specs.Composed.{array, FitsArray, nullable_array, FitsNullableArray}
-use Rattle.kip_msgs.specs.Values.{RequestHeaderValue, ResponseHeaderValue, TopicPartitionsValue, HeartbeatRequestValue, AssignmentValue, HeartbeatReplyValue, RequestValue, heartbeat_request, ReplyValue, heartbeat_reply}
+use Rattle.kip_msgs.specs.Values.{RequestHeaderValue, ResponseHeaderValue, TopicPartitionsValue, HeartbeatRequestValue, AssignmentValue, HeartbeatReplyValue, CommitRequestPartitionValue, CommitRequestTopicValue, CommitRequestValue, CommitReplyPartitionValue, CommitReplyTopicValue, CommitReplyValue, RequestValue, heartbeat_request, commit_request, ReplyValue, heartbeat_reply, commit_reply}
 use Rattle.kip_msgs.specs.Api.{key_of, version_of}
 use Rattle.kip_msgs.specs.declared.api.Api.{Api}
-use Rattle.kip_msgs.specs.declared.api.Api.TheVariants.{Heartbeat}
+use Rattle.kip_msgs.specs.declared.api.Api.TheVariants.{Heartbeat, Commit}
 
 -- Fields one after the other.
 abbrev pub fields : List (List ℕ) → List ℕ
@@ -126,21 +126,119 @@ pub record FitsHeartbeatReply (v : HeartbeatReplyValue) : Type 0 where
   pub assignment : IfSome v.assignment FitsAssignment
   pub tags : FitsTaggedFields v.tags
 
+-- Kafka protocol guide, "OffsetCommit Request v9", partitions: partition_index to committed_metadata.
+unfoldable pub commit_request_partition_fields : CommitRequestPartitionValue → List ℕ
+commit_request_partition_fields v = fields (
+    int32 v.partition_index
+    ∷ int64 v.committed_offset
+    ∷ int32 v.committed_leader_epoch
+    ∷ compact_nullable_string v.committed_metadata
+    ∷ tagged_fields v.tags
+    ∷ [])
+
+-- An offset to be committed whose fields have a spelling.
+pub record FitsCommitRequestPartition (v : CommitRequestPartitionValue) : Type 0 where
+  pub partition_index : FitsSigned w32 v.partition_index
+  pub committed_offset : FitsSigned w64 v.committed_offset
+  pub committed_leader_epoch : FitsSigned w32 v.committed_leader_epoch
+  pub committed_metadata : FitsNullableText v.committed_metadata
+  pub tags : FitsTaggedFields v.tags
+
+-- Kafka protocol guide, "OffsetCommit Request v9", topics: name, partitions.
+unfoldable pub commit_request_topic_fields : CommitRequestTopicValue → List ℕ
+commit_request_topic_fields v = fields (
+    compact_string v.name
+    ∷ array commit_request_partition_fields v.partitions
+    ∷ tagged_fields v.tags
+    ∷ [])
+
+-- Offsets of a topic whose fields have a spelling.
+pub record FitsCommitRequestTopic (v : CommitRequestTopicValue) : Type 0 where
+  pub name : FitsText v.name
+  pub partitions : FitsArray FitsCommitRequestPartition v.partitions
+  pub tags : FitsTaggedFields v.tags
+
+-- Kafka protocol guide, "OffsetCommit Request v9": group_id to topics.
+unfoldable pub commit_request_fields : CommitRequestValue → List ℕ
+commit_request_fields v = fields (
+    compact_string v.group_id
+    ∷ int32 v.generation_id_or_member_epoch
+    ∷ compact_string v.member_id
+    ∷ compact_nullable_string v.group_instance_id
+    ∷ array commit_request_topic_fields v.topics
+    ∷ tagged_fields v.tags
+    ∷ [])
+
+-- A commit whose fields have a spelling.
+pub record FitsCommitRequest (v : CommitRequestValue) : Type 0 where
+  pub group_id : FitsText v.group_id
+  pub generation_id_or_member_epoch : FitsSigned w32 v.generation_id_or_member_epoch
+  pub member_id : FitsText v.member_id
+  pub group_instance_id : FitsNullableText v.group_instance_id
+  pub topics : FitsArray FitsCommitRequestTopic v.topics
+  pub tags : FitsTaggedFields v.tags
+
+-- Kafka protocol guide, "OffsetCommit Response v9", partitions: partition_index, error_code.
+unfoldable pub commit_reply_partition_fields : CommitReplyPartitionValue → List ℕ
+commit_reply_partition_fields v = fields (
+    int32 v.partition_index
+    ∷ int16 v.error_code
+    ∷ tagged_fields v.tags
+    ∷ [])
+
+-- A partition's answer whose fields have a spelling.
+pub record FitsCommitReplyPartition (v : CommitReplyPartitionValue) : Type 0 where
+  pub partition_index : FitsSigned w32 v.partition_index
+  pub error_code : FitsSigned w16 v.error_code
+  pub tags : FitsTaggedFields v.tags
+
+-- Kafka protocol guide, "OffsetCommit Response v9", topics: name, partitions.
+unfoldable pub commit_reply_topic_fields : CommitReplyTopicValue → List ℕ
+commit_reply_topic_fields v = fields (
+    compact_string v.name
+    ∷ array commit_reply_partition_fields v.partitions
+    ∷ tagged_fields v.tags
+    ∷ [])
+
+-- A topic's answers whose fields have a spelling.
+pub record FitsCommitReplyTopic (v : CommitReplyTopicValue) : Type 0 where
+  pub name : FitsText v.name
+  pub partitions : FitsArray FitsCommitReplyPartition v.partitions
+  pub tags : FitsTaggedFields v.tags
+
+-- Kafka protocol guide, "OffsetCommit Response v9": throttle_time_ms, topics.
+unfoldable pub commit_reply_fields : CommitReplyValue → List ℕ
+commit_reply_fields v = fields (
+    int32 v.throttle_time_ms
+    ∷ array commit_reply_topic_fields v.topics
+    ∷ tagged_fields v.tags
+    ∷ [])
+
+-- A reply to a commit whose fields have a spelling.
+pub record FitsCommitReply (v : CommitReplyValue) : Type 0 where
+  pub throttle_time_ms : FitsSigned w32 v.throttle_time_ms
+  pub topics : FitsArray FitsCommitReplyTopic v.topics
+  pub tags : FitsTaggedFields v.tags
+
 -- A request's body (Kafka protocol guide, "Protocol Structure"): its header, which names the API, and the message.
 unfoldable pub request_body : RequestValue → List ℕ
 request_body (heartbeat_request header v) = request_header_fields Heartbeat header ++ heartbeat_request_fields v
+request_body (commit_request header v) = request_header_fields Commit header ++ commit_request_fields v
 
 -- A request whose fields have a spelling.
 abbrev pub FitsRequest : RequestValue → Type 0
 FitsRequest (heartbeat_request header v) = FitsRequestHeader header × FitsHeartbeatRequest v
+FitsRequest (commit_request header v) = FitsRequestHeader header × FitsCommitRequest v
 
 -- A reply's body (Kafka protocol guide, "Protocol Structure"): its header and the message.
 unfoldable pub reply_body : ReplyValue → List ℕ
 reply_body (heartbeat_reply header v) = response_header_fields header ++ heartbeat_reply_fields v
+reply_body (commit_reply header v) = response_header_fields header ++ commit_reply_fields v
 
 -- A reply whose fields have a spelling.
 abbrev pub FitsReply : ReplyValue → Type 0
 FitsReply (heartbeat_reply header v) = FitsResponseHeader header × FitsHeartbeatReply v
+FitsReply (commit_reply header v) = FitsResponseHeader header × FitsCommitReply v
 
 -- All of the body is the request.
 pub record SpellsRequest (v : RequestValue) (body : List ℕ) : Type 0 where

@@ -1,7 +1,7 @@
 -- What contracts see of the partitions of a topic.
 use Rattle.std.specs.Prelude.{List, map}
 use Rattle.kip_msgs.specs.Values.{TopicPartitionsValue}
-use Rattle.kip_msgs.specs.declared.topics.TopicPartitions.{TopicPartitions}
+use Rattle.kip_msgs.specs.declared.heartbeat.TopicPartitions.{TopicPartitions}
 
 -- Partitions of a topic as their value.
 abbrev pub topic_partitions_value : TopicPartitions → TopicPartitionsValue

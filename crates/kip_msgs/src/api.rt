@@ -32,14 +32,14 @@ impl Api {
         }
     }
 
-    /// The API of a key, where requests of it are read: that of heartbeats alone.
-    pub(crate) fn with_key(key: i16) -> Option<Api>
+    /// The API of a key, where there is one (Kafka protocol guide, "Api Keys").
+    pub fn with_key(key: i16) -> Option<Api>
         ensures { result ≡ api_with_key key }
     {
-        if key == Api::Heartbeat.key() {
-            Some(Api::Heartbeat)
-        } else {
-            None
+        match key {
+            68 => Some(Api::Heartbeat),
+            8 => Some(Api::Commit),
+            _ => None,
         }
     }
 }

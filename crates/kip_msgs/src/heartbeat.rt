@@ -1,6 +1,6 @@
-use crate::names::Names;
-use crate::topics::TopicPartitionsList;
+use crate::array::Array;
 use flex_wire::TaggedFields;
+use uuid::Uuid;
 
 /// A ConsumerGroupHeartbeat request (KIP-848, version 0).
 #[derive(Debug, Drop)]
@@ -14,10 +14,10 @@ pub struct HeartbeatRequest<'a> {
     pub rack_id: Option<&'a str>,
     /// In milliseconds; -1 where it hasn't changed.
     pub rebalance_timeout_ms: i32,
-    pub subscribed_topic_names: Option<Names<'a>>,
+    pub subscribed_topic_names: Option<Array<&'a str>>,
     pub server_assignor: Option<&'a str>,
     /// The partitions that the member owns.
-    pub topic_partitions: Option<TopicPartitionsList<'a>>,
+    pub topic_partitions: Option<Array<TopicPartitions<'a>>>,
     pub tags: TaggedFields<'a>,
 }
 
@@ -39,6 +39,14 @@ pub struct HeartbeatReply<'a> {
 /// What a member is to own (KIP-848, "Assignment").
 #[derive(Debug, Drop)]
 pub struct Assignment<'a> {
-    pub topic_partitions: TopicPartitionsList<'a>,
+    pub topic_partitions: Array<TopicPartitions<'a>>,
+    pub tags: TaggedFields<'a>,
+}
+
+/// Partitions of one topic (KIP-848, "TopicPartitions").
+#[derive(Debug, Drop)]
+pub struct TopicPartitions<'a> {
+    pub topic_id: Uuid,
+    pub partitions: Array<i32>,
     pub tags: TaggedFields<'a>,
 }

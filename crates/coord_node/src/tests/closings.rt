@@ -74,3 +74,24 @@ fn the_longest_body_is_answered(rt: HostRuntime) -> Result<(), Fail> {
     assert!(rt; closes(&rt, &mut other, &body)?);
     Ok(())
 }
+
+/// A commit by member id 1 at epoch 1: "Request Header v2" with API key 8, version 9, correlation id 8 and no client id,
+/// and "OffsetCommit Request v9" with offset 5 of partition 1 of topic `t` in group `g`, no leader epoch, no metadata.
+const COMMIT: &[u8; 79] = b"\x00\x08\x00\x09\x00\x00\x00\x08\xff\xff\x00\x02g\x00\x00\x00\x01\
+\x2500000000-0000-0000-0000-000000000001\x00\x02\x02t\x02\x00\x00\x00\x01\
+\x00\x00\x00\x00\x00\x00\x00\x05\xff\xff\xff\xff\x00\x00\x00\x00";
+
+#[test]
+fn a_commit_closes_and_changes_nothing(rt: HostRuntime) -> Result<(), Fail> {
+    let mut node = node_over(&rt, &[("t", 0x11, 2)])?;
+    assert!(rt; closes(&rt, &mut node, COMMIT)?);
+    let join = body_of(&rt, &[HEAD, b"\x00", JOIN])?;
+    let mut out = Vec::new(rt.alloc());
+    assert_eq!(rt; answer(&rt, &mut node, &join, &mut out)?, Answered::Replied);
+    assert_eq!(rt; answer(&rt, &mut node, COMMIT, &mut out)?, Answered::Closes);
+    assert_eq!(rt; out.as_slice(), REPLY.as_slice());
+    let group = node.group("g").ok_or("the group stays")?;
+    assert_eq!(rt; group.epoch().as_u32(), 1);
+    assert_eq!(rt; group.members(), 1);
+    Ok(())
+}

@@ -1,12 +1,12 @@
 use super::*;
 
 /// An entry of TopicPartitions with these indexes.
-fn owned(alloc: Global, indexes: &[i32]) -> Result<TopicPartitionsList<'static>, AllocError> {
-    let mut partitions = Indexes::new(alloc);
+fn owned(alloc: Global, indexes: &[i32]) -> Result<Array<TopicPartitions<'static>>, AllocError> {
+    let mut partitions = Array::new(alloc);
     for index in indexes {
         partitions.push(*index)?;
     }
-    let mut list = TopicPartitionsList::new(alloc);
+    let mut list = Array::new(alloc);
     list.push(TopicPartitions {
         topic_id: Uuid::from_bytes([0x11; 16]),
         partitions,

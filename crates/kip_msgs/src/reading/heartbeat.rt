@@ -1,13 +1,19 @@
+//! Heartbeats and their replies.
+
+ghost use Rattle.std.specs.Prelude.{option_map};
 ghost use Rattle.std.specs.Option.{option_copied};
 ghost use Rattle.flex_wire.specs.Reading.{ReadsInMemory};
-ghost use Rattle.kip_msgs.specs.Reading.{request_header_at, heartbeat_request_at, heartbeat_body_at};
-ghost use Rattle.kip_msgs.specs.Views.{request_header_value, heartbeat_request_value};
+ghost use Rattle.kip_msgs.specs.Reading.{topic_partitions_at, heartbeat_request_at, heartbeat_body_at, assignment_at, nullable_struct_at, heartbeat_reply_at, heartbeat_reply_body_at};
+ghost use Rattle.kip_msgs.specs.Topics.{topic_partitions_value};
+ghost use Rattle.kip_msgs.specs.Views.{request_header_value, heartbeat_request_value, response_header_value, assignment_value, heartbeat_reply_value};
 
-use super::lists::{take_nullable_names, take_nullable_topics};
-use crate::header::RequestHeader;
-use crate::heartbeat::HeartbeatRequest;
+use super::arrays::{TakeElement, take_array, take_indexes, take_nullable_array};
+use super::header::{take_request_header, take_response_header};
+use crate::header::{RequestHeader, ResponseHeader};
+use crate::heartbeat::{Assignment, HeartbeatReply, HeartbeatRequest, TopicPartitions};
 use flex_wire::{
-    WireFault, take_compact_str, take_i32, take_nullable_str, take_old_str, take_tags,
+    WireFault, take_compact_str, take_i16, take_i32, take_mark, take_nullable_str, take_tags,
+    take_uuid,
 };
 use std::alloc::Global;
 
@@ -24,24 +30,6 @@ pub(super) fn take_heartbeat<'a>(
     Ok((header, message, rest))
 }
 
-#[tactic(auto, unfolding(crate::specs::Reading::request_header_at))]
-fn take_request_header<'a>(
-    alloc: Global,
-    bytes: &'a [u8],
-) -> Result<(RequestHeader<'a>, &'a [u8]), WireFault>
-    ensures { ReadsInMemory (λ x. (request_header_value x.0, x.1.now)) result (request_header_at bytes.now) }
-{
-    let (correlation_id, rest) = take_i32(bytes)?;
-    let (client_id, rest) = take_old_str(rest)?;
-    let (tags, rest) = take_tags(alloc, rest)?;
-    let header = RequestHeader {
-        correlation_id,
-        client_id,
-        tags,
-    };
-    Ok((header, rest))
-}
-
 #[tactic(auto, unfolding(crate::specs::Reading::heartbeat_request_at))]
 fn take_heartbeat_request<'a>(
     alloc: Global,
@@ -55,9 +43,9 @@ fn take_heartbeat_request<'a>(
     let (instance_id, rest) = take_nullable_str(rest)?;
     let (rack_id, rest) = take_nullable_str(rest)?;
     let (rebalance_timeout_ms, rest) = take_i32(rest)?;
-    let (subscribed_topic_names, rest) = take_nullable_names(alloc, rest)?;
+    let (subscribed_topic_names, rest) = take_nullable_array(alloc, rest)?;
     let (server_assignor, rest) = take_nullable_str(rest)?;
-    let (topic_partitions, rest) = take_nullable_topics(alloc, rest)?;
+    let (topic_partitions, rest) = take_nullable_array(alloc, rest)?;
     let (tags, rest) = take_tags(alloc, rest)?;
     let message = HeartbeatRequest {
         group_id,
@@ -72,4 +60,114 @@ fn take_heartbeat_request<'a>(
         tags,
     };
     Ok((message, rest))
+}
+
+impl<'a> TakeElement<'a> for TopicPartitions<'a> {
+    ghost use Rattle.kip_msgs.specs.Values.{TopicPartitionsValue};
+    ghost use Rattle.kip_msgs.specs.Reading.{topic_partitions_at};
+    ghost use Rattle.kip_msgs.specs.Topics.{topic_partitions_value};
+
+    ghost Value = { TopicPartitionsValue };
+
+    ghost value_of = { topic_partitions_value };
+
+    ghost element_at = { topic_partitions_at };
+
+    fn take(alloc: Global, bytes: &'a [u8]) -> Result<(TopicPartitions<'a>, &'a [u8]), WireFault> {
+        take_topic_partitions(alloc, bytes)
+    }
+}
+
+#[tactic(auto, unfolding(crate::specs::Reading::topic_partitions_at))]
+fn take_topic_partitions<'a>(
+    alloc: Global,
+    bytes: &'a [u8],
+) -> Result<(TopicPartitions<'a>, &'a [u8]), WireFault>
+    ensures { ReadsInMemory (λ x. (topic_partitions_value x.0, x.1.now)) result (topic_partitions_at bytes.now) }
+{
+    let (topic_id, rest) = match take_uuid(bytes) {
+        Ok(found) => found,
+        Err(fault) => return Err(fault),
+    };
+    let (partitions, rest) = take_indexes(alloc, rest)?;
+    let (tags, rest) = take_tags(alloc, rest)?;
+    let topic = TopicPartitions {
+        topic_id,
+        partitions,
+        tags,
+    };
+    Ok((topic, rest))
+}
+
+/// The body of a reply to a heartbeat: its header, and the reply.
+#[tactic(auto, unfolding(crate::specs::Reading::heartbeat_reply_body_at))]
+pub(super) fn take_heartbeat_answer<'a>(
+    alloc: Global,
+    bytes: &'a [u8],
+) -> Result<(ResponseHeader<'a>, HeartbeatReply<'a>, &'a [u8]), WireFault>
+    ensures { ReadsInMemory (λ x. ((response_header_value x.0, heartbeat_reply_value x.1), x.2.now)) result (heartbeat_reply_body_at bytes.now) }
+{
+    let (header, rest) = take_response_header(alloc, bytes)?;
+    let (reply, rest) = take_heartbeat_reply(alloc, rest)?;
+    Ok((header, reply, rest))
+}
+
+#[tactic(auto, unfolding(crate::specs::Reading::heartbeat_reply_at))]
+fn take_heartbeat_reply<'a>(
+    alloc: Global,
+    bytes: &'a [u8],
+) -> Result<(HeartbeatReply<'a>, &'a [u8]), WireFault>
+    ensures { ReadsInMemory (λ x. (heartbeat_reply_value x.0, x.1.now)) result (heartbeat_reply_at bytes.now) }
+{
+    let (throttle_time_ms, rest) = take_i32(bytes)?;
+    let (error_code, rest) = take_i16(rest)?;
+    let (error_message, rest) = take_nullable_str(rest)?;
+    let (member_id, rest) = take_nullable_str(rest)?;
+    let (member_epoch, rest) = take_i32(rest)?;
+    let (heartbeat_interval_ms, rest) = take_i32(rest)?;
+    let (assignment, rest) = take_nullable_assignment(alloc, rest)?;
+    let (tags, rest) = take_tags(alloc, rest)?;
+    let reply = HeartbeatReply {
+        throttle_time_ms,
+        error_code,
+        error_message,
+        member_id,
+        member_epoch,
+        heartbeat_interval_ms,
+        assignment,
+        tags,
+    };
+    Ok((reply, rest))
+}
+
+/// An assignment behind the mark that says whether it is there.
+#[tactic(auto, unfolding(crate::specs::Reading::nullable_struct_at))]
+fn take_nullable_assignment<'a>(
+    alloc: Global,
+    bytes: &'a [u8],
+) -> Result<(Option<Assignment<'a>>, &'a [u8]), WireFault>
+    ensures { ReadsInMemory (λ x. (option_map assignment_value x.0, x.1.now)) result (nullable_struct_at assignment_at bytes.now) }
+{
+    let (is_there, rest) = take_mark(bytes)?;
+    if !is_there {
+        return Ok((None, rest));
+    }
+    let (assignment, rest) = take_assignment(alloc, rest)?;
+    Ok((Some(assignment), rest))
+}
+
+#[tactic(auto, unfolding(crate::specs::Reading::assignment_at))]
+fn take_assignment<'a>(
+    alloc: Global,
+    bytes: &'a [u8],
+) -> Result<(Assignment<'a>, &'a [u8]), WireFault>
+    ensures { ReadsInMemory (λ x. (assignment_value x.0, x.1.now)) result (assignment_at bytes.now) }
+{
+    let (topic_partitions, rest) = take_array(alloc, bytes)?;
+    let (tags, rest) = take_tags(alloc, rest)?;
+    let assignment = Assignment {
+        topic_partitions,
+        tags,
+    };
+    Ok((assignment, rest))
 }

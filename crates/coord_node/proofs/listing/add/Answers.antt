@@ -1,5 +1,5 @@
 use Rattle.std.proofs.Common.{rules, ◌≡◌, ◌-◌, ◌<◌, true≢false, List, [], ◌∷◌, ◌++◌, ℤ, sym, ap, ◌∙◌, refl, arith, to_z, of_z, w32, vec_len}
-use Rattle.kip_msgs.specs.declared.topics.TopicPartitions.{TopicPartitions}
+use Rattle.kip_msgs.specs.declared.heartbeat.TopicPartitions.{TopicPartitions}
 use Rattle.std.specs.Global.{Vec}
 use Rattle.kip_msgs.specs.Values.{TopicPartitionsValue}
 use Rattle.kip_msgs.specs.Topics.{topic_partitions_value, topic_partitions_values}
@@ -16,7 +16,7 @@ returns-then-eq c =
     let index : to_z w32 (of_z w32 c.args.partition.now.index) ≡ c.args.partition.now.index = search rules in
     behind-in_place v.items (vec_len v - 1) c.in-Some.last.now c.args.partition.now c.push.new.self
     (omega (arith, v.ok.0)) c.in-Some.ensures.value c.if-eq.ensures
-    (c.in_ok-push.ensures ∙ ap (λ (i : ℤ). c.in-Some.last.now.partitions ++ i ∷ []) index)
+    (c.in_ok-push.ensures.items ∙ ap (λ (i : ℤ). c.in-Some.last.now.partitions ++ i ∷ []) index)
 
 pub returns : goal.returns
 returns c =
