@@ -1,8 +1,10 @@
 pub mod Written
 pub mod Inputs
 pub mod Numbers
-pub mod Frames
+pub mod FrameParts
 pub mod GivenWords
 pub mod CutLines
 pub mod Growth
 pub mod Prints
+pub mod Pages
+pub mod Reported

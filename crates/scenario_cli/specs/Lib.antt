@@ -6,3 +6,4 @@ pub mod Stamps
 pub mod Writing
 pub mod Requests
 pub mod Printing
+pub mod Reports

@@ -1,9 +1,13 @@
 -- The lines of an input. The forms are this program's own.
-use Rattle.std.specs.Prelude.{ℕ, Bool, ◌==◌, List, [], ◌∷◌, length, if◌then◌else◌}
+use Rattle.std.specs.Prelude.{ℕ, Bool, ◌==◌, List, [], ◌∷◌, ◌++◌, length, if◌then◌else◌}
 use Rattle.std.specs.List.{slice_split}
 
 abbrev pub is_line_feed : ℕ → Bool
 is_line_feed byte = byte == 10
+
+-- a line with its line feed
+abbrev pub fed : List ℕ → List ℕ
+fed line = line ++ 10 ∷ []
 
 -- what stands after the last line feed is a line only where it has a byte
 abbrev pub ended : List (List ℕ) → List (List ℕ)

@@ -14,6 +14,8 @@ use thiserror::Error;
 pub enum Subcommand {
     /// Answer the request frames on standard input.
     Reply,
+    /// Print what is in the request frames on standard input.
+    Frame,
 }
 
 /// Why a command line asks for nothing that the program does. The text ends its line.
@@ -58,11 +60,18 @@ pub fn subcommand_of<'a, S: AsStr>(
     words: &'a [S],
 ) -> Result<Subcommand, clap::Error> {
     let reply = Command::new(alloc, "reply").about("Answers the request frames on standard input");
+    let frame = Command::new(alloc, "frame").about(
+        "Prints the fields of the request frames on standard input",
+    );
     let command = Command::new(alloc, "coord")
         .about("The coordinator of consumer groups, on lines of text")
         .bin_name("coord")?
         .subcommand_required(true)
-        .subcommand(reply)?;
-    command.try_get_matches_from(words)?;
-    Ok(Subcommand::Reply)
+        .subcommand(reply)?
+        .subcommand(frame)?;
+    let matches = command.try_get_matches_from(words)?;
+    Ok(match matches.subcommand_name() {
+        Some("frame") => Subcommand::Frame,
+        _ => Subcommand::Reply,
+    })
 }

@@ -1,7 +1,9 @@
 //! The lines of `coord reply`, each as one method.
-ghost use Rattle.std.specs.Prelude.{◌≡◌, [], ◌∷◌, ◌++◌, OnOk, OnErr};
-ghost use Rattle.scenario_cli.specs.Printing.{line_of};
+ghost use Rattle.std.specs.Prelude.{◌≡◌, ◌⊎◌, [], ◌∷◌, ◌++◌, OnOk, OnErr};
+ghost use Rattle.scenario_cli.specs.Requests.{PrintsOneLine};
+ghost use Rattle.scenario_cli.specs.Printing.{line_of, PrintsLines};
 
+use crate::driver::LineWorker;
 use crate::fault::LineFault;
 use crate::output::Output;
 use crate::stamps::Stamps;
@@ -30,7 +32,7 @@ impl Interpreter {
     ghost use Rattle.group_types.specs.declared.stamp.Stamp.{Stamp};
     ghost use Rattle.coord_node.specs.Coordinator.{opening};
     ghost use Rattle.scenario_cli.specs.Stamps.{stamp_of};
-    ghost use Rattle.scenario_cli.specs.Requests.{PrintsAnswer, PrintsOneLine};
+    ghost use Rattle.scenario_cli.specs.Requests.{PrintsAnswer};
     ghost use Rattle.scenario_cli.specs.Printing.{AnswersBytes};
 
     /// The salt of the node's ids.
@@ -47,21 +49,6 @@ impl Interpreter {
             node: Node::new(alloc, Self::SALT, hasher),
             now: Moment::of_millis(0),
             stamps: Stamps::new(),
-        }
-    }
-
-    /// Does one line, and prints what it answers.
-    pub fn line(&mut self, line: &[u8], output: &mut Output) -> Result<(), LineFault>
-        ensures printed { OnOk result ((output.new ≡ output.old) ⊎ PrintsOneLine output.old output.new) }
-        ensures err { OnErr result (output.new ≡ output.old) }
-    {
-        let words = words::words_of(self.alloc, line)?;
-        match words.as_slice() {
-            ["image", topics @ ..] => self.image(topics),
-            ["now", millis] => self.now(millis),
-            ["stamp", connection, frame] => self.stamp(connection, frame),
-            ["req", frame] => self.request(frame, output),
-            _ => Err(LineFault::BadLine),
         }
     }
 
@@ -139,6 +126,24 @@ impl Interpreter {
         match frame::body_of(frame) {
             Some(body) => self.node.answer(self.alloc, body, stamp, self.now, reply),
             None => Ok(Answered::Closes),
+        }
+    }
+}
+
+impl LineWorker for Interpreter {
+    /// Does one line, and prints what it answers: at most one line.
+    fn line(&mut self, line: &[u8], output: &mut Output) -> Result<(), LineFault>
+        ensures printed { OnOk result (PrintsLines output.old output.new) }
+        ensures one { OnOk result ((output.new ≡ output.old) ⊎ PrintsOneLine output.old output.new) }
+        ensures err { OnErr result (output.new ≡ output.old) }
+    {
+        let words = words::words_of(self.alloc, line)?;
+        match words.as_slice() {
+            ["image", topics @ ..] => self.image(topics),
+            ["now", millis] => self.now(millis),
+            ["stamp", connection, frame] => self.stamp(connection, frame),
+            ["req", frame] => self.request(frame, output),
+            _ => Err(LineFault::BadLine),
         }
     }
 }

@@ -1,18 +1,23 @@
 //! The program `coord`: the coordinator of consumer groups on the command line.
 //!
-//! `coord reply` reads lines from standard input and prints the bytes of the reply to each request frame. What is
-//! printed is only ever added to, an input that is too long is not begun, and the status is 0, 1 or 2. Start from
-//! [`reply_lines`](reply::reply_lines).
+//! `coord reply` reads lines from standard input and prints the bytes of the reply to each request frame, and
+//! `coord frame` prints what is in each. What is printed is only ever added to, an input that is too long is not begun,
+//! and the status is 0, 1 or 2. Start from [`reply_lines`](reply::reply_lines) and
+//! [`frame_lines`](frames::frame_lines).
 #![tactic(auto)]
 
 mod command_line;
+mod driver;
 mod fault;
 mod frame;
+mod frames;
 mod input;
 mod interpreter;
 mod lines;
 mod output;
+mod page;
 mod reply;
+mod report;
 mod stamps;
 mod words;
 
@@ -24,10 +29,13 @@ use std::process::ExitCode;
 mod tests;
 
 fn main(rt: HostRuntime) -> ExitCode {
+    let (mut stdin, mut stdout, mut stderr) = (rt.stdin(), rt.stdout(), rt.stderr());
     let status = match command_line::read(&rt) {
+        Ok(Subcommand::Frame) => {
+            frames::frame_lines(rt.alloc(), &mut stdin, &mut stdout, &mut stderr)
+        }
         Ok(Subcommand::Reply) => match RandomState::new(&rt) {
             Ok(hasher) => {
-                let (mut stdin, mut stdout, mut stderr) = (rt.stdin(), rt.stdout(), rt.stderr());
                 reply::reply_lines(rt.alloc(), hasher, &mut stdin, &mut stdout, &mut stderr)
             }
             Err(error) => {

@@ -47,6 +47,14 @@ impl Output {
         Ok(())
     }
 
+    /// Prints lines that are put together already. On `Err` nothing is printed.
+    pub fn text(&mut self, lines: &str) -> Result<(), AllocError>
+        ensures ok { OnOk result (self.new ≡ self.old ++ lines.now) }
+        ensures err { OnErr result (self.new ≡ self.old) }
+    {
+        self.held.extend_from_slice(lines.as_bytes())
+    }
+
     /// Whether there is enough to be worth a write.
     pub fn is_full(&self) -> bool
         ensures { IsTrue result ↔ (PIECE ≤ length self.now) }

@@ -7,15 +7,18 @@ use std::test::Fail;
 #[test]
 fn a_command_line_names_one_subcommand(rt: HostRuntime) -> Result<(), Fail> {
     let alloc = rt.alloc();
-    for (line, right) in [
-        (["coord", "reply"].as_slice(), true),
-        (&["coord"], false),
-        (&["coord", "frame"], false),
-        (&["coord", "reply", "more"], false),
-        (&["coord", "--help"], false),
-        (&["coord", "help"], false),
-        (&["coord", "reply", "--help"], false),
-        (&["coord", "--version"], false),
+    for (line, expected) in [
+        (["coord", "reply"].as_slice(), Some(Subcommand::Reply)),
+        (&["coord", "frame"], Some(Subcommand::Frame)),
+        (&["coord"], None),
+        (&["coord", "frames"], None),
+        (&["coord", "reply", "frame"], None),
+        (&["coord", "frame", "more"], None),
+        (&["coord", "reply", "more"], None),
+        (&["coord", "--help"], None),
+        (&["coord", "help"], None),
+        (&["coord", "reply", "--help"], None),
+        (&["coord", "--version"], None),
     ] {
         let mut found = subcommand_of(alloc, line);
         if let Err(error) = &found
@@ -24,11 +27,7 @@ fn a_command_line_names_one_subcommand(rt: HostRuntime) -> Result<(), Fail> {
             eprintln!(rt; "growth refused")?;
             found = subcommand_of(alloc, line);
         }
-        assert_eq!(rt;
-            found.ok(),
-            right.then_some(Subcommand::Reply),
-            "at {line:?}"
-        );
+        assert_eq!(rt; found.ok(), expected, "at {line:?}");
     }
     Ok(())
 }

@@ -1,6 +1,7 @@
 //! Which lines are taken and which are bad.
 
 use super::assert_runs;
+use crate::command_line::Subcommand;
 use std::process::Abort;
 use std::random::RandomSource;
 use std::test::Fail;
@@ -20,7 +21,7 @@ fn each_form_is_taken(rt: HostRuntime) -> Result<(), Fail> {
         b"image t {11111111-1111-1111-1111-111111111111} 1\n",
         b"image -- 11111111-1111-1111-1111-111111111111 1\n",
     ] {
-        assert_runs(&rt, input, 0, "", "")?;
+        assert_runs(&rt, Subcommand::Reply, input, 0, "", "")?;
     }
     Ok(())
 }
@@ -99,7 +100,7 @@ fn a_name_has_at_most_32767_bytes(rt: HostRuntime) -> Result<(), Fail> {
         line.push(b'n')?;
     }
     line.extend_from_slice(b" 11111111-1111-1111-1111-111111111111 1")?;
-    assert_runs(&rt, line.as_slice(), 0, "", "")?;
+    assert_runs(&rt, Subcommand::Reply, line.as_slice(), 0, "", "")?;
     line.insert(6, b'n')?;
     assert_is_bad(&rt, line.as_slice())
 }
@@ -115,5 +116,12 @@ fn assert_is_bad(
     input.extend_from_slice(b"req 00000000\n")?;
     input.extend_from_slice(line)?;
     input.extend_from_slice(b"\nreq 00000000\n")?;
-    assert_runs(rt, input.as_slice(), 2, "close\n", "bad line 2\n")
+    assert_runs(
+        rt,
+        Subcommand::Reply,
+        input.as_slice(),
+        2,
+        "close\n",
+        "bad line 2\n",
+    )
 }

@@ -2,6 +2,7 @@
 //! guide lay them out.
 
 use super::assert_runs;
+use crate::command_line::Subcommand;
 use std::test::Fail;
 
 /// The first member of the group `g` gets both partitions of the topic `t`.
@@ -19,7 +20,7 @@ fn a_first_join_is_answered(rt: HostRuntime) -> Result<(), Fail> {
         "02", "11111111111111111111111111111111", "03", "00000000", "00000001", "00",
         "00", "00", "\n", // tags
     );
-    assert_runs(&rt, input.as_bytes(), 0, reply, "")
+    assert_runs(&rt, Subcommand::Reply, input.as_bytes(), 0, reply, "")
 }
 
 /// A member that names `u`, `t`, `t` and `zz` gets what the image has, the topics by their ids' bytes. Its request
@@ -59,7 +60,7 @@ fn topics_are_listed_by_their_ids(rt: HostRuntime) -> Result<(), Fail> {
         "00",
         "\n",
     );
-    assert_runs(&rt, input.as_bytes(), 0, reply, "")
+    assert_runs(&rt, Subcommand::Reply, input.as_bytes(), 0, reply, "")
 }
 
 /// An empty group id is an invalid request, 42, and an assignor `x` an unsupported one, 112. Hex of either case is
@@ -100,7 +101,7 @@ fn refusals_are_answered(rt: HostRuntime) -> Result<(), Fail> {
         "00",
         "\n",
     );
-    assert_runs(&rt, input.as_bytes(), 0, replies, "")
+    assert_runs(&rt, Subcommand::Reply, input.as_bytes(), 0, replies, "")
 }
 
 /// A frame whose size isn't that of a body, or not that of the bytes after it, and one with an unreadable body.
@@ -122,5 +123,5 @@ fn other_frames_close(rt: HostRuntime) -> Result<(), Fail> {
         "close\n", "close\n", "close\n", "close\n", "close\n", "close\n", "close\n", "close\n",
         "close\n", "close\n",
     );
-    assert_runs(&rt, input.as_bytes(), 0, closes, "")
+    assert_runs(&rt, Subcommand::Reply, input.as_bytes(), 0, closes, "")
 }

@@ -1,31 +1,10 @@
-use Rattle.std.proofs.Common.{◌≡◌, length, ap, ◌∙◌, sym, inl, inr, arith}
-use Rattle.std.specs.Int.{w32, from_be_bytes}
-use Rattle.scenario_cli.proofs.Frames.{frame_holds_size, frame_parts, frame_of_parts}
+use Rattle.std.proofs.Common.{◌≡◌, length, ap, arith, inl, inr}
+use Rattle.scenario_cli.proofs.FrameParts.{one_body}
 use Rattle.scenario_cli.proofs.frame.body_of.Goals as goal
 
-pub returns-in_err-size-clause-none : goal.returns-in_err-size-clause-none
-returns-in_err-size-clause-none c =
-    rw c.from_residual.ensures (λ body asked.
-    absurd (omega (arith, frame_holds_size body c.args.frame.now asked.framed, c.in_err-size.ensures.cases)))
-
-pub returns-then-size-body-clause-none : goal.returns-then-size-body-clause-none
-returns-then-size-body-clause-none c = λ body asked.
-    let parts = frame_parts body c.args.frame.now asked.framed (omega arith) in
-    let cases = c.in_ok-size.ensures.cases in
-    let head : from_be_bytes w32 c.in_ok-size.size.now ≡ length body = ap (from_be_bytes w32) cases.0 ∙ parts.0 in
-    let rest : length c.in_ok-size.body.now ≡ length body = ap length cases.1 ∙ ap length parts.1 in
-    let size = c.from_be_bytes-size.ensures ∙ head in
-    elim c.then-size-body.either [
-      | inl wrong ↦ wrong (size ∙ sym rest)
-      | inr outside ↦ elim outside [ inl below ↦ omega arith | inr above ↦ omega arith ]
-    ]
-
-pub returns-clause-some : goal.returns-clause-some
-returns-clause-some c =
-    let cases = c.in_ok-size.ensures.cases in
-    record {
-      framed = frame_of_parts c.args.frame.now _ _ _ (λ i. omega (arith, c.type_inv.frame i)) cases.0 cases.1 cases.2
-          c.from_be_bytes-size.ensures c.if-size-body.false (omega arith);
-      least = omega arith;
-      most = omega arith;
-    }
+pub returns-then-body-lt-SMALLEST_BODY-clause-none : goal.returns-then-body-lt-SMALLEST_BODY-clause-none
+returns-then-body-lt-SMALLEST_BODY-clause-none c = λ body asked.
+    let same : length body ≡ length c.in_ok-body.body.now = one_body body c.in_ok-body.body.now c.args.frame.now asked.framed c.in_ok-body.ensures.some in
+    let least = asked.least in
+    let most = asked.most in
+    elim c.then-body-lt-SMALLEST_BODY.either [ inl below ↦ omega arith | inr above ↦ omega arith ]

@@ -51,3 +51,8 @@ frame_of_parts frame head body size are heads bodies long value right small =
       size = record { sfits = small };
       bytes = whole ∙ ap (λ n. to_be_bytes w32 n ++ body) right ∙ ap (λ l. l ++ body) (sym (int32-pos (length body)));
     }
+
+-- the bodies of one frame are equally long
+pub one_body : (one other frame : List ℕ) → IsFrame one frame → IsFrame other frame → length one ≡ length other
+one_body one other frame a b =
+    omega (arith, ap length a.bytes, ap length b.bytes, length-append (int32 (pos (length one))) one, length-append (int32 (pos (length other))) other, length-int32 (length one), length-int32 (length other))

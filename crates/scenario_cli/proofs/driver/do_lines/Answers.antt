@@ -4,7 +4,7 @@ use Rattle.std.specs.declared.iter.Enumerate.{Enumerate}
 use Rattle.scenario_cli.proofs.CutLines.{length-lines_of-le}
 use Rattle.scenario_cli.proofs.Growth.{Grows-trans}
 use Rattle.scenario_cli.specs.declared.lines.Lines.{Lines}
-use Rattle.scenario_cli.proofs.reply.do_lines.Goals as goal
+use Rattle.scenario_cli.proofs.driver.do_lines.Goals as goal
 
 pub loop-index-init-derived : goal.loop-index-init-derived
 loop-index-init-derived g c =
