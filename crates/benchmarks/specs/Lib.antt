@@ -1,0 +1,3 @@
+pub mod Partitions
+pub mod Rates
+pub mod Statuses

@@ -1,0 +1,36 @@
+//! The command line.
+ghost use Rattle.std.specs.Prelude.{◌≡◌, ◌↔◌, ◌∷◌, [], map, codes, IfErr};
+
+use crate::fault::Fault;
+use std::convert::AsStr;
+use std::rt::Env;
+
+/// What the program prints of each measured message.
+#[derive(Clone, Copy, Debug, PartialEq, Eq)]
+pub enum Mode {
+    /// What it has, and that it is written and read back.
+    Counts,
+    /// How long that takes.
+    Times,
+}
+
+/// What the program's command line asks for.
+///
+/// Faults: `CommandLine` where it is wrong; want of memory, and a command line that can't be read.
+pub fn read(rt: &(impl AllocGlobal + Env)) -> Result<Mode, Fault> {
+    let arguments: Vec<String> = std::env::args(rt)?.skip(1).collect(rt.alloc())?;
+    mode_of(arguments.as_slice())
+}
+
+/// What the arguments ask for: counts where there are none, times where there is `times` alone.
+pub fn mode_of<S: AsStr>(arguments: &[S]) -> Result<Mode, Fault>
+    ensures counts { (result ≡ Ok Mode.Counts) ↔ (arguments.now ≡ []) }
+    ensures times { (result ≡ Ok Mode.Times) ↔ (map S.text arguments.now ≡ codes "times" ∷ []) }
+    ensures refused { IfErr result (λ fault. fault ≡ Fault.CommandLine) }
+{
+    match arguments {
+        [] => Ok(Mode::Counts),
+        [word] if word.as_str() == "times" => Ok(Mode::Times),
+        _ => Err(Fault::CommandLine),
+    }
+}
