@@ -57,7 +57,3 @@ pub slice_set-itself : {X : Type 0} (xs : List X) (i : ℕ) (x : X) → x ≡ sl
 slice_set-itself [] i x is = refl
 slice_set-itself (y ∷ ys) zero x is = ap (λ z. z ∷ ys) is
 slice_set-itself (y ∷ ys) (suc i) x is = ap (λ rest. y ∷ rest) (slice_set-itself ys i x is)
-
-pub empty_of_length : {X : Type 0} (xs : List X) → length xs ≡ 0 → xs ≡ []
-empty_of_length [] none = refl
-empty_of_length (x ∷ xs) none = absurd (omega arith)

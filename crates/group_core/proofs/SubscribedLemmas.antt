@@ -10,6 +10,7 @@ use Rattle.std.specs.FinMap.Entries.{below_all}
 use lib.Dec.{T}
 use Rattle.std.proofs.lemmas.Bool.{ltb-true, lt-ltb}
 use Rattle.std.proofs.lemmas.Bool.Decides.{nat_tests}
+use Rattle.std.specs.Cmp.{first_so, second_so}
 use Rattle.group_types.specs.declared.partition.Partition.{Partition}
 use Rattle.group_types.specs.Text.{Text, text_cmp}
 use Rattle.group_types.specs.Sets.{has, with_one, size}
@@ -122,14 +123,6 @@ index_says : (z : ℤ) (count : ℕ) → IsIndex z count → is_index z count �
 index_says (pos i) count so = lt-ltb i count so
 index_says (negsuc i) count so = absurd so
 
-and_first : (a b : Bool) → (a && b) ≡ true → a ≡ true
-and_first true b so = refl
-and_first false b so = absurd (true≢false (sym so))
-
-and_second : (a b : Bool) → (a && b) ≡ true → b ≡ true
-and_second true b so = so
-and_second false b so = absurd (true≢false (sym so))
-
 same_text : (a b : Text) → eq_by_cmp text_cmp a b ≡ true → a ≡ b
 same_text a b so = text_cmp-IsAntisymmetric a b ((Equal-is (text_cmp a b)).0 so)
 
@@ -142,8 +135,8 @@ is_of_topics-says view p =
             there.0,
             there.1,
             finite.get-entries view there.0 ∙ there.2,
-            same_text p.topic there.1.id (and_first _ _ there.3),
-            says_index p.index there.1.count (and_second (eq_by_cmp text_cmp p.topic there.1.id) _ there.3),
+            same_text p.topic there.1.id (first_so _ _ there.3),
+            says_index p.index there.1.count (second_so (eq_by_cmp text_cmp p.topic there.1.id) _ there.3),
           ),
       λ is.
           entry_passes test is.0 is.1 (finite.entries view) (sym (finite.get-entries view is.0) ∙ is.2)

@@ -1,5 +1,5 @@
 -- Small facts on truth values.
-use Rattle.std.proofs.Common.{◌≡◌, Bool, true, false, cond, not, ◌&&◌, ◌||◌, refl, sym, true≢false}
+use Rattle.std.proofs.Common.{◌≡◌, Bool, true, false, cond, not, ◌&&◌, ◌||◌, refl, sym}
 
 pub or_group : (a b c : Bool) → (a || (b || c)) ≡ ((a || b) || c)
 or_group true b c = refl
@@ -33,14 +33,6 @@ or_turn false false = refl
 pub or_none : (a : Bool) → (a || false) ≡ a
 or_none true = refl
 or_none false = refl
-
-pub and_first : (a b : Bool) → (a && b) ≡ true → a ≡ true
-and_first true b so = refl
-and_first false b so = absurd (true≢false (sym so))
-
-pub and_second : (a b : Bool) → (a && b) ≡ true → b ≡ true
-and_second true b so = so
-and_second false b so = absurd (true≢false (sym so))
 
 pub never_both : (b : Bool) → (b && not b) ≡ false
 never_both true = refl

@@ -12,7 +12,7 @@ use Rattle.std.proofs.lemmas.Map.Keys.{sorted_head, sorted_tail}
 use Rattle.std.proofs.lemmas.Map.Views.{any-filter_same}
 use Rattle.group_types.specs.Sets.{FinSet, nothing, has, with_one, without, common, in_order, of_list, size, union}
 use Rattle.group_types.proofs.BoolLemmas.{either_way, or_group, or_none, or_swap, or_turn, put_in, taken_out}
-use Rattle.group_types.proofs.ListLemmas.{empty_of_length}
+use Rattle.std.proofs.lemmas.List.{nil_from_length}
 use Rattle.group_types.proofs.SetLemmas.{apart_of_common, common-nothing, entries-nothing, has-common, has-in_order, has-nothing, has-of_list, has-union, has-with_one, has-without, has_tied, same_set}
 
 module _ {K : Type 0} {R : K → K → Ordering} (total : IsTotalOrder R) (exact : IsAntisymmetric R) where
@@ -90,7 +90,7 @@ length-nothing {R = R} total (k ∷ ks) is =
     absurd (true≢false (sym itself ∙ sym (has-with_one total (of_list ks) k k) ∙ ap (λ s. has s k) is ∙ has-nothing R k))
 
 pub of_list-nothing : {K : Type 0} {R : K → K → Ordering} → IsTotalOrder R → (ks : List K) (r : Bool) → Decides r (length ks ≡ 0) → Decides r (of_list {R = R} ks ≡ nothing)
-of_list-nothing total ks r says = (λ so. ap of_list (empty_of_length ks (says.0 so)), λ is. says.1 (length-nothing total ks is))
+of_list-nothing total ks r says = (λ so. ap of_list (nil_from_length ks (says.0 so)), λ is. says.1 (length-nothing total ks is))
 
 -- ---- keys put in one after another
 

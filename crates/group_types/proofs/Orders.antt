@@ -4,7 +4,7 @@ use Rattle.std.specs.Bool.{Decides}
 use Rattle.std.specs.Str.{bytes_eq}
 use Rattle.std.proofs.lemmas.Bool.Decides.{Decides-int_eq}
 use Rattle.std.proofs.lemmas.Slice.Eq.{bytes_eq-Decides}
-use Rattle.group_types.proofs.BoolLemmas.{and_first, and_second}
+use Rattle.std.specs.Cmp.{first_so, second_so}
 use Rattle.std.specs.declared.cmp.Ordering.TheVariants.{Equal}
 use Rattle.std.specs.Ordering.{int_cmp, int_eq}
 use Rattle.std.specs.Cmp.{IsTotalOrder, int_cmp_total, on_total, then_total, tied_itself}
@@ -35,7 +35,7 @@ pub partition_eq-Decides : (p q : Partition) → Decides (bytes_eq p.topic q.top
 partition_eq-Decides p q =
     let topics = bytes_eq-Decides p.topic q.topic in
     let indexes = Decides-int_eq p.index q.index in (
-      λ so. let t = topics.0 (and_first _ _ so) in let k = indexes.0 (and_second (bytes_eq p.topic q.topic) _ so) in λ i. record { topic = t i; index = k i },
+      λ so. let t = topics.0 (first_so _ _ so) in let k = indexes.0 (second_so (bytes_eq p.topic q.topic) _ so) in λ i. record { topic = t i; index = k i },
       λ is. λ i. topics.1 (ap (λ x. x.topic) is) i && indexes.1 (ap (λ x. x.index) is) i,
     )
 

@@ -10,8 +10,10 @@ use Rattle.std.specs.FinMap as finite
 use Rattle.std.specs.FinMap.{IsAntisymmetric, entries}
 use Rattle.std.proofs.lemmas.Bool.Decides.{Decides-eqb}
 use Rattle.std.proofs.Math.ListN.{length-map}
-use Rattle.group_types.proofs.BoolLemmas.{and_first, and_second, never_both, same_answer}
-use Rattle.group_types.proofs.ListLemmas.{any_append, empty_of_length}
+use Rattle.std.specs.Cmp.{first_so, second_so}
+use Rattle.group_types.proofs.BoolLemmas.{never_both, same_answer}
+use Rattle.std.proofs.lemmas.List.{nil_from_length}
+use Rattle.group_types.proofs.ListLemmas.{any_append}
 use Rattle.group_types.specs.Sets.{FinSet, nothing, has, with_one, without, common, minus, in_order, of_list, size, is_nothing, are_disjoint, are_same, union}
 
 -- ---- the answers of an `Option` with nothing in it
@@ -87,7 +89,7 @@ pub size-nothing : {K : Type 0} (R : K → K → Ordering) → size (nothing {R 
 size-nothing R = size-len nothing ∙ finite.len-empty R (Unit {0})
 
 pub entries-nothing : {K : Type 0} (R : K → K → Ordering) → entries (nothing {R = R}) ≡ []
-entries-nothing R = empty_of_length _ (sym (finite.len-entries nothing) ∙ finite.len-empty R (Unit {0}))
+entries-nothing R = nil_from_length _ (sym (finite.len-entries nothing) ∙ finite.len-empty R (Unit {0}))
 
 module _ {K : Type 0} {R : K → K → Ordering} (total : IsTotalOrder R) where
   pub size-with_one : (s : FinSet R) (x : K) → size (with_one s x) ≡ cond (has s x) (size s) (size s + 1)
@@ -125,8 +127,8 @@ module _ {K : Type 0} {R : K → K → Ordering} (total : IsTotalOrder R) (exact
   pub are_same-Decides : (s t : FinSet R) → Decides (are_same s t) (s ≡ t)
   are_same-Decides s t = (
     λ so. same_of_minus s t
-        ((is_nothing-Decides (minus s t)).0 (and_first _ _ so))
-        ((is_nothing-Decides (minus t s)).0 (and_second _ _ so)),
+        ((is_nothing-Decides (minus s t)).0 (first_so _ _ so))
+        ((is_nothing-Decides (minus t s)).0 (second_so _ _ so)),
     λ is. ap (λ b. b && is_nothing (minus t s)) (minus-same s t is) ∙ minus-same t s (sym is),
   )
 

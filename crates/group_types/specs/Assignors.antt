@@ -1,5 +1,5 @@
 -- KIP-848, "Server Side Assignors": what an assignor sees of the members, and which assignor a group has.
-use Rattle.std.specs.Prelude.{◌≡◌, ◌≢◌, ℕ, List, [], length, filter, map, Option, Some, None, Bool, true, false, if◌then◌else◌, nat_lt, slice_get}
+use Rattle.std.specs.Prelude.{◌≡◌, ℕ, List, length, filter, Option, Some, None, Bool, true, false, if◌then◌else◌, nat_lt, slice_get}
 use Rattle.std.specs.declared.cmp.Ordering.{Ordering}
 use Rattle.std.specs.declared.cmp.Ordering.TheVariants.{Less, Greater}
 use Rattle.std.specs.Ordering.{ordering_then}

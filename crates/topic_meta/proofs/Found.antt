@@ -15,6 +15,7 @@ use Rattle.group_types.specs.Text.{Text, text_cmp}
 use Rattle.group_types.specs.Topics.{Topic, Topics, Names, view_of}
 use Rattle.group_types.specs.Sets.{has, in_order}
 use Rattle.group_types.proofs.Orders.{text_cmp_total, text_cmp-IsAntisymmetric}
+use Rattle.topic_meta.proofs.Truths.{first, second, both}
 use Rattle.topic_meta.specs.Facts.{AreImageTopics, partition_count}
 use Rattle.topic_meta.specs.Stored.{shown_topic, topics_in}
 use Rattle.topic_meta.specs.Views.{shown, IsView}
@@ -49,18 +50,6 @@ pub got : (m : BTreeMap (String Global) StoredTopic) (image : Topics) (q : Text)
 got m image q is = ap (λ topics. get topics q) (sym is) ∙ get-topics_in m q
 
 -- ---- in order
-
-first : (a b : Bool) → T (a && b) → T a
-first true b p = tt
-first false b p = absurd p
-
-second : (a b : Bool) → T (a && b) → T b
-second true b p = p
-second false b p = absurd p
-
-both : (a b : Bool) → T a → T b → T (a && b)
-both true b p q = q
-both false b p q = p
 
 abbrev keyed : List (Text × Unit {0}) → List Text
 keyed es = map (λ e. e.0) es

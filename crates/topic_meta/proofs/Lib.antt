@@ -1,3 +1,4 @@
+mod Truths
 pub mod Lookups
 pub mod Drafts
 pub mod Sound

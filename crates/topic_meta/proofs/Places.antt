@@ -14,17 +14,10 @@ use Rattle.group_types.specs.declared.limits.TheConstants.{MOST_TOPIC_PARTITIONS
 use Rattle.group_types.specs.Text.{Text, text_cmp}
 use Rattle.group_types.specs.Topics.{Topic, Topics}
 use Rattle.group_types.proofs.Orders.{text_cmp_total}
+use Rattle.topic_meta.proofs.Truths.{first, second}
 use Rattle.topic_meta.specs.Facts.{AreImageTopics}
 use Rattle.topic_meta.specs.Views.{named, all_named}
 use Rattle.topic_meta.specs.declared.view_topic.ViewTopic.{ViewTopic}
-
-first : (a b : Bool) → T (a && b) → T a
-first true b p = tt
-first false b p = absurd p
-
-second : (a b : Bool) → T (a && b) → T b
-second true b p = p
-second false b p = absurd p
 
 less_of_is_lt : (o : Ordering) → T (is_lt o) → o ≡ Less
 less_of_is_lt Less p = refl

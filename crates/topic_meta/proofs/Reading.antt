@@ -1,4 +1,5 @@
 -- A list as it is read entry by entry.
+use Rattle.std.proofs.lemmas.List.{nil_from_length}
 use Rattle.std.proofs.Common.{◌≡◌, ◌≤◌, Bool, true, false, ◌||◌, List, [], ◌∷◌, ◌++◌, length, refl, sym, ap, subst, ◌∙◌, arith, Some, None, append_assoc, true≢false, nat_lt}
 use Rattle.std.specs.Option.{option_or}
 use Rattle.std.proofs.lemmas.List.{map-append, append-nil}
@@ -50,14 +51,10 @@ module _ (all done rest left : List TopicEntry) (old : Draft) (x : TopicEntry) (
             ∙ ap (λ entries. first_fault_after entries (entries_of left)) longer;
       }
 
-nil_of_length : {A : Type 0} (xs : List A) → length xs ≡ 0 → xs ≡ []
-nil_of_length [] none = refl
-nil_of_length (x ∷ xs) none = absurd (omega arith)
-
 -- where as many were read as there are, none is to come
 pub nothing_to_come : {A : Type 0} (all done rest : List A) → all ≡ done ++ rest → length done ≡ length all → rest ≡ []
 nothing_to_come all done rest parts same =
-    nil_of_length rest (let sum = ap length parts ∙ length-append done rest in omega arith)
+    nil_from_length rest (let sum = ap length parts ∙ length-append done rest in omega arith)
 
 either_false : (a b : Bool) → (a || b) ≡ false → (a ≡ false) × (b ≡ false)
 either_false true b h = absurd (true≢false h)

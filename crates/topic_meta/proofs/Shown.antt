@@ -1,4 +1,5 @@
 -- The topics of a tree and of a slice are as many as the entries, and in their order.
+use Rattle.std.proofs.lemmas.List.{nil_from_length}
 use Rattle.std.proofs.Common.{◌≡◌, ℕ, Bool, true, false, ◌&&◌, List, [], ◌∷◌, map, length, refl, sym, ap, subst, ◌∙◌, arith, Some, string_bytes, String, IsTrue, sum_by, ◌==◌}
 use Rattle.std.specs.declared.alloc.Global.{Global}
 use Rattle.std.specs.declared.cmp.Ordering.TheVariants.{Less}
@@ -28,12 +29,8 @@ use Rattle.topic_meta.specs.declared.topic.StoredTopic.{StoredTopic}
 nowhere : (q : Text) (t : Topic) → finite.get {R = text_cmp} finite.empty q ≡ Some t → ⊥
 nowhere q t is = let none = sym (finite.get-empty {X = Topic} text_cmp q) ∙ is in cc
 
-nil_of_length : {A : Type 0} (xs : List A) → length xs ≡ 0 → xs ≡ []
-nil_of_length [] none = refl
-nil_of_length (x ∷ xs) none = absurd (omega arith)
-
 no_entries : let none : Topics = finite.empty in entries none ≡ []
-no_entries = nil_of_length _ (sym (finite.len-entries finite.empty) ∙ finite.len-empty text_cmp Topic)
+no_entries = nil_from_length _ (sym (finite.len-entries finite.empty) ∙ finite.len-empty text_cmp Topic)
 
 pub empty-AreImageTopics : AreImageTopics finite.empty
 empty-AreImageTopics = record {

@@ -5,7 +5,8 @@ use Rattle.kip_msgs.specs.Values.{TopicPartitionsValue}
 use Rattle.kip_msgs.specs.Topics.{topic_partitions_value, topic_partitions_values}
 use Rattle.coord_node.specs.Listing.{alone}
 use Rattle.coord_node.specs.Growth.{behind}
-use Rattle.coord_node.proofs.GrowthLemmas.{behind-in_place, behind-beside, topic_partitions_values-push, slice_set-itself, empty_of_length}
+use Rattle.coord_node.proofs.GrowthLemmas.{behind-in_place, behind-beside, topic_partitions_values-push, slice_set-itself}
+use Rattle.std.proofs.lemmas.List.{nil_from_length}
 use Rattle.coord_node.proofs.listing.add.Goals as goal
 use Rattle.coord_node.proofs.listing.add.Goals.{in-Some+else-eq, in_default}
 
@@ -35,7 +36,7 @@ returns c =
           ∙ sym (behind-beside v.items (vec_len v - 1) w.in-Some.last.now p (omega (arith, v.ok.0)) w.in-Some.ensures.value w.if-eq.ensures)
       | in_default w ↦
           let none : 0 < vec_len v → ⊥ = λ h. true≢false (sym (w.in_default.ensures.variant.1 h)) in
-          let empty : v.items ≡ [] = empty_of_length v.items (omega (arith, v.ok.0)) in
+          let empty : v.items ≡ [] = nil_from_length v.items (omega (arith, v.ok.0)) in
           pushed [] (ap (λ (x : Vec TopicPartitions). x.items) w.topics-is ∙ empty)
           ∙ ap (λ (es : List TopicPartitions). behind (topic_partitions_values es) p) (sym empty)
     ]

@@ -1,0 +1,14 @@
+-- What holds of both of two truth values holds of each, and the other way round.
+use Rattle.std.proofs.Common.{Bool, true, false, ◌&&◌, T}
+
+pub first : (a b : Bool) → T (a && b) → T a
+first true b p = tt
+first false b p = absurd p
+
+pub second : (a b : Bool) → T (a && b) → T b
+second true b p = p
+second false b p = absurd p
+
+pub both : (a b : Bool) → T a → T b → T (a && b)
+both true b p q = q
+both false b p q = p
