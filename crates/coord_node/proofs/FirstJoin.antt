@@ -23,15 +23,15 @@ replied : (a : group.Answer) (r : group.Reply) → a ≡ group.Replied r → Rep
 replied a r is = subst Replies (sym is) tt
 
 -- the first heartbeat of a new group is answered, as its checks say
-by_verdict : (verdict : group.Verdict) (salt : ℕ) (image : Topics) (names : Names) (a : group.Answer) (n : Group) → IsAnsweredBy verdict salt image names a n → Replies a
-by_verdict group.Accepted salt image names a n is = replied a _ is.2
-by_verdict (group.Refused code) salt image names a n is = replied a _ is.0
-by_verdict group.Overtaken salt image names a n is = absurd is
+by_verdict : (verdict : group.Verdict) (salt epoch : ℕ) (image : Topics) (names : Names) (a : group.Answer) (n : Group) → IsAnsweredBy verdict salt epoch image names a n → Replies a
+by_verdict group.Accepted salt epoch image names a n is = replied a _ is.2
+by_verdict (group.Refused code) salt epoch image names a n is = replied a _ is.0
+by_verdict group.Overtaken salt epoch image names a n is = absurd is
 
 step_replies : FirstJoinsAreAnswered → (salt : ℕ) (q : Heartbeat) (stamp : Stamp) (moment : ℕ) (image : Topics) (a : group.Answer) (n : Group)
     → MakesMember q → group.HeartbeatStep (new_group salt) q stamp moment image a n → Replies a
 step_replies answered salt q stamp moment image a n makes step =
-    by_verdict _ salt image _ a n (answered salt q stamp moment image a n makes step)
+    by_verdict _ salt 0 image _ a n (answered salt 0 q stamp moment image a n makes step)
 
 made : (success room : Bool) (c : Coordinator) (name : List ℕ) (g : Group) (r : group.Reply) (a : group.Answer) (n : Coordinator)
     → Makes success room c name g r a n → Replies a

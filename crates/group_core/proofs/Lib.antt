@@ -3,9 +3,12 @@ pub mod Single
 pub mod GrantLemmas
 pub mod Named
 pub mod MemberLemmas
-pub mod SubscribedLemmas
 pub mod NameLemmas
 pub mod Joined
 pub mod Steps
+pub mod OneOrder
+pub mod OneTarget
 pub mod OneStep
+pub mod FewPartitions
+pub mod SoleMember
 pub mod Answered

@@ -10,12 +10,12 @@ use Rattle.group_types.specs.Text.{Text, text_cmp}
 use Rattle.group_types.specs.Sets.{nothing, has, in_order}
 use Rattle.group_types.specs.Partition.{partition_cmp, Partitions}
 use Rattle.group_types.specs.declared.epoch.Epoch.{Epoch}
-use Rattle.group_types.specs.Group.{Record, Grants, grant_cmp, held, wanted}
+use Rattle.group_types.specs.Group.{Record, Grants, grant_cmp, held}
 use Rattle.group_types.specs.Settle.{granting}
 use Rattle.group_types.proofs.Orders.{text_cmp_total, text_cmp-IsAntisymmetric, partition_cmp_total, partition_cmp-IsAntisymmetric}
 use Rattle.group_types.proofs.SetLemmas.{has-nothing, has-with_one, has-in_order, same_set}
 use Rattle.group_core.specs.declared.record.Member.{Member}
-use Rattle.group_core.specs.Members.{record_of, records_of, target_of, grants_of}
+use Rattle.group_core.specs.Members.{record_of, records_of, grants_of}
 use Rattle.group_core.specs.GroupView.{are_apart}
 use Rattle.group_core.proofs.GrantLemmas.{eq-grant, grant_cmp_total, has-held}
 
@@ -148,10 +148,6 @@ held-grants q ms apart =
     same_set partition_cmp_total partition_cmp-IsAntisymmetric _ _ (λ p. has-held (grants_of ms) q p ∙ has-grants q p ms ∙ held_of q p ms apart)
 
 -- ---- what the readers of a group find
-
-pub target-members : (q : Text) (ms : List Member) (o : Option Member) → o ≡ with_id q ms → unwrap_or (option_map (λ m. m.target) o) nothing ≡ wanted (target_of ms) q
-target-members q ms o is =
-    ap (λ x. unwrap_or (option_map (λ m. m.target) x) nothing) is ∙ ap (λ x. unwrap_or x nothing) (sym (get-members (λ m. m.target) q ms))
 
 pub granted-members : (q : Text) (ms : List Member) (o : Option Member) → are_apart (ids_of ms) ≡ true → o ≡ with_id q ms → granted_of o ≡ held (grants_of ms) q
 granted-members q ms o apart is = ap granted_of is ∙ sym (held-grants q ms apart)

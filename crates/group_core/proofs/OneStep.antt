@@ -1,42 +1,24 @@
 -- A heartbeat has one answer in a group, and leaves one group.
-use Rattle.std.proofs.Common.{◌≡◌, ℕ, zero, suc, ◌<◌, Bool, true, false, List, [], ◌∷◌, Option, Some, None, IsTrue, ◌↔◌, max, ◌==◌, refl, sym, ap, subst, ◌∙◌, arith, true≢false}
+use Rattle.std.proofs.Common.{◌≡◌, ℕ, ◌<◌, Bool, true, false, List, [], ◌∷◌, Option, Some, None, max, ◌==◌, refl, sym, ap, subst, ◌∙◌, arith, true≢false}
 use Rattle.std.specs.FinMap as finite
 use Rattle.group_types.specs.declared.stamp.Stamp.{Stamp}
 use Rattle.group_types.specs.Text.{Text}
-use Rattle.group_types.specs.Sets.{has, nothing}
+use Rattle.group_types.specs.Sets.{nothing}
 use Rattle.group_types.specs.Partition.{Partitions}
-use Rattle.group_types.specs.Topics.{Topics, Names}
+use Rattle.group_types.specs.Topics.{Topics}
 use Rattle.group_types.specs.MemberId.{made_id}
 use Rattle.group_types.specs.Request.{Heartbeat, Kind, Joins, Beats, Leaves, GoesAway, IsNone, kind_of, is_full}
 use Rattle.group_types.specs.Group.{Group, Record, Target}
 use Rattle.group_types.specs.Join.{IsSerial, IsNextSerial, new_record, with_new_member}
-use Rattle.group_types.specs.Renewal.{IsAllSubscribed, IsOwners, RenewsWhere, Renews}
+use Rattle.group_types.specs.Renewal.{RenewsWhere, Renews}
 use Rattle.group_types.specs.Settle.{settled}
 use Rattle.group_types.specs.HeartbeatStep.{Answer, Verdict, Accepted, Refused, Overtaken, ByVerdict, RepliesTo, GoesOn, JoinsAsNew, StepOf, HeartbeatStep, verdict_on_new}
-use Rattle.group_types.proofs.Orders.{partition_cmp_total, partition_cmp-IsAntisymmetric}
-use Rattle.group_types.proofs.SetLemmas.{same_set}
-
-same_truth : (a b : Bool) (P : Type 0) → IsTrue a ↔ P → IsTrue b ↔ P → a ≡ b
-same_truth true true P f g = refl
-same_truth true false P f g = absurd (true≢false (sym (g.1 (f.0 refl))))
-same_truth false true P f g = absurd (true≢false (sym (f.1 (g.0 refl))))
-same_truth false false P f g = refl
-
--- two sets of all that is subscribed
-same_subscribed : (view : Topics) (names : Names) (s t : Partitions) → IsAllSubscribed view names s → IsAllSubscribed view names t → s ≡ t
-same_subscribed view names s t p q =
-    same_set partition_cmp_total partition_cmp-IsAntisymmetric s t (λ x. same_truth (has s x) (has t x) _ (p x) (q x))
-
-same_owners : (records : List (Text × Record)) (view : Topics) (t u : Target) → IsOwners records view t → IsOwners records view u → t ≡ u
-same_owners [] view t u p q = p ∙ sym q
-same_owners (m ∷ []) view t u p q =
-    p.2 ∙ ap (finite.insert finite.empty m.0) (same_subscribed view m.1.names p.0 q.0 p.1 q.1) ∙ sym q.2
-same_owners (m ∷ n ∷ others) view t u p q = absurd p
+use Rattle.group_core.proofs.OneTarget.{one_target}
 
 same_renewed : (b : Bool) (g n o : Group) → RenewsWhere b g n → RenewsWhere b g o → n ≡ o
 same_renewed true g n o p q = p ∙ sym q
 same_renewed false g n o p q =
-    p.2 ∙ ap (λ (t : Target). record g { target = t; target_epoch = g.epoch }) (same_owners (finite.entries g.records) g.view p.0 q.0 p.1 q.1) ∙ sym q.2
+    p.2 ∙ ap (λ (t : Target). record g { target = t; target_epoch = g.epoch }) (one_target g.records g.view g.target p.0 q.0 p.1 q.1) ∙ sym q.2
 
 -- one answer, and one group
 abbrev Same : Answer → Answer → Group → Group → Type 0
@@ -84,7 +66,7 @@ same_serial g None (Some m) one other = absurd (true≢false (sym (one m other.f
 same_serial g None None one other = refl
 
 same_first : (g : Group) (q : Heartbeat) (stamp : Stamp) (moment : ℕ) (image : Topics) (a b : Answer) (n o : Group)
-    → StepOf Joins [] None 0 g q stamp moment image a n → StepOf Joins [] None 0 g q stamp moment image b o → Same a b n o
+    → StepOf Joins [] None [] g q stamp moment image a n → StepOf Joins [] None [] g q stamp moment image b o → Same a b n o
 same_first g q stamp moment image a b n o one other =
     let serial : one.0 ≡ other.0 = same_serial g one.0 other.0 one.1 other.1 in
     let later : ByVerdict (verdict_on_new g q one.0) (JoinsAsNew g one.0 q stamp moment image) g b o =
@@ -92,18 +74,18 @@ same_first g q stamp moment image a b n o one other =
     same_by_verdict (verdict_on_new g q one.0) (JoinsAsNew g one.0 q stamp moment image) g a b n o
     (same_join one.0 g q stamp moment image a b n o) one.2 later
 
-same_step_of : (kind : Kind) (member : Text) (instance : Option Text) (epoch : ℕ) (g : Group) (q : Heartbeat) (stamp : Stamp) (moment : ℕ) (image : Topics) (a b : Answer) (n o : Group)
-    → StepOf kind member instance epoch g q stamp moment image a n → StepOf kind member instance epoch g q stamp moment image b o → Same a b n o
-same_step_of Joins [] None zero g q stamp moment image a b n o one other = same_first g q stamp moment image a b n o one other
-same_step_of Joins [] None (suc epoch) g q stamp moment image a b n o one other = (one.0 ∙ sym other.0, one.1 ∙ sym other.1)
-same_step_of Joins [] (Some instance) epoch g q stamp moment image a b n o one other = (one.0 ∙ sym other.0, one.1 ∙ sym other.1)
-same_step_of Joins (c ∷ member) instance epoch g q stamp moment image a b n o one other = (one.0 ∙ sym other.0, one.1 ∙ sym other.1)
-same_step_of (Beats e) member instance epoch g q stamp moment image a b n o one other = (one.0 ∙ sym other.0, one.1 ∙ sym other.1)
-same_step_of Leaves member instance epoch g q stamp moment image a b n o one other = (one.0 ∙ sym other.0, one.1 ∙ sym other.1)
-same_step_of GoesAway member instance epoch g q stamp moment image a b n o one other = (one.0 ∙ sym other.0, one.1 ∙ sym other.1)
-same_step_of IsNone member instance epoch g q stamp moment image a b n o one other = (one.0 ∙ sym other.0, one.1 ∙ sym other.1)
+same_step_of : (kind : Kind) (member : Text) (instance : Option Text) (members : List (Text × Record)) (g : Group) (q : Heartbeat) (stamp : Stamp) (moment : ℕ) (image : Topics) (a b : Answer) (n o : Group)
+    → StepOf kind member instance members g q stamp moment image a n → StepOf kind member instance members g q stamp moment image b o → Same a b n o
+same_step_of Joins [] None [] g q stamp moment image a b n o one other = same_first g q stamp moment image a b n o one other
+same_step_of Joins [] None (m ∷ ms) g q stamp moment image a b n o one other = (one.0 ∙ sym other.0, one.1 ∙ sym other.1)
+same_step_of Joins [] (Some instance) members g q stamp moment image a b n o one other = (one.0 ∙ sym other.0, one.1 ∙ sym other.1)
+same_step_of Joins (c ∷ member) instance members g q stamp moment image a b n o one other = (one.0 ∙ sym other.0, one.1 ∙ sym other.1)
+same_step_of (Beats e) member instance members g q stamp moment image a b n o one other = (one.0 ∙ sym other.0, one.1 ∙ sym other.1)
+same_step_of Leaves member instance members g q stamp moment image a b n o one other = (one.0 ∙ sym other.0, one.1 ∙ sym other.1)
+same_step_of GoesAway member instance members g q stamp moment image a b n o one other = (one.0 ∙ sym other.0, one.1 ∙ sym other.1)
+same_step_of IsNone member instance members g q stamp moment image a b n o one other = (one.0 ∙ sym other.0, one.1 ∙ sym other.1)
 
 pub same_heartbeat_step : (g : Group) (q : Heartbeat) (stamp : Stamp) (moment : ℕ) (image : Topics) (a b : Answer) (n o : Group)
     → HeartbeatStep g q stamp moment image a n → HeartbeatStep g q stamp moment image b o → (a ≡ b) × (n ≡ o)
 same_heartbeat_step g q stamp moment image a b n o one other =
-    same_step_of (kind_of q.epoch) q.member q.instance g.epoch g q stamp moment image a b n o one other
+    same_step_of (kind_of q.epoch) q.member q.instance (finite.entries g.records) g q stamp moment image a b n o one other

@@ -1,4 +1,4 @@
--- A new group once its first member has joined.
+-- A group that nobody had joined, once its first member has.
 use Rattle.std.specs.Prelude.{ℕ, [], Some}
 use Rattle.std.specs.FinMap as finite
 use Rattle.group_types.specs.declared.epoch.Epoch.TheVariants.{At}
@@ -6,23 +6,28 @@ use Rattle.group_types.specs.Text.{Text}
 use Rattle.group_types.specs.Sets.{nothing, in_order}
 use Rattle.group_types.specs.Partition.{Partitions}
 use Rattle.group_types.specs.Topics.{Topics}
-use Rattle.group_types.specs.Group.{Record, Group}
+use Rattle.group_types.specs.Group.{Record, Records, Group, wanted}
 use Rattle.group_types.specs.Settle.{granting}
+use Rattle.group_target.specs.TargetState.{TargetState}
 
--- KIP-848, "Reconciliation of the group": a new record at the first epoch, once it was sent its set
-abbrev pub at_first_epoch : Record → Partitions → Record
-at_first_epoch r set = record r { epoch = At 1; sent = Some set }
+-- KIP-848, "Reconciliation of the group": a new record at the member's first epoch, once it was sent its set
+abbrev pub at_epoch : Record → ℕ → Partitions → Record
+at_epoch r epoch set = record r { epoch = At epoch; sent = Some set }
+
+-- the records of one member
+abbrev pub one_record : Text → Record → Records
+one_record m r = finite.insert finite.empty m r
 
 -- the group of one member, which may read its whole target, at a moment
-abbrev pub group_of_one : ℕ → Text → Record → Partitions → Topics → ℕ → Group
-group_of_one salt m r set view now =
+abbrev pub group_of_one : ℕ → Text → Record → TargetState → Topics → ℕ → Group
+group_of_one salt m r target view now =
     record {
       salt = salt;
-      epoch = 1;
-      target_epoch = 1;
-      records = finite.insert finite.empty m r;
-      target = finite.insert finite.empty m set;
-      grants = granting nothing m (in_order set);
+      epoch = target.epoch;
+      target_epoch = target.epoch;
+      records = one_record m r;
+      target = target.owners;
+      grants = granting nothing m (in_order (wanted target.owners m));
       offsets = finite.empty;
       view = view;
       clock = now;

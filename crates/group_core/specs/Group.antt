@@ -13,6 +13,7 @@ use Rattle.group_types.specs.Partition.{Partitions, partition_code}
 use Rattle.group_types.specs.Topics.{Topics, Names}
 use Rattle.group_types.specs.Group.{Record, Records, Target, Grants, Committed, Offsets, Past, Group}
 use Rattle.topic_meta.specs.Stored.{topics_code}
+use Rattle.range_assign.specs.Shares.{owners_code}
 
 abbrev text_code : Coded Text
 text_code = coded_list coded_ℕ
@@ -124,7 +125,7 @@ group_of_fields p =
 
 abbrev group_fields_code : Coded GroupFields
 group_fields_code =
-    coded× coded_ℕ (coded× coded_ℕ (coded× coded_ℕ (coded× (finite.code text_code record_code) (coded× (finite.code text_code partitions_code)
+    coded× coded_ℕ (coded× coded_ℕ (coded× coded_ℕ (coded× (finite.code text_code record_code) (coded× owners_code
     (coded× grants_code (coded× (finite.code (coded× text_code coded_ℤ) committed_code) (coded× topics_code
     (coded× coded_ℕ (coded× coded_ℕ (coded_list (coded× text_code stamp_code)))))))))))
 

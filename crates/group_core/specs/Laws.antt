@@ -1,14 +1,15 @@
 -- What the machine's definition comes to.
-use Rattle.std.specs.Prelude.{◌≡◌, ℕ, false}
+use Rattle.std.specs.Prelude.{◌≡◌, ℕ, suc, nat_le}
 use Rattle.group_types.specs.declared.stamp.Stamp.{Stamp}
+use Rattle.group_types.specs.declared.limits.TheConstants.{GREATEST_EPOCH}
 use Rattle.group_types.specs.Sets.{nothing}
 use Rattle.group_types.specs.Partition.{Partitions}
 use Rattle.group_types.specs.Topics.{Topics, Names, view_of}
 use Rattle.group_types.specs.MemberId.{made_id}
 use Rattle.group_types.specs.Request.{Heartbeat, is_invalid, is_unsupported}
-use Rattle.group_types.specs.Group.{Group, new_group}
+use Rattle.group_types.specs.Group.{Group, starting_group}
 use Rattle.group_types.specs.Join.{names_after}
-use Rattle.group_types.specs.Renewal.{IsAllSubscribed}
+use Rattle.group_types.specs.Owners.{IsAllSubscribed}
 use Rattle.group_types.specs.HeartbeatStep.{Answer, Replied, Verdict, Accepted, Refused, Overtaken, first_refusal, refusal, HeartbeatStep}
 use Rattle.group_core.specs.Checks.{MakesMember}
 use Rattle.group_core.specs.Outcome.{accepted}
@@ -19,21 +20,22 @@ HasOneAnswer =
     (g : Group) (q : Heartbeat) (stamp : Stamp) (moment : ℕ) (image : Topics) (a b : Answer) (n o : Group)
     → HeartbeatStep g q stamp moment image a n → HeartbeatStep g q stamp moment image b o → (a ≡ b) × (n ≡ o)
 
--- KIP-848, "Target Assignment": the first member gets the first id and the first epoch, and owns all that it subscribes
-abbrev pub IsFirstAcceptance : ℕ → Topics → Names → Answer → Group → Type 0
-IsFirstAcceptance salt image names answer new =
+-- KIP-848, "Target Assignment": the first member gets the first id and an epoch, and owns all that it subscribes
+abbrev pub IsFirstAcceptance : ℕ → ℕ → Topics → Names → Answer → Group → Type 0
+IsFirstAcceptance salt epoch image names answer new =
     (set : Partitions) × IsAllSubscribed (view_of image names) names set
-    × (answer ≡ Replied (accepted (made_id salt 1) 1 set)) × (new.epoch ≡ 1)
+    × (answer ≡ Replied (accepted (made_id salt 1) epoch set)) × (new.epoch ≡ epoch)
 
--- a refusal says its code and changes nothing
-abbrev pub IsAnsweredBy : Verdict → ℕ → Topics → Names → Answer → Group → Type 0
-IsAnsweredBy Accepted salt image names answer new = IsFirstAcceptance salt image names answer new
-IsAnsweredBy (Refused code) salt image names answer new = (answer ≡ Replied (refusal code)) × (new ≡ new_group salt)
-IsAnsweredBy Overtaken salt image names answer new = ⊥
+-- a refusal says its code and changes nothing, and an acceptance raises the epoch
+abbrev pub IsAnsweredBy : Verdict → ℕ → ℕ → Topics → Names → Answer → Group → Type 0
+IsAnsweredBy Accepted salt epoch image names answer new = IsFirstAcceptance salt (suc epoch) image names answer new
+IsAnsweredBy (Refused code) salt epoch image names answer new = (answer ≡ Replied (refusal code)) × (new ≡ starting_group salt epoch)
+IsAnsweredBy Overtaken salt epoch image names answer new = ⊥
 
--- a join of a new group under no id and no instance is answered, as the checks of its request say
+-- A join under no id and no instance, of a group that nobody has joined, is answered as the checks of its request say;
+-- where these accept it, it is refused only where the epoch is the greatest.
 abbrev pub FirstJoinsAreAnswered : Type 0
 FirstJoinsAreAnswered =
-    (salt : ℕ) (q : Heartbeat) (stamp : Stamp) (moment : ℕ) (image : Topics) (answer : Answer) (new : Group)
-    → MakesMember q → HeartbeatStep (new_group salt) q stamp moment image answer new
-    → IsAnsweredBy (first_refusal (is_invalid q) (is_unsupported q) false) salt image (names_after nothing q.names) answer new
+    (salt epoch : ℕ) (q : Heartbeat) (stamp : Stamp) (moment : ℕ) (image : Topics) (answer : Answer) (new : Group)
+    → MakesMember q → HeartbeatStep (starting_group salt epoch) q stamp moment image answer new
+    → IsAnsweredBy (first_refusal (is_invalid q) (is_unsupported q) (nat_le GREATEST_EPOCH epoch)) salt epoch image (names_after nothing q.names) answer new

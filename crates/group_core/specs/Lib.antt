@@ -4,6 +4,5 @@ pub mod Request
 pub mod Members
 pub mod Group
 pub mod GroupView
-pub mod Subscribed
 pub mod FirstMember
 pub mod Laws

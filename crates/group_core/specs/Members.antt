@@ -1,4 +1,4 @@
--- What a group's members are to the machine: records, target and grants.
+-- What a group's members are to the machine: records and grants.
 use Rattle.std.specs.Prelude.{List, [], ◌∷◌, map}
 use Rattle.std.specs.Option.{option_map}
 use Rattle.std.specs.String.{string_bytes}
@@ -29,10 +29,6 @@ record_of r =
 -- the records, by member id
 abbrev pub records_of : List Member → machine.Records
 records_of members = finite.from_entries (map (λ m. (m.id, record_of m.record)) members)
-
--- KIP-848, "Target Assignment": the set of each member
-abbrev pub target_of : List Member → machine.Target
-target_of members = finite.from_entries (map (λ m. (m.id, m.target)) members)
 
 -- KIP-848, "Current Assignment": each member with each partition that it may read
 abbrev pub grants_of : List Member → machine.Grants

@@ -4,12 +4,13 @@ ghost use Rattle.std.specs.Prelude.{unwrap_or, option_map};
 ghost use Rattle.std.specs.Option.{option_copied};
 ghost use Rattle.std.specs.FinMap as finite;
 ghost use Rattle.group_types.specs.Sets.{nothing};
-ghost use Rattle.group_types.specs.Group.{new_group, wanted, held};
+ghost use Rattle.group_types.specs.Group.{new_group, starting_group, wanted, held};
 
 use crate::outcome::{Outcome, Reply};
 use crate::record::{Member, member_with_id};
 use crate::{checks, join};
-use group_types::{Epoch, EpochNumber, Moment, PartSet, Stamp};
+use group_target::Target;
+use group_types::{Code, Epoch, EpochNumber, Moment, PartSet, Stamp};
 use kip_msgs::HeartbeatRequest;
 use std::alloc::{AllocError, Global};
 use std::marker::Model;
@@ -20,7 +21,7 @@ use topic_meta::{Image, View};
 pub struct Group {
     salt: u64,
     epoch: EpochNumber,
-    target_epoch: EpochNumber,
+    target: Target,
     members: Vec<Member>,
     view: View,
     clock: Moment,
@@ -51,14 +52,21 @@ impl Group {
     ghost use Rattle.group_core.specs.FirstMember.{group_of_one};
     ghost use Rattle.group_core.specs.Members.{record_of};
 
-    /// A new group: epoch 0, and no members. The salt is the first half of the ids that it makes.
+    /// A new group: epoch 0, and no members. The salt is the first half of the ids that it makes. Takes no memory.
     pub fn new(alloc: Global, salt: u64) -> Group
         ensures { result ≡ new_group salt }
     {
+        Group::starting_at(alloc, salt, EpochNumber::zero())
+    }
+
+    /// A group that nobody has joined, whose epoch and target epoch are this one. Takes no memory.
+    pub fn starting_at(alloc: Global, salt: u64, epoch: EpochNumber) -> Group
+        ensures { result ≡ starting_group salt epoch }
+    {
         Group {
             salt,
-            epoch: EpochNumber::zero(),
-            target_epoch: EpochNumber::zero(),
+            epoch,
+            target: Target::new(alloc, epoch),
             members: Vec::new(alloc),
             view: View::empty(alloc),
             clock: Moment::of_millis(0),
@@ -66,28 +74,36 @@ impl Group {
         }
     }
 
-    /// The group of one member at the first epoch. Fails where memory is short.
+    /// The group of one member, at the epoch of its target. Fails where memory is short.
     pub(crate) fn of_one(
         alloc: Global,
         salt: u64,
         member: Member,
+        target: Target,
         view: View,
         now: Moment,
     ) -> Result<Group, AllocError>
-        requires { member.granted ≡ member.target }
-        ensures { IfOk result (λ g. g ≡ group_of_one salt member.id (record_of member.record) member.target view now) }
+        requires { member.granted ≡ wanted target.owners member.id }
+        ensures { IfOk result (λ g. g ≡ group_of_one salt member.id (record_of member.record) target view now) }
     {
         let mut members = Vec::with_capacity(alloc, 1)?;
         members.push(member)?;
         Ok(Group {
             salt,
-            epoch: EpochNumber::new(1),
-            target_epoch: EpochNumber::new(1),
+            epoch: target.epoch(),
+            target,
             members,
             view,
             clock: now,
             ids_made: 1,
         })
+    }
+
+    /// The first half of the ids that the group makes.
+    pub(crate) fn salt(&self) -> u64
+        ensures { result ≡ self.now.salt }
+    {
+        self.salt
     }
 
     /// The group epoch.
@@ -104,12 +120,12 @@ impl Group {
         self.members.len()
     }
 
-    /// The partitions of a member in the target assignment; none where the target has none for it.
-    pub fn target(&self, member: &str) -> Option<&PartSet>
-        ensures { unwrap_or (option_copied result) nothing ≡ wanted self.now.target member.now }
+    /// The target assignment: who is to own which partition, and since which epoch.
+    pub fn target(&self) -> &Target
+        ensures owners { result.now.owners ≡ self.now.target }
+        ensures epoch { result.now.epoch ≡ self.now.target_epoch }
     {
-        let member = member_with_id(self.members.as_slice(), member)?;
-        Some(&member.target)
+        &self.target
     }
 
     /// The partitions that a member may read; none where it has none.
@@ -129,8 +145,8 @@ impl Group {
     }
 
     /// One heartbeat of KIP-848 with its stamp, at a moment, over the node's image. Today a join with no member id and
-    /// no instance id is answered by a new group; every other heartbeat closes. A refusal and `Closes` change nothing.
-    /// Fails where memory is short, and then nothing has changed.
+    /// no instance id is answered by a group without members; every other heartbeat closes. A refusal and `Closes` change
+    /// nothing. Fails where memory is short, and then nothing has changed.
     pub fn heartbeat(
         &mut self,
         alloc: Global,
@@ -144,13 +160,16 @@ impl Group {
         ensures few { IfOk result (λ outcome. HasFewPartitions (answer_of outcome)) }
         ensures err { OnErr result (self.new ≡ self.old) }
     {
-        if self.epoch != EpochNumber::zero() || !checks::makes_member(request) {
+        if !self.members.is_empty() || !checks::makes_member(request) {
             return Ok(Outcome::Closes);
         }
         if let Some(code) = checks::refusal_of(request) {
             return Ok(Outcome::Replied(Reply::refusal(code)));
         }
-        let (group, reply) = join::first_join(alloc, self.salt, request, stamp, now, image)?;
+        let Some(next) = self.epoch.next() else {
+            return Ok(Outcome::Replied(Reply::refusal(Code::CoordinatorNotAvailable)));
+        };
+        let (group, reply) = join::first_join(alloc, self, next, request, stamp, now, image)?;
         *self = group;
         Ok(Outcome::Replied(reply))
     }

@@ -2,7 +2,7 @@
 //!
 //! [`Group`] holds a group's whole state, and [`Group::heartbeat`] moves it by exactly one step of the group's
 //! machine (KIP-848), or says that memory is short and changes nothing. Today one step is described: the first join
-//! of a new group. Start from [`Group::new`].
+//! of a group without members. Start from [`Group::new`].
 #![tactic(auto)]
 
 mod checks;
@@ -12,9 +12,9 @@ mod join;
 mod laws;
 mod outcome;
 mod record;
-mod subscribed;
 
 pub use group::Group;
+pub use group_target::Target;
 pub use group_types::{Code, Epoch, EpochNumber, MemberId, Moment, PartSet, Partition, Stamp};
 pub use kip_msgs::HeartbeatRequest;
 pub use laws::{first_joins_are_answered, heartbeats_have_one_answer};

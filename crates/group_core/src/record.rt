@@ -31,10 +31,11 @@ pub struct Record {
 }
 
 impl Record {
-    ghost use Rattle.std.specs.Prelude.{◌≡◌, IfOk};
+    ghost use Rattle.std.specs.Prelude.{◌≡◌, IfOk, string_bytes};
+    ghost use Rattle.std.specs.Option.{option_map, option_copied};
     ghost use Rattle.group_types.specs.Join.{new_record};
     ghost use Rattle.kip_msgs.specs.Views.{heartbeat_request_value};
-    ghost use Rattle.group_core.specs.FirstMember.{at_first_epoch};
+    ghost use Rattle.group_core.specs.FirstMember.{at_epoch};
     ghost use Rattle.group_core.specs.Members.{record_of};
     ghost use Rattle.group_core.specs.Request.{heartbeat_of};
 
@@ -63,24 +64,33 @@ impl Record {
         })
     }
 
-    /// A new member's record at the first epoch, once the member was sent its set.
-    pub fn started(self, sent: PartSet) -> Record
-        ensures { record_of result ≡ at_first_epoch (record_of self) sent }
+    /// The instance id of a static member, or none.
+    pub fn instance_id(&self) -> Option<&str>
+        ensures { option_copied result ≡ option_map string_bytes self.now.instance }
+    {
+        match &self.instance {
+            Some(instance) => Some(instance.as_str()),
+            None => None,
+        }
+    }
+
+    /// A new member's record at its first epoch, once the member was sent its set.
+    pub fn started(self, epoch: EpochNumber, sent: PartSet) -> Record
+        ensures { record_of result ≡ at_epoch (record_of self) epoch sent }
     {
         Record {
-            epoch: Epoch::At(EpochNumber::new(1)),
+            epoch: Epoch::At(epoch),
             sent: Some(sent),
             ..self
         }
     }
 }
 
-/// A member of a group: its record, its set in the target, and what it is granted.
+/// A member of a group: its record, and what it is granted.
 #[derive(Drop)]
 pub struct Member {
     pub id: MemberId,
     pub record: Record,
-    pub target: PartSet,
     pub granted: PartSet,
 }
 

@@ -1,6 +1,7 @@
 pub mod BoolLemmas
 pub mod ListLemmas
 pub mod SetLemmas
+pub mod SpreadLemmas
 pub mod ListSets
 pub mod Orders
 pub mod NameLemmas

@@ -1,6 +1,6 @@
 -- The state of one consumer group (KIP-848, "Group Coordinator": group epoch, target assignment,
 -- member epochs and current assignment). A new group has the epoch 0 and no members.
-use Rattle.std.specs.Prelude.{ℕ, ℤ, List, [], Option, unwrap_or, map, filter}
+use Rattle.std.specs.Prelude.{ℕ, ℤ, List, [], Option, map, filter}
 use Rattle.std.specs.declared.cmp.Ordering.{Ordering}
 use Rattle.std.specs.Ordering.{int_cmp, ordering_then, eq_by_cmp}
 use Rattle.std.specs.FinMap as finite
@@ -12,6 +12,7 @@ use Rattle.group_types.specs.Text.{Text, text_cmp}
 use Rattle.group_types.specs.Sets.{FinSet, nothing, in_order, of_list}
 use Rattle.group_types.specs.Partition.{partition_cmp, Partitions}
 use Rattle.group_types.specs.Topics.{Topics, Names}
+use Rattle.group_types.specs.Owners.{Spread, share_of}
 
 -- what the coordinator keeps of one member
 pub record Record : Type 0 where
@@ -30,9 +31,9 @@ pub record Record : Type 0 where
 abbrev pub Records : Type 0
 Records = finite.FinMap text_cmp Record
 
--- KIP-848, "Target Assignment": the set of each member
+-- KIP-848, "Target Assignment": who is to own which partition
 abbrev pub Target : Type 0
-Target = finite.FinMap text_cmp Partitions
+Target = Spread
 
 -- a partition that a member may read, by the member's id
 abbrev pub Grant : Type 0
@@ -75,12 +76,13 @@ pub record Group : Type 0 where
   pub serial : ℕ  -- of the next id that is made
   pub past : Past
 
-abbrev pub new_group : ℕ → Group
-new_group salt =
+-- a group of an epoch that nobody has joined yet
+abbrev pub starting_group : ℕ → ℕ → Group
+starting_group salt epoch =
     record {
       salt = salt;
-      epoch = 0;
-      target_epoch = 0;
+      epoch = epoch;
+      target_epoch = epoch;
       records = finite.empty;
       target = finite.empty;
       grants = nothing;
@@ -91,9 +93,12 @@ new_group salt =
       past = [];
     }
 
+abbrev pub new_group : ℕ → Group
+new_group salt = starting_group salt 0
+
 -- a member's set in a target: empty where it has none
 abbrev pub wanted : Target → Text → Partitions
-wanted target m = unwrap_or (finite.get target m) nothing
+wanted target m = share_of target m
 
 -- a member's set in the grants
 abbrev pub held : Grants → Text → Partitions

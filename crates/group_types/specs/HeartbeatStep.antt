@@ -1,5 +1,5 @@
 -- One heartbeat at one group: what is answered, and the group afterwards.
-use Rattle.std.specs.Prelude.{◌≡◌, ℕ, zero, suc, ℤ, pos, negsuc, Bool, true, false, not, ◌||◌, if◌then◌else◌, nat_le, is_none, max, [], ◌∷◌, Option, Some, None}
+use Rattle.std.specs.Prelude.{◌≡◌, ℕ, ℤ, pos, negsuc, Bool, true, false, not, ◌||◌, if◌then◌else◌, nat_le, is_none, max, List, [], ◌∷◌, Option, Some, None}
 use Rattle.std.specs.FinMap as finite
 use Rattle.group_types.specs.declared.code.Code.{Code}
 use Rattle.group_types.specs.declared.code.Code.TheVariants as codes
@@ -118,20 +118,20 @@ ByVerdict Overtaken Accepts g answer new = (answer ≡ Closes) × (new ≡ g)
 abbrev pub IsClosed : Group → Answer → Group → Type 0
 IsClosed g answer new = (answer ≡ Closes) × (new ≡ g)
 
--- ---- by the kind of heartbeat, the member id, the instance and the group epoch, which is 0 in a new group
+-- ---- by the kind of heartbeat, the member id, the instance and the members: what a group without members does
 
-abbrev pub StepOf : Kind → Text → Option Text → ℕ → Group → Heartbeat → Stamp → ℕ → Topics → Answer → Group → Type 0
-StepOf Joins [] None zero g q stamp moment image answer new =
+abbrev pub StepOf : Kind → Text → Option Text → List (Text × Record) → Group → Heartbeat → Stamp → ℕ → Topics → Answer → Group → Type 0
+StepOf Joins [] None [] g q stamp moment image answer new =
     (serial : Option ℕ) × IsSerial g serial
     × ByVerdict (verdict_on_new g q serial) (JoinsAsNew g serial q stamp moment image) g answer new
-StepOf Joins [] None (suc epoch) g q stamp moment image answer new = IsClosed g answer new
-StepOf Joins [] (Some instance) epoch g q stamp moment image answer new = IsClosed g answer new
-StepOf Joins (c ∷ member) instance epoch g q stamp moment image answer new = IsClosed g answer new
-StepOf (Beats n) member instance epoch g q stamp moment image answer new = IsClosed g answer new
-StepOf Leaves member instance epoch g q stamp moment image answer new = IsClosed g answer new
-StepOf GoesAway member instance epoch g q stamp moment image answer new = IsClosed g answer new
-StepOf IsNone member instance epoch g q stamp moment image answer new = IsClosed g answer new
+StepOf Joins [] None (m ∷ ms) g q stamp moment image answer new = IsClosed g answer new
+StepOf Joins [] (Some instance) members g q stamp moment image answer new = IsClosed g answer new
+StepOf Joins (c ∷ member) instance members g q stamp moment image answer new = IsClosed g answer new
+StepOf (Beats n) member instance members g q stamp moment image answer new = IsClosed g answer new
+StepOf Leaves member instance members g q stamp moment image answer new = IsClosed g answer new
+StepOf GoesAway member instance members g q stamp moment image answer new = IsClosed g answer new
+StepOf IsNone member instance members g q stamp moment image answer new = IsClosed g answer new
 
 abbrev pub HeartbeatStep : Group → Heartbeat → Stamp → ℕ → Topics → Answer → Group → Type 0
 HeartbeatStep g q stamp moment image answer new =
-    StepOf (kind_of q.epoch) q.member q.instance g.epoch g q stamp moment image answer new
+    StepOf (kind_of q.epoch) q.member q.instance (finite.entries g.records) g q stamp moment image answer new

@@ -8,6 +8,7 @@ use Rattle.group_types.specs.declared.stamp.Stamp.{Stamp}
 use Rattle.group_types.specs.Text.{Text, text_cmp}
 use Rattle.group_types.specs.declared.limits.TheConstants.{GREATEST_EPOCH, SESSION_TIMEOUT, MOST_PAST_MEMBERS}
 use Rattle.group_types.specs.Moment.{saturated_sum}
+use Rattle.group_types.specs.Owners.{without_owner}
 use Rattle.group_types.specs.Group.{Record, Past, Group}
 use Rattle.group_types.specs.Settle.{grants_of_others}
 
@@ -30,7 +31,7 @@ abbrev pub without_member : Group → Text → Stamp → Group
 without_member g m stamp =
     record g {
       records = finite.remove g.records m;
-      target = finite.remove g.target m;
+      target = without_owner g.target m;
       grants = grants_of_others g.grants m;
       past = remembering g.past m stamp;
     }

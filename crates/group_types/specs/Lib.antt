@@ -9,11 +9,12 @@ pub mod Moment
 pub mod Code
 pub mod AssignorName
 pub mod Wanted
+pub mod Assignors
+pub mod Owners
+pub mod Uniform
 pub mod Group
 pub mod Settle
 pub mod Renewal
-pub mod Assignors
-pub mod Owners
 pub mod Leave
 pub mod Tick
 pub mod Request

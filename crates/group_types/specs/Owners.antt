@@ -1,14 +1,15 @@
 -- KIP-848, "Server Side Assignors": who owns which partition of a view.
-use Rattle.std.specs.Prelude.{◌≡◌, ◌↔◌, ℕ, ◌+◌, ◌-◌, ◌*◌, ◌/◌, ◌%◌, ◌<◌, pos, List, length, Some, IsTrue, if◌then◌else◌, nat_lt, slice_get, MatchOption}
+use Rattle.std.specs.Prelude.{◌≡◌, ◌↔◌, ℕ, ◌+◌, ◌-◌, ◌*◌, ◌/◌, ◌%◌, ◌<◌, ℤ, pos, negsuc, List, length, map, Bool, false, not, Some, IsTrue, if◌then◌else◌, nat_lt, slice_get, MatchOption}
 use Rattle.std.specs.List.{Contains}
+use Rattle.std.specs.Option.{option_map_or}
+use Rattle.std.specs.Str.{bytes_eq}
 use Rattle.std.specs.FinMap as finite
 use Rattle.group_types.specs.declared.partition.Partition.{Partition}
 use Rattle.group_types.specs.Text.{Text}
-use Rattle.group_types.specs.Sets.{has}
+use Rattle.group_types.specs.Sets.{has, of_list}
 use Rattle.group_types.specs.Partition.{partition_cmp, Partitions}
-use Rattle.group_types.specs.Topics.{Topic, Topics}
+use Rattle.group_types.specs.Topics.{Topic, Topics, Names}
 use Rattle.group_types.specs.Assignors.{Subscriber, subscribers_of}
-use Rattle.group_types.specs.Renewal.{IsSubscribed}
 
 -- the owner of each partition that has one, by the owner's id
 abbrev pub Spread : Type 0
@@ -17,6 +18,28 @@ Spread = finite.FinMap partition_cmp Text
 -- the set has just the partitions that the member owns
 abbrev pub IsShare : Spread → Text → Partitions → Type 0
 IsShare spread id set = (p : Partition) → IsTrue (has set p) ↔ (finite.get spread p ≡ Some id)
+
+-- whether the member with the id owns the partition
+abbrev pub owns : Spread → Text → Partition → Bool
+owns spread id p = option_map_or (λ owner. bytes_eq owner id) (finite.get spread p) false
+
+-- the partitions that the member owns
+abbrev pub share_of : Spread → Text → Partitions
+share_of spread id = of_list (finite.keys (finite.retain_keys spread (owns spread id)))
+
+abbrev pub IsIndex : ℤ → ℕ → Type 0
+IsIndex (pos i) count = i < count
+IsIndex (negsuc i) count = ⊥
+
+-- the partition is one of a topic of the view that is among the names
+abbrev pub IsSubscribed : Topics → Names → Partition → Type 0
+IsSubscribed view names p =
+    (name : Text) × (topic : Topic) × (finite.get view name ≡ Some topic) × IsTrue (has names name)
+    × (p.topic ≡ topic.id) × IsIndex p.index topic.count
+
+-- the set of all partitions that the names subscribe
+abbrev pub IsAllSubscribed : Topics → Names → Partitions → Type 0
+IsAllSubscribed view names set = (p : Partition) → IsTrue (has set p) ↔ IsSubscribed view names p
 
 -- some member with this id subscribes the partition
 abbrev pub IsSubscriber : Topics → List Subscriber → Partition → Text → Type 0
@@ -51,3 +74,17 @@ pub record IsRangeOwner (view : Topics) (subs : List Subscriber) (p : Partition)
 -- every partition has its owner under range, and no other has one
 abbrev pub IsRange : Topics → List Subscriber → Spread → Type 0
 IsRange view subs spread = (p : Partition) (id : Text) → (finite.get spread p ≡ Some id) ↔ IsRangeOwner view subs p id
+
+-- ---- changes
+
+-- the member's partitions have no owner any more, and the others have theirs
+abbrev pub without_owner : Spread → Text → Spread
+without_owner spread id = finite.retain_keys spread (λ p. not (owns spread id p))
+
+-- the id, with a new one in place of an old one
+abbrev pub renamed_id : Text → Text → Text → Text
+renamed_id old new id = if bytes_eq id old then new else id
+
+-- the old id's partitions are the new one's, and the others have their owners
+abbrev pub renamed : Spread → Text → Text → Spread
+renamed spread old new = finite.from_entries (map (λ e. (e.0, renamed_id old new e.1)) (finite.entries spread))

@@ -1,12 +1,15 @@
 -- KIP-848, "Target Assignment": a change raises the group epoch, and then the target is renewed.
-use Rattle.std.specs.Prelude.{◌≡◌, ◌⊎◌, ℕ, suc, ◌<◌, ℤ, pos, negsuc, Bool, true, false, IsTrue, ◌==◌, ◌↔◌, List, [], ◌∷◌, Option, Some, None}
+use Rattle.std.specs.Prelude.{◌≡◌, ◌⊎◌, suc, Bool, true, false, ◌==◌, List, map, Option, Some, None, IsPermutation, IsSorted}
 use Rattle.std.specs.List.{list_any}
 use Rattle.std.specs.FinMap as finite
-use Rattle.group_types.specs.declared.partition.Partition.{Partition}
+use Rattle.group_types.specs.declared.assignor_name.AssignorName.{AssignorName}
+use Rattle.group_types.specs.declared.assignor_name.AssignorName.TheVariants.{Range, Uniform}
 use Rattle.group_types.specs.Text.{Text}
 use Rattle.group_types.specs.Sets.{has}
-use Rattle.group_types.specs.Partition.{Partitions}
-use Rattle.group_types.specs.Topics.{Topic, Topics, Names}
+use Rattle.group_types.specs.Topics.{Topics}
+use Rattle.group_types.specs.Assignors.{Subscriber, member_cmp, assignor_of}
+use Rattle.group_types.specs.Owners.{Spread, IsRange}
+use Rattle.group_types.specs.Uniform.{IsUniform}
 use Rattle.group_types.specs.Group.{Record, Records, Target, Group}
 
 -- some member subscribes the name
@@ -28,32 +31,29 @@ Changes (Some before) after view g new =
     let same : Type 0 = (before.names ≡ after.names) × (before.assignor ≡ after.assignor) × (g.view ≡ view) in
     (same × (new ≡ g)) ⊎ (¬ same × (new ≡ changed g view))
 
-abbrev pub IsIndex : ℤ → ℕ → Type 0
-IsIndex (pos i) count = i < count
-IsIndex (negsuc i) count = ⊥
+-- a member as an assignor sees it
+abbrev pub subscriber_of : Text × Record → Subscriber
+subscriber_of m = record { id = m.0; instance = m.1.instance; names = m.1.names; assignor = m.1.assignor }
 
--- the partition is one of a topic of the view that is among the names
-abbrev pub IsSubscribed : Topics → Names → Partition → Type 0
-IsSubscribed view names p =
-    (name : Text) × (topic : Topic) × (finite.get view name ≡ Some topic) × IsTrue (has names name)
-    × (p.topic ≡ topic.id) × IsIndex p.index topic.count
+-- the members, in member order
+pub record AreMembers (records : Records) (subs : List Subscriber) : Type 0 where
+  pub same : IsPermutation (map subscriber_of (finite.entries records)) subs
+  pub sorted : IsSorted member_cmp subs
 
--- the set of all partitions that the names subscribe
-abbrev pub IsAllSubscribed : Topics → Names → Partitions → Type 0
-IsAllSubscribed view names set = (p : Partition) → IsTrue (has set p) ↔ IsSubscribed view names p
+-- the owners of the partitions of a view under an assignor, where the former owners are known
+abbrev pub AreOwners : AssignorName → Topics → List Subscriber → Spread → Spread → Type 0
+AreOwners Range view subs former target = IsRange view subs target
+AreOwners Uniform view subs former target = IsUniform view subs former target
 
--- The owners of the partitions of a view: a sole member owns all that it subscribes, under either
--- assignor. Of two members and more nothing is said yet.
-abbrev pub IsOwners : List (Text × Record) → Topics → Target → Type 0
-IsOwners [] view target = target ≡ finite.empty
-IsOwners (m ∷ []) view target =
-    (set : Partitions) × IsAllSubscribed view m.1.names set × (target ≡ finite.insert finite.empty m.0 set)
-IsOwners (m ∷ n ∷ others) view target = ⊥
+-- KIP-848, "Server Side Assignors": the owners under the assignor that the members ask for
+abbrev pub IsTarget : Records → Topics → Target → Target → Type 0
+IsTarget records view former target =
+    (subs : List Subscriber) × AreMembers records subs × AreOwners (assignor_of subs) view subs former target
 
 abbrev pub RenewsWhere : Bool → Group → Group → Type 0
 RenewsWhere true g new = new ≡ g
 RenewsWhere false g new =
-    (target : Target) × IsOwners (finite.entries g.records) g.view target
+    (target : Target) × IsTarget g.records g.view g.target target
     × (new ≡ record g { target = target; target_epoch = g.epoch })
 
 -- the target is renewed where its epoch isn't the group's

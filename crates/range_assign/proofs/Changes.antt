@@ -21,11 +21,11 @@ use Rattle.group_types.specs.declared.partition.Partition.{Partition}
 use Rattle.group_types.specs.Text.{Text, text_cmp}
 use Rattle.group_types.specs.Sets.{has}
 use Rattle.group_types.specs.Partition.{partition_cmp, Partitions}
-use Rattle.group_types.specs.Owners.{Spread}
+use Rattle.group_types.specs.Owners.{Spread, owns, renamed, renamed_id, without_owner}
 use Rattle.group_types.proofs.Orders.{partition_cmp-IsAntisymmetric, partition_cmp_total, text_cmp_total}
 use Rattle.group_types.proofs.SetLemmas.{apart_of_common}
 use Rattle.range_assign.specs.declared.spread.Share.{Share}
-use Rattle.range_assign.specs.Shares.{AreInIdOrder, AreShares, HasNoShare, IdsRise, IsPlace, TakesShare, owns, renamed, renamed_id, share_in, shares_in, spread_of, without_member}
+use Rattle.range_assign.specs.Shares.{AreInIdOrder, AreShares, HasNoShare, IdsRise, IsPlace, TakesShare, share_in, shares_in, spread_of}
 use Rattle.range_assign.proofs.IdOrder.{AreShares-of_order}
 use Rattle.range_assign.proofs.Spreads.{AreShares-permutation, HaveTwoIds, ShareNothing, get-spread_of, owner_in, owner_in-has, spread_of-permutation}
 
@@ -67,8 +67,8 @@ bytes_eq-itself id = (bytes_eq-Decides id id).1 refl
 
 -- ---- a member that is taken out
 
-pub get-without_member : (spread : Spread) (id : Text) (p : Partition) → finite.get (without_member spread id) p ≡ cond (owns spread id p) None (finite.get spread p)
-get-without_member spread id p =
+pub get-without_owner : (spread : Spread) (id : Text) (p : Partition) → finite.get (without_owner spread id) p ≡ cond (owns spread id p) None (finite.get spread p)
+get-without_owner spread id p =
     finite.get-retain_keys spread (λ q. not (owns spread id q)) p (λ q tie. ap (λ o. not (option_map_or (λ owner. bytes_eq owner id) o false)) (finite.get_tied partition_cmp_total spread p q tie))
     ∙ turned (owns spread id p) (finite.get spread p)
   where
@@ -77,9 +77,9 @@ get-without_member spread id p =
     turned false o = refl
 
 -- where the id owns nothing, nothing changes
-pub without_member-none : (spread : Spread) (id : Text) → ((p : Partition) → finite.get spread p ≡ Some id → ⊥) → without_member spread id ≡ spread
-without_member-none spread id none =
-    finite.same_map partition_cmp_total partition_cmp-IsAntisymmetric _ _ (λ p. get-without_member spread id p ∙ kept p (finite.get spread p) refl)
+pub without_owner-none : (spread : Spread) (id : Text) → ((p : Partition) → finite.get spread p ≡ Some id → ⊥) → without_owner spread id ≡ spread
+without_owner-none spread id none =
+    finite.same_map partition_cmp_total partition_cmp-IsAntisymmetric _ _ (λ p. get-without_owner spread id p ∙ kept p (finite.get spread p) refl)
   where
     kept : (p : Partition) (o : Option Text) → finite.get spread p ≡ o → cond (option_map_or (λ owner. bytes_eq owner id) o false) None o ≡ o
     kept p None is = refl
@@ -94,10 +94,10 @@ owns_nothing-of_none xs id none p is =
     let owner = owner_in-has xs p id (sym (get-spread_of xs p) ∙ is) in
     none owner.0 owner.1 owner.2
 
-pub without_member-spread_of : (x : Text × Partitions) (xs : List (Text × Partitions)) → AreShares (x ∷ xs) → without_member (spread_of (x ∷ xs)) x.0 ≡ spread_of xs
-without_member-spread_of x xs are =
+pub without_owner-spread_of : (x : Text × Partitions) (xs : List (Text × Partitions)) → AreShares (x ∷ xs) → without_owner (spread_of (x ∷ xs)) x.0 ≡ spread_of xs
+without_owner-spread_of x xs are =
     finite.same_map partition_cmp_total partition_cmp-IsAntisymmetric _ _ (λ p.
-    get-without_member (spread_of (x ∷ xs)) x.0 p
+    get-without_owner (spread_of (x ∷ xs)) x.0 p
     ∙ ap (λ o. cond (option_map_or (λ owner. bytes_eq owner x.0) o false) None o) (get-spread_of (x ∷ xs) p)
     ∙ elim (has x.1 p) as (λ b. has x.1 p ≡ b → cond (option_map_or (λ owner. bytes_eq owner x.0) (cond b (Some x.0) (owner_in xs p)) false) None (cond b (Some x.0) (owner_in xs p)) ≡ owner_in xs p) [
       | true ↦ λ there. ap (λ b. cond b None (Some x.0)) (bytes_eq-itself x.0) ∙ sym (not_of_others x xs are p there)
@@ -109,13 +109,13 @@ without_member-spread_of x xs are =
     other p None is = refl
     other p (Some id) is = ap (λ b. cond b None (Some id)) (none_of xs x.0 (HasNoShare-tail x xs are) p id is)
 
-pub without_member-taken : (old new : List (Text × Partitions)) (id : Text) (taken : Option Partitions) → AreShares old → HasNoShare new id → TakesShare old new id taken
-    → spread_of new ≡ without_member (spread_of old) id
-without_member-taken old new id None are gone same =
-    ap spread_of same ∙ sym (without_member-none (spread_of old) id (λ p is. owns_nothing-of_none new id gone p (ap (λ xs. finite.get (spread_of xs) p) same ∙ is)))
-without_member-taken old new id (Some set) are gone moves =
-    sym (without_member-spread_of (id, set) new (AreShares-permutation old ((id, set) ∷ new) moves are))
-    ∙ ap (λ spread. without_member spread id) (sym (spread_of-permutation old ((id, set) ∷ new) moves are.sets_apart))
+pub without_owner-taken : (old new : List (Text × Partitions)) (id : Text) (taken : Option Partitions) → AreShares old → HasNoShare new id → TakesShare old new id taken
+    → spread_of new ≡ without_owner (spread_of old) id
+without_owner-taken old new id None are gone same =
+    ap spread_of same ∙ sym (without_owner-none (spread_of old) id (λ p is. owns_nothing-of_none new id gone p (ap (λ xs. finite.get (spread_of xs) p) same ∙ is)))
+without_owner-taken old new id (Some set) are gone moves =
+    sym (without_owner-spread_of (id, set) new (AreShares-permutation old ((id, set) ∷ new) moves are))
+    ∙ ap (λ spread. without_owner spread id) (sym (spread_of-permutation old ((id, set) ∷ new) moves are.sets_apart))
 
 -- ---- a member that gets another id
 
@@ -243,7 +243,7 @@ no_place x xs i are place =
 -- where an id that owns nothing is taken out, nothing changes
 pub spread_of-taken : (old new : List (Text × Partitions)) (id : Text) (taken : Option Partitions) → AreShares old → HasNoShare new id → TakesShare old new id taken
     → ((p : Partition) → finite.get (spread_of old) p ≡ Some id → ⊥) → spread_of new ≡ spread_of old
-spread_of-taken old new id taken are gone takes none = without_member-taken old new id taken are gone takes ∙ without_member-none (spread_of old) id none
+spread_of-taken old new id taken are gone takes none = without_owner-taken old new id taken are gone takes ∙ without_owner-none (spread_of old) id none
 
 -- the share of an old id was taken out, and was put in again under a new one
 pub renamed-put : (before between after : List (Text × Partitions)) (old new : Text) (set : Partitions) → AreShares before → IsPermutation before ((old, set) ∷ between)

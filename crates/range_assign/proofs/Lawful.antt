@@ -9,8 +9,7 @@ use Rattle.group_types.specs.Text.{Text}
 use Rattle.group_types.specs.Topics.{Topics}
 use Rattle.group_types.specs.Sets.{has}
 use Rattle.group_types.specs.Assignors.{Subscriber, subscribers_of}
-use Rattle.group_types.specs.Renewal.{IsIndex}
-use Rattle.group_types.specs.Owners.{IsRangeOwner, IsSubscriber, range_place}
+use Rattle.group_types.specs.Owners.{IsIndex, IsRangeOwner, IsSubscriber, range_place}
 use Rattle.topic_meta.specs.Facts.{AreImageTopics}
 use Rattle.range_assign.specs.Laws.{RangeIsLawful, SubscribedPartitionsHaveAnOwner}
 use Rattle.range_assign.proofs.Dealt.{place_of_subscriber, pos_inj}

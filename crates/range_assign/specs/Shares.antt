@@ -1,8 +1,6 @@
 -- The shares of members, and the spread that they make.
-use Rattle.std.specs.Prelude.{Bool, false, not, if◌then◌else◌, Option, MatchOption, IsPermutation, ◌≡◌, ◌≢◌, ◌<◌, ◌≤◌, ℕ, List, [], ◌∷◌, ◌++◌, map, length, AllPairs, Result, MatchResult}
+use Rattle.std.specs.Prelude.{Option, MatchOption, IsPermutation, ◌≡◌, ◌≢◌, ◌<◌, ◌≤◌, ℕ, List, [], ◌∷◌, ◌++◌, map, length, AllPairs, Result, MatchResult}
 use Rattle.std.specs.List.{AllWithin, Contains, HoldsAt}
-use Rattle.std.specs.Option.{option_map_or}
-use Rattle.std.specs.Str.{bytes_eq}
 use Rattle.std.specs.declared.cmp.Ordering.TheVariants.{Less, Greater}
 use Rattle.std.specs.Coded.{Coded, coded_list, coded_ℕ}
 use Rattle.std.specs.FinMap as finite
@@ -55,22 +53,6 @@ IsPlace shares id r =
     (λ i. (i ≤ length shares) × AllWithin (λ s. text_cmp s.0 id ≡ Less) shares 0 i × AllWithin (λ s. text_cmp s.0 id ≡ Greater) shares i (length shares))
 
 -- ---- changes
-
--- whether the member with the id owns the partition
-abbrev pub owns : Spread → Text → Partition → Bool
-owns spread id p = option_map_or (λ owner. bytes_eq owner id) (finite.get spread p) false
-
--- the member's partitions have no owner any more, and the others have theirs
-abbrev pub without_member : Spread → Text → Spread
-without_member spread id = finite.retain_keys spread (λ p. not (owns spread id p))
-
--- the id, with a new one in place of an old one
-abbrev pub renamed_id : Text → Text → Text → Text
-renamed_id old new id = if bytes_eq id old then new else id
-
--- the old id's partitions are the new one's, and the others have their owners
-abbrev pub renamed : Spread → Text → Text → Spread
-renamed spread old new = finite.from_entries (map (λ e. (e.0, renamed_id old new e.1)) (finite.entries spread))
 
 -- no share has the id
 abbrev pub HasNoShare : List (Text × Partitions) → Text → Type 0

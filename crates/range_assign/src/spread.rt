@@ -3,8 +3,8 @@
 ghost use Rattle.std.specs.Prelude.{◌≡◌, ◌<◌, ◌∷◌, IfSome, IsPermutation, MatchOption, vec_capacity, vec_len};
 ghost use Rattle.std.specs.FinMap as finite;
 ghost use Rattle.group_types.specs.declared.partition.Partition.{Partition as Key};
-ghost use Rattle.group_types.specs.Owners.{IsShare};
-ghost use Rattle.range_assign.specs.Shares.{AreInIdOrder, AreShares, HasNoShare, IdsRise, IsPlace, TakesShare, renamed, share_in, shares_in, spread_of, without_member};
+ghost use Rattle.group_types.specs.Owners.{IsShare, renamed, without_owner};
+ghost use Rattle.range_assign.specs.Shares.{AreInIdOrder, AreShares, HasNoShare, IdsRise, IsPlace, TakesShare, share_in, shares_in, spread_of};
 
 use group_types::{MemberId, PartSet};
 use std::alloc::Global;
@@ -71,7 +71,7 @@ impl Spread {
 
     /// Takes the member with this id out: its partitions have no owner any more. Takes no memory.
     pub fn drop_member(&mut self, id: &str)
-        ensures { self.new ≡ without_member self.old id.now }
+        ensures { self.new ≡ without_owner self.old id.now }
     {
         let _ = take_share(&mut self.shares, id);
     }

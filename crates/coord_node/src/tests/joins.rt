@@ -28,7 +28,7 @@ fn a_first_join_makes_the_group(rt: HostRuntime) -> Result<(), Fail> {
         index,
     };
     let both = |set: &PartSet| set.len() == 2 && set.contains(&part(0)) && set.contains(&part(1));
-    assert!(rt; group.target(id).is_some_and(both));
+    assert!(rt; group.target().of(id).set().is_some_and(both));
     assert!(rt; group.granted(id).is_some_and(both));
     assert_eq!(rt; answer(&rt, &mut node, &body, &mut out)?, Answered::Closes);
     assert_eq!(rt; out.as_slice(), REPLY.as_slice());

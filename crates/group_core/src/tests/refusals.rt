@@ -73,3 +73,40 @@ fn assignors_are_range_and_uniform(rt: HostRuntime) -> Result<(), Fail> {
     assert_eq!(rt; code(&rt, &request)?, Code::InvalidRequest);
     Ok(())
 }
+
+#[test]
+fn no_epoch_comes_after_the_greatest(rt: HostRuntime) -> Result<(), Fail> {
+    for assignor in [Some("range"), None] {
+        let mut request = tried!(rt, join(rt.alloc(), &["t"]), true);
+        request.server_assignor = assignor;
+        let mut group = Group::starting_at(rt.alloc(), 0, EpochNumber::new(2_147_483_647));
+        let Outcome::Replied(reply) = outcome(&rt, &mut group, &request)? else {
+            return Err("a join is answered".into());
+        };
+        assert_eq!(rt; reply.code, Code::CoordinatorNotAvailable);
+        assert_eq!(rt; reply.epoch, 0);
+        assert!(rt; reply.member.is_none());
+        assert!(rt; reply.assignment.is_none());
+        assert_eq!(rt; group.epoch().as_u32(), 2_147_483_647);
+        assert_eq!(rt; group.target().epoch().as_u32(), 2_147_483_647);
+        assert_eq!(rt; group.members(), 0);
+    }
+    Ok(())
+}
+
+#[test]
+fn the_request_is_checked_before_the_epoch(rt: HostRuntime) -> Result<(), Fail> {
+    let mut request = tried!(rt, join(rt.alloc(), &["t"]), true);
+    let mut group = Group::starting_at(rt.alloc(), 0, EpochNumber::new(2_147_483_647));
+    request.server_assignor = Some("sticky");
+    let Outcome::Replied(reply) = outcome(&rt, &mut group, &request)? else {
+        return Err("a join is answered".into());
+    };
+    assert_eq!(rt; reply.code, Code::UnsupportedAssignor);
+    request.rebalance_timeout_ms = -1;
+    let Outcome::Replied(reply) = outcome(&rt, &mut group, &request)? else {
+        return Err("a join is answered".into());
+    };
+    assert_eq!(rt; reply.code, Code::InvalidRequest);
+    Ok(())
+}

@@ -1,6 +1,7 @@
 use Rattle.std.proofs.Common.{◌≡◌, ap, sym, subst, ◌∙◌, Some}
 use Rattle.std.specs.FinMap as finite
-use Rattle.range_assign.specs.Shares.{HasNoShare, renamed, shares_in, spread_of}
+use Rattle.group_types.specs.Owners.{renamed}
+use Rattle.range_assign.specs.Shares.{HasNoShare, shares_in, spread_of}
 use Rattle.range_assign.proofs.Changes.{AreShares-renamed, HasNoShare-taken, renamed-none, renamed-put, spread_of-taken}
 use Rattle.range_assign.proofs.IdOrder.{AreShares-of_order}
 use Rattle.range_assign.proofs.Spreads.{AreShares-permutation}

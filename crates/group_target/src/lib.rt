@@ -1,0 +1,12 @@
+//! The target assignment of a consumer group: who is to own which partition (KIP-848, "Target Assignment").
+//!
+//! A [`Target`] is renewed by the assignor that the group's members ask for. Start from [`Target::new`] and
+//! [`Target::renew`].
+#![tactic(auto)]
+
+mod target;
+#[cfg(test)]
+mod tests;
+
+pub use range_assign::{Subs, Subscriber};
+pub use target::Target;

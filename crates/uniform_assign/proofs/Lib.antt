@@ -1,0 +1,17 @@
+pub mod Lists
+pub mod Owners
+pub mod PartitionOrder
+pub mod Soundness
+pub mod OneSpread
+pub mod Drawn
+pub mod Apart
+pub mod Counted
+pub mod Boards
+pub mod Counts
+pub mod Moves
+pub mod Made
+pub mod Former
+pub mod Kept
+pub mod Filled
+pub mod Fewest
+pub mod Dealt

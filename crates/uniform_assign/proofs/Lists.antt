@@ -1,0 +1,87 @@
+-- Elements of lists by their places.
+use Rattle.std.proofs.Common.{◌≡◌, ◌⊎◌, ℕ, zero, suc, ◌<◌, ◌+◌, Bool, true, false, cond, List, [], ◌∷◌, ◌++◌, map, length, refl, sym, ap, ◌∙◌, arith, inl, inr, Option, Some, None}
+use Rattle.std.specs.List.{Contains, filter, flat_map, range_with_len, slice_get}
+use Rattle.std.specs.Option.{option_map}
+use Rattle.std.proofs.lemmas.List.FromFn.{get_or-range_with_len, length-range_with_len}
+use Rattle.std.proofs.lemmas.Option.{get_or_from_slice_get, same_Some, slice_get-get_or, slice_get-map, slice_get_within}
+
+pub Contains-at : {X : Type 0} (xs : List X) (k : ℕ) (x : X) → slice_get xs k ≡ Some x → Contains xs x
+Contains-at xs k x is = (k, slice_get_within xs k x is, get_or_from_slice_get xs k x x is)
+
+pub at_Contains : {X : Type 0} (xs : List X) (x : X) → Contains xs x → (k : ℕ) × (slice_get xs k ≡ Some x)
+at_Contains xs x (k, within, is) = (k, slice_get-get_or xs k x within ∙ ap Some is)
+
+pub slice_get-append_left : {X : Type 0} (xs ys : List X) (k : ℕ) (x : X) → slice_get xs k ≡ Some x → slice_get (xs ++ ys) k ≡ Some x
+slice_get-append_left [] ys k x is = cc
+slice_get-append_left (y ∷ xs) ys zero x is = is
+slice_get-append_left (y ∷ xs) ys (suc k) x is = slice_get-append_left xs ys k x is
+
+pub slice_get-append_right : {X : Type 0} (xs ys : List X) (k : ℕ) (x : X) → slice_get ys k ≡ Some x → (j : ℕ) × (slice_get (xs ++ ys) j ≡ Some x)
+slice_get-append_right [] ys k x is = (k, is)
+slice_get-append_right (y ∷ xs) ys k x is = let later = slice_get-append_right xs ys k x is in (suc later.0, later.1)
+
+pub slice_get-append_cases : {X : Type 0} (xs ys : List X) (k : ℕ) (x : X) → slice_get (xs ++ ys) k ≡ Some x → (slice_get xs k ≡ Some x) ⊎ ((j : ℕ) × (k ≡ length xs + j) × (slice_get ys j ≡ Some x))
+slice_get-append_cases [] ys k x is = inr (k, omega arith, is)
+slice_get-append_cases (y ∷ xs) ys zero x is = inl is
+slice_get-append_cases (y ∷ xs) ys (suc k) x is = elim (slice_get-append_cases xs ys k x is) [
+  | inl here ↦ inl here
+  | inr (j, at, there) ↦ inr (j, omega arith, there)
+]
+
+pub flat_map-at : {X A : Type 0} (f : X → List A) (xs : List X) (t i : ℕ) (x : X) (a : A) → slice_get xs t ≡ Some x → slice_get (f x) i ≡ Some a → (k : ℕ) × (slice_get (flat_map f xs) k ≡ Some a)
+flat_map-at f [] t i x a is_x is_a = cc
+flat_map-at f (y ∷ xs) zero i x a is_x is_a =
+    (i, slice_get-append_left (f y) (flat_map f xs) i a (ap (λ z. slice_get (f z) i) (same_Some y x is_x) ∙ is_a))
+flat_map-at f (y ∷ xs) (suc t) i x a is_x is_a =
+    let later = flat_map-at f xs t i x a is_x is_a in slice_get-append_right (f y) (flat_map f xs) later.0 a later.1
+
+pub flat_map-from : {X A : Type 0} (f : X → List A) (xs : List X) (k : ℕ) (a : A) → slice_get (flat_map f xs) k ≡ Some a
+    → (t : ℕ) × (x : X) × (i : ℕ) × (slice_get xs t ≡ Some x) × (slice_get (f x) i ≡ Some a)
+flat_map-from f [] k a is = cc
+flat_map-from f (x ∷ xs) k a is = elim (slice_get-append_cases (f x) (flat_map f xs) k a is) [
+  | inl here ↦ (0, x, k, refl, here)
+  | inr (j, at, there) ↦ let later = flat_map-from f xs j a there in (suc later.0, later.1, later.2, later.3, later.4)
+]
+
+pub range-at : (n i : ℕ) → i < n → slice_get (range_with_len 0 n) i ≡ Some i
+range-at n i within =
+    slice_get-get_or (range_with_len 0 n) i 0 (omega (arith, length-range_with_len 0 n)) ∙ ap Some (get_or-range_with_len 0 n i 0 within ∙ (let same : 0 + i ≡ i = omega arith in same))
+
+pub range-from : (n k i : ℕ) → slice_get (range_with_len 0 n) k ≡ Some i → (k ≡ i) × (i < n)
+range-from n k i is =
+    let within = slice_get_within (range_with_len 0 n) k i is in
+    let long = length-range_with_len 0 n in
+    let low : k < n = omega arith in
+    let same = same_Some k i (sym (range-at n k low) ∙ is) in
+    (same, omega arith)
+
+pub filter-at : {X : Type 0} (p : X → Bool) (xs : List X) (k : ℕ) (x : X) → slice_get xs k ≡ Some x → p x ≡ true → (j : ℕ) × (slice_get (filter p xs) j ≡ Some x)
+filter-at p [] k x is there = cc
+filter-at p (y ∷ xs) zero x is there =
+    (0, ap (λ b. slice_get (cond b (y ∷ filter p xs) (filter p xs)) 0) (ap p (same_Some y x is) ∙ there) ∙ is)
+filter-at p (y ∷ xs) (suc k) x is there =
+    let later = filter-at p xs k x is there in
+    elim (p y) as (λ b. (j : ℕ) × (slice_get (cond b (y ∷ filter p xs) (filter p xs)) j ≡ Some x)) [
+      | true ↦ (suc later.0, later.1)
+      | false ↦ later
+    ]
+
+pub option_map-from : {X Y : Type 0} (f : X → Y) (o : Option X) (y : Y) → option_map f o ≡ Some y → (x : X) × (o ≡ Some x) × (f x ≡ y)
+option_map-from f None y is = cc
+option_map-from f (Some x) y is = (x, refl, same_Some (f x) y is)
+
+pub slice_get-map_from : {X Y : Type 0} (f : X → Y) (xs : List X) (k : ℕ) (y : Y) → slice_get (map f xs) k ≡ Some y → (x : X) × (slice_get xs k ≡ Some x) × (f x ≡ y)
+slice_get-map_from f xs k y is = option_map-from f (slice_get xs k) y (sym (slice_get-map f xs k) ∙ is)
+
+pub slice_get-map_at : {X Y : Type 0} (f : X → Y) (xs : List X) (k : ℕ) (x : X) → slice_get xs k ≡ Some x → slice_get (map f xs) k ≡ Some (f x)
+slice_get-map_at f xs k x is = slice_get-map f xs k ∙ ap (option_map f) is
+
+pub some_at : {X : Type 0} (xs : List X) (k : ℕ) → k < length xs → (x : X) × (slice_get xs k ≡ Some x)
+some_at [] k within = absurd (omega arith)
+some_at (x ∷ xs) zero within = (x, refl)
+some_at (x ∷ xs) (suc k) within = some_at xs k (omega arith)
+
+-- what was pushed is at the end
+pub pushed_at : {X : Type 0} (xs : List X) (x : X) → slice_get (xs ++ x ∷ []) (length xs) ≡ Some x
+pushed_at [] x = refl
+pushed_at (y ∷ xs) x = pushed_at xs x

@@ -1,0 +1,309 @@
+-- What can move, in the spread that a draft shows.
+use Rattle.std.proofs.Common.{◌≡◌, ◌⊎◌, ℕ, ◌<◌, ◌≤◌, ◌+◌, List, [], ◌∷◌, ◌++◌, length, get_or, set as set_at, refl, sym, ap, subst, ◌∙◌, arith, inl, inr, Option, Some, None, length-set}
+use Rattle.std.specs.Global.{Vec}
+use Rattle.std.specs.List.{slice_get}
+use Rattle.std.specs.Option.{option_and_then}
+use Rattle.std.proofs.lemmas.Bool.{cases_lt, cases_order}
+use Rattle.std.proofs.lemmas.Option.{same_Some, slice_get_within}
+use Rattle.group_types.specs.declared.partition.Partition.{Partition}
+use Rattle.group_types.specs.Text.{Text}
+use Rattle.group_types.specs.Topics.{Topics}
+use Rattle.group_types.specs.Assignors.{Subscriber, subscribers_of}
+use Rattle.group_types.specs.Owners.{Spread}
+use Rattle.group_types.specs.Uniform.{AreMoves, IsFewest, IsLevel, IsNextMove, count, in_partition_order}
+use Rattle.uniform_assign.specs.declared.board.Board.{Board}
+use Rattle.uniform_assign.specs.declared.board.Place.{Place}
+use Rattle.uniform_assign.specs.declared.draft.Draft.{Draft}
+use Rattle.uniform_assign.specs.declared.level.Move.{Move}
+use Rattle.uniform_assign.specs.Boards.{AreTakersOf, IsBoard}
+use Rattle.uniform_assign.specs.Drafts.{AreCounts, IsDraft, IsLeast, drawn_on}
+use Rattle.uniform_assign.specs.Moves.{CanGive, ComesBefore, IsBetter, IsFirst, IsMove, IsMoveOf, IsNext}
+use Rattle.uniform_assign.proofs.Boards.{as_many_places, at_place, here_taker, parts_are_apart, taker_here}
+use Rattle.uniform_assign.proofs.Counted.{count-drawn}
+use Rattle.uniform_assign.proofs.Drawn.{drawn-at, drawn-owner, drawn-set}
+use Rattle.uniform_assign.proofs.Lists.{Contains-at, at_Contains, option_map-from, some_at}
+
+-- the member that an owner is
+owner-from : (subs : List Subscriber) (o : Option ℕ) (s : Subscriber) → option_and_then (slice_get subs) o ≡ Some s → (m : ℕ) × (o ≡ Some m) × (slice_get subs m ≡ Some s)
+owner-from subs None s is = cc
+owner-from subs (Some m) s is = (m, refl, is)
+
+-- a partition was given
+pub IsDraft-give : (board : Board) (old new : Draft) (k : ℕ) (o : Option ℕ) → IsDraft board old → new.owners.items ≡ set_at old.owners.items k o → length new.counts.items ≡ length old.counts.items
+    → AreCounts new.owners.items new.counts.items → IsDraft board new
+IsDraft-give board old new k o are owners many counts = record {
+  as_many_owners = ap length owners ∙ length-set old.owners.items k o ∙ are.as_many_owners;
+  as_many_counts = many ∙ are.as_many_counts;
+  counts = counts;
+}
+
+module _ (board : Board) (draft : Draft) (is : IsBoard board) (are : IsDraft board draft) where
+  abbrev parts : List (Text × Partition)
+  parts = in_partition_order board.view.now
+
+  abbrev subs : List Subscriber
+  subs = board.subs.now
+
+  abbrev spread : Spread
+  spread = drawn_on board draft.owners.items
+
+  -- the counts are those of the spread
+  pub count-shown : (m : ℕ) (s : Subscriber) → slice_get subs m ≡ Some s → get_or draft.counts.items m 0 ≡ count spread s.id
+  count-shown m s is_s =
+      let within = slice_get_within subs m s is_s in
+      let many = are.as_many_counts in
+      let owners = are.as_many_owners in
+      let places = as_many_places board is in
+      are.counts.counted m (omega arith)
+      ∙ sym (count-drawn parts subs draft.owners.items m s (parts_are_apart board is) is.apart (omega arith) (λ k n is_n. let low = are.counts.within k n is_n in omega arith) is_s)
+
+  pub owner-at : (k m : ℕ) → slice_get draft.owners.items k ≡ Some (Some m) → (s : Subscriber) × (slice_get subs m ≡ Some s)
+  owner-at k m is_m = let low = are.counts.within k m is_m in let many = are.as_many_counts in some_at subs m (omega arith)
+
+  -- who can give a partition away owns it
+  pub can_give-owns : (from k : ℕ) → CanGive board draft from k → slice_get draft.owners.items k ≡ Some (Some from)
+  can_give-owns from k can =
+      let owners = are.as_many_owners in
+      let places = as_many_places board is in
+      let in_parts = slice_get_within parts k can.moved can.is_partition in
+      let (o, is_o) = some_at draft.owners.items k (omega arith) in
+      let shown = drawn-at subs parts draft.owners.items k can.moved o (parts_are_apart board is) can.is_partition is_o in
+      let (s, is_s, same_id) = option_map-from (λ (m : Subscriber). m.id) (option_and_then (slice_get subs) o) can.owner.id (sym shown ∙ can.owns) in
+      let (m, is_m, there) = owner-from subs o s is_s in
+      is_o ∙ ap Some is_m ∙ ap (λ n. Some (Some n)) (is.apart m from s can.owner there can.is_member same_id)
+
+  -- the least count is that of the member that owns the fewest
+  pub fewest-shown : (name : Text) (takers : List ℕ) (m : ℕ) (s : Subscriber) → AreTakersOf subs name takers → IsLeast draft.counts.items takers m → slice_get subs m ≡ Some s
+      → IsFewest spread (subscribers_of subs name) s
+  fewest-shown name takers m s are_takers least is_s =
+      let (t, is_t, there) = taker_here subs name takers least.place m are_takers least.is_there in
+      let same : t ≡ s = same_Some t s (sym is_t ∙ is_s) in
+      let mine = count-shown m s is_s in
+      record {
+        place = least.place;
+        is_there = there ∙ ap Some same;
+        fewest = λ k n is_n.
+            let (j, is_j, there_n) = here_taker subs name takers k n are_takers is_n in
+            let low = least.least k j is_j in
+            let his = count-shown j n there_n in
+            omega arith;
+        first = λ k n early is_n.
+            let (j, is_j, there_n) = here_taker subs name takers k n are_takers is_n in
+            let low = least.first k j early is_j in
+            let his = count-shown j n there_n in
+            omega arith;
+      }
+
+  -- ---- a move
+
+  pub move-taker : (m : Move) → IsMove board draft m → (x : Text × Partition) → slice_get parts m.partition ≡ Some x
+      → (to : Subscriber) × (slice_get subs m.to ≡ Some to) × IsFewest spread (subscribers_of subs x.0) to
+  move-taker m move x is_x =
+      let at = at_place board is m.partition move.place move.is_place in
+      let same_x : (at.topic.0, move.place.partition) ≡ x = same_Some _ x (sym at.is_part ∙ is_x) in
+      let same_takers : at.takers ≡ move.takers = same_Some at.takers move.takers (sym at.are_there ∙ move.are_takers) in
+      let least = subst (λ (v : Vec ℕ). IsLeast draft.counts.items v.items m.to) (sym same_takers) move.is_least in
+      let (to, is_to, there) = taker_here subs at.topic.0 at.takers.items least.place m.to at.are_takers least.is_there in
+      (to, is_to, subst (λ y. IsFewest spread (subscribers_of subs y.0) to) same_x (fewest-shown at.topic.0 at.takers.items m.to to at.are_takers least is_to))
+
+  pub move-can : (m : Move) → IsMove board draft m → CanGive board draft m.from m.partition
+  move-can m move =
+      let at = at_place board is m.partition move.place move.is_place in
+      let (owner, is_owner) = owner-at m.partition m.from move.owns in
+      let (to, is_to, fewest) = move-taker m move (at.topic.0, move.place.partition) at.is_part in
+      let mine = count-shown m.from owner is_owner in
+      let his = count-shown m.to to is_to in
+      let low = move.fewer in
+      record {
+        owner = owner;
+        is_member = is_owner;
+        moved = (at.topic.0, move.place.partition);
+        is_partition = at.is_part;
+        owns = drawn-owner subs parts draft.owners.items m.partition (at.topic.0, move.place.partition) m.from owner (parts_are_apart board is) at.is_part move.owns is_owner;
+        other = to;
+        subscribes = Contains-at (subscribers_of subs at.topic.0) fewest.place to fewest.is_there;
+        fewer = omega arith;
+      }
+
+  -- a partition without an owner cannot move, nor one that nobody takes, nor one whose takers own as many nearly
+  pub no_owner-stays : (k : ℕ) → slice_get draft.owners.items k ≡ Some None → (from : ℕ) → ¬ CanGive board draft from k
+  no_owner-stays k none from can = let owns = can_give-owns from k can in cc
+
+  taker-of : (k from : ℕ) (place : Place) (takers : Vec ℕ) → slice_get board.places.items k ≡ Some place → slice_get board.takers.items place.topic ≡ Some takers → (can : CanGive board draft from k)
+      → (j t : ℕ) × (slice_get takers.items j ≡ Some t) × (slice_get subs t ≡ Some can.other)
+  taker-of k from place takers is_place is_takers can =
+      let at = at_place board is k place is_place in
+      let same_x : (at.topic.0, place.partition) ≡ can.moved = same_Some _ can.moved (sym at.is_part ∙ can.is_partition) in
+      let same_takers : at.takers ≡ takers = same_Some at.takers takers (sym at.are_there ∙ is_takers) in
+      let (j, is_j) = at_Contains (subscribers_of subs can.moved.0) can.other can.subscribes in
+      let (t, is_t, there) = here_taker subs at.topic.0 at.takers.items j can.other at.are_takers (ap (λ y. slice_get (subscribers_of subs y.0) j) same_x ∙ is_j) in
+      (j, t, ap (λ (v : Vec ℕ). slice_get v.items j) (sym same_takers) ∙ is_t, there)
+
+  pub no_taker-stays : (k : ℕ) (place : Place) (takers : Vec ℕ) → slice_get board.places.items k ≡ Some place → slice_get board.takers.items place.topic ≡ Some takers → takers.items ≡ []
+      → (from : ℕ) → ¬ CanGive board draft from k
+  no_taker-stays k place takers is_place is_takers none from can =
+      let (j, t, is_t, there) = taker-of k from place takers is_place is_takers can in
+      let nowhere : slice_get [] j ≡ Some t = ap (λ xs. slice_get xs j) (sym none) ∙ is_t in
+      nobody j t nowhere
+    where
+      nobody : (j t : ℕ) → slice_get [] j ≡ Some t → ⊥
+      nobody j t is_t = cc
+
+  pub near-stays : (k owner to : ℕ) (place : Place) (takers : Vec ℕ) → slice_get board.places.items k ≡ Some place → slice_get board.takers.items place.topic ≡ Some takers
+      → slice_get draft.owners.items k ≡ Some (Some owner) → IsLeast draft.counts.items takers.items to → get_or draft.counts.items owner 0 ≤ get_or draft.counts.items to 0 + 1
+      → (from : ℕ) → ¬ CanGive board draft from k
+  near-stays k owner to place takers is_place is_takers owns least near from can =
+      let (j, t, is_t, there) = taker-of k from place takers is_place is_takers can in
+      let same : owner ≡ from = same_Some owner from (same_Some (Some owner) (Some from) (sym owns ∙ can_give-owns from k can)) in
+      let low = least.least j t is_t in
+      let his = count-shown t can.other there in
+      let mine = count-shown from can.owner can.is_member in
+      let equal = ap (λ n. get_or draft.counts.items n 0) same in
+      let fewer = can.fewer in
+      omega arith
+
+  -- ---- place by place
+
+  below_next : (n k : ℕ) → k < n + 1 → (k < n) ⊎ (k ≡ n)
+  below_next n k low = elim (cases_lt k n) [ inl below ↦ inl below | inr above ↦ inr (omega arith) ]
+
+  IsFirst-skip : (n : ℕ) (m : Move) → IsFirst board draft n m → ((from : ℕ) → ¬ CanGive board draft from n) → IsFirst board draft (n + 1) m
+  IsFirst-skip n m first stays = record {
+    is_move = first.is_move;
+    within = let low = first.within in omega arith;
+    most = λ i k low can. elim (below_next n k low) [ inl below ↦ first.most i k below can | inr at ↦ absurd (stays i (subst (CanGive board draft i) at can)) ];
+    first_member = λ i k low can early. elim (below_next n k low) [ inl below ↦ first.first_member i k below can early | inr at ↦ absurd (stays i (subst (CanGive board draft i) at can)) ];
+    first_partition = λ k low can. elim (below_next n k low) [ inl below ↦ first.first_partition k below can | inr at ↦ absurd (stays m.from (subst (CanGive board draft m.from) at can)) ];
+  }
+
+  -- the move of a place is its owner's
+  move-owner : (m : Move) (n i k : ℕ) → IsMove board draft m → m.partition ≡ n → k ≡ n → CanGive board draft i k → i ≡ m.from
+  move-owner m n i k move at_n at can =
+      same_Some i m.from (same_Some (Some i) (Some m.from) (sym (can_give-owns i k can) ∙ ap (slice_get draft.owners.items) (at ∙ sym at_n) ∙ move.owns))
+
+  IsFirst-alone : (n : ℕ) (m : Move) → ((from k : ℕ) → k < n → ¬ CanGive board draft from k) → IsMove board draft m → m.partition ≡ n → IsFirst board draft (n + 1) m
+  IsFirst-alone n m none move at_n = record {
+    is_move = move;
+    within = omega arith;
+    most = λ i k low can. elim (below_next n k low) [
+      | inl below ↦ absurd (none i k below can)
+      | inr at ↦ let same = ap (λ j. get_or draft.counts.items j 0) (move-owner m n i k move at_n at can) in omega arith
+    ];
+    first_member = λ i k low can early. elim (below_next n k low) [
+      | inl below ↦ absurd (none i k below can)
+      | inr at ↦ let same = move-owner m n i k move at_n at can in absurd (omega arith)
+    ];
+    first_partition = λ k low can. elim (below_next n k low) [ inl below ↦ absurd (none m.from k below can) | inr at ↦ omega arith ];
+  }
+
+  IsFirst-takes : (n : ℕ) (one m : Move) → IsFirst board draft n one → IsMove board draft m → m.partition ≡ n → ComesBefore draft.counts.items m one → IsFirst board draft (n + 1) m
+  IsFirst-takes n one m first move at_n before = record {
+    is_move = move;
+    within = omega arith;
+    most = λ i k low can. elim (below_next n k low) [
+      | inl below ↦ let most = first.most i k below can in elim before [ inl more ↦ omega arith | inr tie ↦ let same = tie.0 in omega arith ]
+      | inr at ↦ let same = ap (λ j. get_or draft.counts.items j 0) (move-owner m n i k move at_n at can) in omega arith
+    ];
+    first_member = λ i k low can early. elim (below_next n k low) [
+      | inl below ↦
+          let most = first.most i k below can in
+          elim before [
+            | inl more ↦ omega arith
+            | inr tie ↦ let same = tie.0 in let less = tie.1 in let strict = first.first_member i k below can (omega arith) in omega arith
+          ]
+      | inr at ↦ let same = move-owner m n i k move at_n at can in absurd (omega arith)
+    ];
+    first_partition = λ k low can. elim (below_next n k low) [
+      | inl below ↦
+          let most = first.most m.from k below can in
+          elim before [
+            | inl more ↦ absurd (omega arith)
+            | inr tie ↦ let same = tie.0 in let less = tie.1 in let strict = first.first_member m.from k below can less in absurd (omega arith)
+          ]
+      | inr at ↦ omega arith
+    ];
+  }
+
+  IsFirst-keeps : (n : ℕ) (one m : Move) → IsFirst board draft n one → IsMove board draft m → m.partition ≡ n → ¬ ComesBefore draft.counts.items m one → IsFirst board draft (n + 1) one
+  IsFirst-keeps n one m first move at_n after = record {
+    is_move = first.is_move;
+    within = let low = first.within in omega arith;
+    most = λ i k low can. elim (below_next n k low) [
+      | inl below ↦ first.most i k below can
+      | inr at ↦
+          let same = ap (λ j. get_or draft.counts.items j 0) (move-owner m n i k move at_n at can) in
+          elim (cases_lt (get_or draft.counts.items one.from 0) (get_or draft.counts.items m.from 0)) [ inl more ↦ absurd (after (inl more)) | inr less ↦ omega arith ]
+    ];
+    first_member = λ i k low can early. elim (below_next n k low) [
+      | inl below ↦ first.first_member i k below can early
+      | inr at ↦
+          let owner = move-owner m n i k move at_n at can in
+          let same = ap (λ j. get_or draft.counts.items j 0) owner in
+          elim (cases_order (get_or draft.counts.items one.from 0) (get_or draft.counts.items m.from 0)) [
+            | inl tie ↦ absurd (after (inr (tie, omega arith)))
+            | inr other ↦ elim other [ inl more ↦ absurd (after (inl more)) | inr less ↦ omega arith ]
+          ]
+    ];
+    first_partition = λ k low can. elim (below_next n k low) [
+      | inl below ↦ first.first_partition k below can
+      | inr at ↦ let within = first.within in omega arith
+    ];
+  }
+
+  pub IsNext-none : IsNext board draft 0 None
+  IsNext-none = λ from k low can. absurd (omega arith)
+
+  pub IsNext-more : (n : ℕ) (best found better : Option Move) → IsNext board draft n best → IsMoveOf board draft n found → IsBetter draft.counts.items best found better → IsNext board draft (n + 1) better
+  IsNext-more n None None better next move same =
+      subst (IsNext board draft (n + 1)) (sym same)
+      (λ from k low can. elim (below_next n k low) [ inl below ↦ next from k below can | inr at ↦ move from (subst (CanGive board draft from) at can) ])
+  IsNext-more n None (Some m) better next move same = subst (IsNext board draft (n + 1)) (sym same) (IsFirst-alone n m next move.1 move.0)
+  IsNext-more n (Some one) None better next move same = subst (IsNext board draft (n + 1)) (sym same) (IsFirst-skip n one next move)
+  IsNext-more n (Some one) (Some m) better next move choice = elim choice [
+    | inl takes ↦ subst (IsNext board draft (n + 1)) (sym takes.0) (IsFirst-takes n one m next move.1 move.0 takes.1)
+    | inr keeps ↦ subst (IsNext board draft (n + 1)) (sym keeps.0) (IsFirst-keeps n one m next move.1 move.0 keeps.1)
+  ]
+
+  -- ---- once every place was looked at
+
+  can-within : (from k : ℕ) → CanGive board draft from k → k < length board.places.items
+  can-within from k can = let low = slice_get_within parts k can.moved can.is_partition in let many = as_many_places board is in omega arith
+
+  pub no_move-level : IsNext board draft (length board.places.items) None → IsLevel board.view.now subs spread
+  no_move-level none from k can = none from k (can-within from k can) can
+
+  pub next_move : (m : Move) → IsFirst board draft (length board.places.items) m → IsNextMove board.view.now subs spread (drawn_on board (set_at draft.owners.items m.partition (Some m.to)))
+  next_move m first =
+      let can = move-can m first.is_move in
+      let (to, is_to, fewest) = move-taker m first.is_move can.moved can.is_partition in
+      let mine = count-shown m.from can.owner can.is_member in
+      let owners = are.as_many_owners in
+      let within = first.within in
+      record {
+        from = m.from;
+        place = m.partition;
+        move = can;
+        most = λ i k other.
+            let his = count-shown i other.owner other.is_member in
+            let low = first.most i k (can-within i k other) other in
+            omega arith;
+        first_member = λ i k other early.
+            let his = count-shown i other.owner other.is_member in
+            let low = first.first_member i k (can-within i k other) other early in
+            omega arith;
+        first_partition = λ k other. first.first_partition k (can-within m.from k other) other;
+        to = to;
+        is_fewest = fewest;
+        is_new = drawn-set subs parts draft.owners.items m.partition can.moved m.to to (parts_are_apart board is) can.is_partition (omega arith) is_to;
+      }
+
+  pub move-to : (m : Move) → IsMove board draft m → (to : Subscriber) × (slice_get subs m.to ≡ Some to)
+  move-to m move =
+      let at = at_place board is m.partition move.place move.is_place in
+      let (to, is_to, fewest) = move-taker m move (at.topic.0, move.place.partition) at.is_part in
+      (to, is_to)
+
+-- one move more
+pub AreMoves-push : (view : Topics) (subs : List Subscriber) (old next new : Spread) (steps : List Spread) → AreMoves view subs old steps next → IsNextMove view subs next new → AreMoves view subs old (steps ++ new ∷ []) new
+AreMoves-push view subs old next new [] same move = (subst (λ s. IsNextMove view subs s new) same move, refl)
+AreMoves-push view subs old next new (first ∷ later) (first_move, moves) move = (first_move, AreMoves-push view subs first next new later moves move)

@@ -1,0 +1,115 @@
+use Rattle.std.proofs.Common.{◌≡◌, ◌<◌, ◌+◌, ℕ, length, sym, ap, subst, ◌∙◌, arith, Some, None}
+use Rattle.std.specs.FinMap as finite
+use Rattle.std.specs.List.{slice_get}
+use Rattle.std.proofs.lemmas.List.{length-map, length-replicate}
+use Rattle.std.proofs.lemmas.Option.{same_Some, slice_get_within}
+use Rattle.group_types.specs.declared.partition.Partition.{Partition}
+use Rattle.group_types.specs.Text.{Text}
+use Rattle.group_types.specs.Uniform.{in_partition_order}
+use Rattle.range_assign.specs.Members.{subscriber_of}
+use Rattle.uniform_assign.specs.declared.draft.Draft.{Draft}
+use Rattle.uniform_assign.specs.Drafts.{IsDraft}
+use Rattle.uniform_assign.specs.Former.{IsFormerOwner}
+use Rattle.uniform_assign.proofs.Boards.{as_many_places, at_place, parts_are_apart, place_here}
+use Rattle.uniform_assign.proofs.Kept.{AreCounts-none, AreKeptTo, AreKeptTo-give, AreKeptTo-none, AreKeptTo-skip, IsKept-of, Keeps, Keeps-of, Keeps-owner, Keeps-subscribes}
+use Rattle.uniform_assign.proofs.Moves.{IsDraft-give}
+use Rattle.uniform_assign.proofs.board.Board.kept.Goals as goal
+use Rattle.uniform_assign.proofs.board.Board.kept.Goals.{in-Some+then-subscribes, in-Some+else-subscribes, in_default}
+
+pub loop-at-init : goal.loop-at-init
+loop-at-init c =
+    let draft = c.in_ok-draft.draft in
+    let subs = c.args.self.now.subs.now in
+    let parts = in_partition_order c.args.self.now.view.now in
+    let owners = ap length c.in_ok-draft.ensures.owners ∙ length-replicate c.len.result None in
+    let counts = ap length c.in_ok-draft.ensures.counts ∙ length-replicate (length c.members-members.result.now) 0 in
+    let members = sym (length-map c.members-members.result.now subscriber_of) ∙ ap length c.members-members.ensures.all in (
+      record {
+        as_many_owners = owners ∙ c.len.ensures ∙ c.args.self.now.places.ok.0;
+        as_many_counts = counts ∙ members;
+        counts = AreCounts-none draft.owners.items draft.counts.items c.len.result (length c.members-members.result.now) c.in_ok-draft.ensures.owners c.in_ok-draft.ensures.counts;
+      },
+      AreKeptTo-none c.args.former.now subs parts draft.owners.items c.len.result c.in_ok-draft.ensures.owners,
+    )
+
+pub subscribes-requires : goal.subscribes-requires
+subscribes-requires c =
+    let board = c.args.self.now in
+    let place = c.place-item.result in
+    let at = at_place board c.requires c.loop-at.at place (place_here c.deref-place-items.result.now board.places.items c.loop-at.at place c.deref-place-items.ensures.value c.loop-at-test.true c.place-item.is) in
+    let owner = (c.in_ok-owners.ensures place.partition c.in-Some.member.now).0 (sym c.in-Some.ensures.value) in
+    record {
+      member_in = slice_get_within board.subs.now c.in-Some.member.now owner.member (ap (λ xs. slice_get xs c.in-Some.member.now) (sym c.members-members.ensures.all) ∙ owner.is_member);
+      topic_in = slice_get_within (finite.entries board.view.now) place.topic at.topic at.is_topic;
+    }
+
+pub give-requires : goal.give-requires
+give-requires c =
+    let board = c.args.self.now in
+    let place = c.place-item.result in
+    let owner = (c.in_ok-owners.ensures place.partition c.in-Some.member.now).0 (sym c.in-Some.ensures.value) in
+    let member = slice_get_within board.subs.now c.in-Some.member.now owner.member (ap (λ xs. slice_get xs c.in-Some.member.now) (sym c.members-members.ensures.all) ∙ owner.is_member) in
+    let low = c.loop-at-test.true in
+    let places = ap length c.deref-place-items.ensures.value in
+    let owners = c.loop-at.invariant.0.as_many_owners in
+    let counts = c.loop-at.invariant.0.as_many_counts in
+    record { partition_in = omega arith; member_in = omega arith; counts = c.loop-at.invariant.0.counts }
+
+pub loop-at-preserved : goal.loop-at-preserved
+loop-at-preserved c =
+    let board = c.args.self.now in
+    let former = c.args.former.now in
+    let subs = board.subs.now in
+    let parts = in_partition_order board.view.now in
+    let n = c.loop-at.at in
+    let place = c.place-item.result in
+    let at = at_place board c.requires n place (place_here c.deref-place-items.result.now board.places.items n place c.deref-place-items.ensures.value c.loop-at-test.true c.place-item.is) in
+    let owners = c.loop-at.draft.owners.items in
+    let (draft, kept) = c.loop-at.invariant in
+    let low = c.loop-at-test.true in
+    let within : n < length owners = let places = ap length c.deref-place-items.ensures.value in let many = draft.as_many_owners in omega arith in
+    let x : Text × Partition = (at.topic.0, place.partition) in
+    elim c.match-get.branch [
+      | in-Some+then-subscribes w ↦
+          let m = w.in-Some.member.now in
+          let owner = subst (λ ms. IsFormerOwner former ms m place.partition) c.members-members.ensures.all ((c.in_ok-owners.ensures place.partition m).0 (sym w.in-Some.ensures.value)) in
+          let takes = sym (w.if-subscribes.ensures owner.member at.topic owner.is_member at.is_topic) in
+          let keeps = Keeps-of former subs parts n m x owner.member at.is_part owner.is_member owner takes in
+          let given = ap (λ (d : Draft). d.owners.items) w.draft-is ∙ w.give.ensures.owners in (
+            subst (IsDraft board) (sym w.draft-is) (IsDraft-give board c.loop-at.draft w.give.new.self n (Some m) draft w.give.ensures.owners w.give.ensures.as_many w.give.ensures.counts),
+            subst (AreKeptTo former subs parts (n + 1)) (sym given) (AreKeptTo-give former subs parts n m owners kept within c.requires.apart keeps),
+          )
+      | in-Some+else-subscribes w ↦
+          let m = w.in-Some.member.now in
+          let owner = subst (λ ms. IsFormerOwner former ms m place.partition) c.members-members.ensures.all ((c.in_ok-owners.ensures place.partition m).0 (sym w.in-Some.ensures.value)) in
+          let away = sym (w.if-subscribes.ensures owner.member at.topic owner.is_member at.is_topic) in
+          let nobody : (j : ℕ) → ¬ Keeps former subs parts n j = λ j keeps.
+          let other = Keeps-owner former subs parts n j x at.is_part keeps in
+          let ids : owner.member.id ≡ other.member.id = same_Some owner.member.id other.member.id (sym owner.owned ∙ other.owned) in
+          let same : m ≡ j = c.requires.apart m j owner.member other.member owner.is_member other.is_member ids in
+          let there = Keeps-subscribes former subs parts n j x owner.member at.is_part (ap (slice_get subs) (sym same) ∙ owner.is_member) keeps in
+          cc in (
+            subst (IsDraft board) (sym w.draft-is) draft,
+            subst (λ (d : Draft). AreKeptTo former subs parts (n + 1) d.owners.items) (sym w.draft-is) (AreKeptTo-skip former subs parts n owners kept within nobody),
+          )
+      | in_default w ↦
+          let nobody : (j : ℕ) → ¬ Keeps former subs parts n j = λ j keeps.
+          let other = subst (λ ms. IsFormerOwner former ms j place.partition) (sym c.members-members.ensures.all) (Keeps-owner former subs parts n j x at.is_part keeps) in
+          let found = (c.in_ok-owners.ensures place.partition j).1 other in
+          let none = w.in_default.ensures.value in
+          cc in (
+            subst (IsDraft board) (sym w.draft-is) draft,
+            subst (λ (d : Draft). AreKeptTo former subs parts (n + 1) d.owners.items) (sym w.draft-is) (AreKeptTo-skip former subs parts n owners kept within nobody),
+          )
+    ]
+
+pub returns : goal.returns
+returns c =
+    let board = c.args.self.now in
+    let places = ap length c.deref-place-items.ensures.value in
+    let many = as_many_places board c.requires in
+    let last = c.loop-at-test.false in
+    record {
+      draft = c.loop-at.invariant.0;
+      kept = IsKept-of board.view.now board.subs.now c.args.former.now c.loop-at.at c.loop-at.draft.owners.items (parts_are_apart board c.requires) (omega arith) c.loop-at.invariant.1;
+    }

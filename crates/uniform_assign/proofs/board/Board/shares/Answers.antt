@@ -1,0 +1,70 @@
+use Rattle.std.proofs.Common.{◌≡◌, ◌<◌, ◌+◌, length, map, slice_set, refl, sym, ap, subst, ◌∙◌, arith, Some}
+use Rattle.std.specs.List.{slice_get}
+use Rattle.std.specs.Global.{Vec as HeapVec}
+use Rattle.std.specs.Option.{option_map}
+use Rattle.std.proofs.lemmas.List.{length-map, map-set}
+use Rattle.std.proofs.lemmas.Option.{slice_get-map, slice_get_read}
+use Rattle.group_types.specs.declared.partition.Partition.{Partition}
+use Rattle.group_types.specs.Assignors.{Subscriber}
+use Rattle.group_types.specs.Sets.{nothing, with_one}
+use Rattle.group_types.specs.Text.{Text}
+use Rattle.group_types.specs.Uniform.{in_partition_order}
+use Rattle.range_assign.specs.declared.spread.Share.{Share}
+use Rattle.range_assign.specs.Shares.{share_in, shares_in}
+use Rattle.uniform_assign.proofs.Boards.{as_many_places, at_place, parts_are_apart, place_here}
+use Rattle.uniform_assign.proofs.Dealt.{AreDealtTo, AreDealtTo-none, AreDealtTo-skip, AreDealtTo-take, AreShares-dealt, spread_of-dealt}
+use Rattle.uniform_assign.proofs.board.Board.shares.Goals as goal
+use Rattle.uniform_assign.proofs.board.Board.shares.Goals.{in-Some+in_ok-insert, in_default}
+
+pub loop-at-init : goal.loop-at-init
+loop-at-init c =
+    AreDealtTo-none (in_partition_order c.args.self.now.view.now) c.args.self.now.subs.now c.args.draft.now.owners.items (shares_in c.in_ok-shares.shares.items)
+    (c.in_ok-shares.ensures ∙ ap (map (λ (m : Subscriber). (m.id, nothing))) c.members.ensures.all)
+
+pub loop-at-preserved : goal.loop-at-preserved
+loop-at-preserved c =
+    let board = c.args.self.now in
+    let subs = board.subs.now in
+    let parts = in_partition_order board.view.now in
+    let owners = c.args.draft.now.owners.items in
+    let n = c.loop-at.at in
+    let place = c.place-item.result in
+    let at = at_place board c.requires.board n place (place_here c.deref-place-items.result.now board.places.items n place c.deref-place-items.ensures.value c.loop-at-test.true c.place-item.is) in
+    let low = c.loop-at-test.true in
+    let within : n < length owners = let places = ap length c.deref-place-items.ensures.value in let many = c.requires.draft.as_many_owners in omega arith in
+    let owner : slice_get owners n ≡ Some c.index.result.now = slice_get_read owners (length owners) n c.index.result.now refl within c.index.ensures in
+    let x : Text × Partition = (at.topic.0, place.partition) in
+    let shares = c.loop-at.shares.items in
+    elim c.match-index.branch [
+      | in-Some+in_ok-insert w ↦
+          let m = w.in-Some.owner in
+          let old : Share = w.index_mut.result.now in
+          let new : Share = record { id = old.id; set = w.insert.new.self } in
+          let is_owner = owner ∙ ap Some w.in-Some.is in
+          let in_counts = c.requires.draft.counts.within n m is_owner in
+          let many = c.requires.draft.as_many_counts in
+          let as_many = c.loop-at.invariant.as_many in
+          let long = length-map shares share_in in
+          let in_shares : m < length shares = omega arith in
+          let there = slice_get-map share_in shares m ∙ ap (option_map share_in) (slice_get_read shares (length shares) m old refl in_shares w.index_mut.ensures.value) in
+          let made : shares_in c.match-index.shares.items ≡ slice_set (shares_in shares) m (old.id, with_one old.set place.partition) =
+          ap (λ (v : HeapVec Share). shares_in v.items) w.shares-is ∙ map-set share_in shares m new ∙ ap (λ set. slice_set (shares_in shares) m (old.id, set)) w.in_ok-insert.ensures.added in
+          subst (AreDealtTo parts subs owners (n + 1)) (sym made) (AreDealtTo-take parts subs owners n m x (shares_in shares) old.id old.set at.is_part is_owner there c.loop-at.invariant)
+      | in_default w ↦
+          subst (λ (v : HeapVec Share). AreDealtTo parts subs owners (n + 1) (shares_in v.items)) (sym w.shares-is)
+          (AreDealtTo-skip parts subs owners n x (shares_in shares) at.is_part (owner ∙ ap Some w.in_default.is) c.loop-at.invariant)
+    ]
+
+pub returns : goal.returns
+returns c =
+    let board = c.args.self.now in
+    let parts = in_partition_order board.view.now in
+    let owners = c.args.draft.now.owners.items in
+    let apart = parts_are_apart board c.requires.board in
+    let places = ap length c.deref-place-items.ensures.value in
+    let many = as_many_places board c.requires.board in
+    let last = c.loop-at-test.false in
+    record {
+      shares = AreShares-dealt parts board.subs.now owners apart c.requires.board.apart c.loop-at.at (shares_in c.loop-at.shares.items) c.loop-at.invariant;
+      drawn = spread_of-dealt parts board.subs.now owners apart c.requires.board.apart c.loop-at.at (shares_in c.loop-at.shares.items) c.loop-at.invariant (omega arith);
+    }

@@ -1,0 +1,5 @@
+use Rattle.uniform_assign.proofs.Soundness.{uniform_is_lawful}
+use Rattle.uniform_assign.proofs.laws.uniform_is_lawful.Goals as goal
+
+pub returns : goal.returns
+returns c = uniform_is_lawful

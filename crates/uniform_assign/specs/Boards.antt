@@ -1,0 +1,43 @@
+-- How the partitions of a view and their takers are held.
+use Rattle.std.specs.Prelude.{◌≡◌, ℕ, pos, List, length, map, Option, Some}
+use Rattle.std.specs.Global.{Vec}
+use Rattle.std.specs.List.{flat_map, slice_get}
+use Rattle.std.specs.Option.{option_map}
+use Rattle.std.specs.FinMap as finite
+use Rattle.group_types.specs.declared.partition.Partition.{Partition}
+use Rattle.group_types.specs.Text.{Text}
+use Rattle.group_types.specs.Topics.{Topic}
+use Rattle.group_types.specs.Assignors.{IdsAreApart, Subscriber, subscribers_of}
+use Rattle.group_types.specs.Uniform.{partitions_of}
+use Rattle.topic_meta.specs.Facts.{AreImageTopics}
+use Rattle.uniform_assign.specs.declared.board.Place.{Place}
+use Rattle.uniform_assign.specs.declared.board.Board.{Board}
+
+-- the partition with an index of a topic, which has a place among the topics
+abbrev pub place_at : ℕ → List ℕ → ℕ → Place
+place_at at topic index = record { topic = at; partition = record { topic = topic; index = pos index } }
+
+-- the partition with the name of its topic, which is at a place among the topics
+abbrev pub shown_place : List (Text × Topic) → Place → Option (Text × Partition)
+shown_place topics place = option_map (λ t. (t.0, place.partition)) (slice_get topics place.topic)
+
+-- the places show the topics' partitions in partition order
+abbrev pub ArePlaces : List (Text × Topic) → List Place → Type 0
+ArePlaces topics places = map (shown_place topics) places ≡ map Some (flat_map partitions_of topics)
+
+-- the places of the members that subscribe the topic with a name, in their order
+abbrev pub AreTakersOf : List Subscriber → Text → List ℕ → Type 0
+AreTakersOf subs name takers = map (slice_get subs) takers ≡ map Some (subscribers_of subs name)
+
+-- each topic's takers are at its place
+pub record AreTakers (topics : List (Text × Topic)) (subs : List Subscriber) (takers : List (Vec ℕ)) : Type 0 where
+  pub as_many : length takers ≡ length topics
+  pub there : (t : ℕ) (topic : Text × Topic) → slice_get topics t ≡ Some topic
+      → (v : Vec ℕ) × (slice_get takers t ≡ Some v) × AreTakersOf subs topic.0 v.items
+
+-- what is true of a board
+pub record IsBoard (board : Board) : Type 0 where
+  pub sound : AreImageTopics board.view.now
+  pub apart : IdsAreApart board.subs.now
+  pub places : ArePlaces (finite.entries board.view.now) board.places.items
+  pub takers : AreTakers (finite.entries board.view.now) board.subs.now board.takers.items

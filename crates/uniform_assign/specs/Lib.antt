@@ -1,0 +1,5 @@
+pub mod Laws
+pub mod Boards
+pub mod Drafts
+pub mod Former
+pub mod Moves

@@ -1,0 +1,60 @@
+-- The move that follows, as it is looked for place by place.
+use Rattle.std.specs.Prelude.{◌≡◌, ◌⊎◌, ℕ, ◌+◌, ◌-◌, ◌<◌, ◌≤◌, List, Option, Some, slice_get, slice_index, slice_set, MatchOption}
+use Rattle.std.specs.Global.{Vec}
+use Rattle.group_types.specs.Uniform.{CanMove}
+use Rattle.uniform_assign.specs.declared.board.Board.{Board}
+use Rattle.uniform_assign.specs.declared.board.Place.{Place}
+use Rattle.uniform_assign.specs.declared.draft.Draft.{Draft}
+use Rattle.uniform_assign.specs.declared.level.Move.{Move}
+use Rattle.uniform_assign.specs.Drafts.{IsLeast, IsLeastOf, drawn_on}
+
+-- for each topic the taker with the least count
+abbrev pub AreFewest : Board → Draft → List (Option ℕ) → Type 0
+AreFewest board draft fewest = (t : ℕ) (takers : Vec ℕ) → slice_get board.takers.items t ≡ Some takers
+    → (o : Option ℕ) × (slice_get fewest t ≡ Some o) × IsLeastOf draft.counts.items takers.items o
+
+-- the member at a place can give the partition at a place away
+abbrev pub CanGive : Board → Draft → ℕ → ℕ → Type 0
+CanGive board draft from place = CanMove board.view.now board.subs.now (drawn_on board draft.owners.items) from place
+
+-- the owner gives the partition to the taker with the least count, which is at least two less than its own
+pub record IsMove (board : Board) (draft : Draft) (m : Move) : Type 0 where
+  pub owns : slice_get draft.owners.items m.partition ≡ Some (Some m.from)
+  pub place : Place
+  pub is_place : slice_get board.places.items m.partition ≡ Some place
+  pub takers : Vec ℕ
+  pub are_takers : slice_get board.takers.items place.topic ≡ Some takers
+  pub is_least : IsLeast draft.counts.items takers.items m.to
+  pub fewer : slice_index draft.counts.items m.to + 1 < slice_index draft.counts.items m.from
+
+-- the move of the partition at a place, if it can move
+abbrev pub IsMoveOf : Board → Draft → ℕ → Option Move → Type 0
+IsMoveOf board draft at o = MatchOption o ((from : ℕ) → ¬ CanGive board draft from at) (λ m. (m.partition ≡ at) × IsMove board draft m)
+
+-- the first of the moves of the first n partitions: from the one that owns the most, and of several such from the first
+pub record IsFirst (board : Board) (draft : Draft) (n : ℕ) (m : Move) : Type 0 where
+  pub is_move : IsMove board draft m
+  pub within : m.partition < n
+  pub most : (i k : ℕ) → k < n → CanGive board draft i k → slice_index draft.counts.items i ≤ slice_index draft.counts.items m.from
+  pub first_member : (i k : ℕ) → k < n → CanGive board draft i k → i < m.from → slice_index draft.counts.items i < slice_index draft.counts.items m.from
+  pub first_partition : (k : ℕ) → k < n → CanGive board draft m.from k → m.partition ≤ k
+
+-- that move, if one of the first n partitions can move
+abbrev pub IsNext : Board → Draft → ℕ → Option Move → Type 0
+IsNext board draft n o = MatchOption o ((from k : ℕ) → k < n → ¬ CanGive board draft from k) (IsFirst board draft n)
+
+-- the first move is from a member that owns more, or as much and comes earlier
+abbrev pub ComesBefore : List ℕ → Move → Move → Type 0
+ComesBefore counts m n =
+    (slice_index counts n.from < slice_index counts m.from) ⊎ ((slice_index counts n.from ≡ slice_index counts m.from) × (m.from < n.from))
+
+-- the later move only where it comes before the earlier one
+abbrev pub IsBetter : List ℕ → Option Move → Option Move → Option Move → Type 0
+IsBetter counts earlier later o =
+    MatchOption earlier (o ≡ later) (λ m. MatchOption later (o ≡ earlier)
+    (λ n. ((o ≡ later) × ComesBefore counts n m) ⊎ ((o ≡ earlier) × ¬ ComesBefore counts n m)))
+
+-- the counts with one partition moved
+abbrev pub one_moved : List ℕ → ℕ → ℕ → List ℕ
+one_moved counts from to =
+    let less = slice_set counts from (slice_index counts from - 1) in slice_set less to (slice_index less to + 1)

@@ -1,0 +1,61 @@
+//! The owners of the partitions while they are worked out.
+
+ghost use Rattle.std.specs.Prelude.{◌≡◌, ◌<◌, ℕ, All, IfOk, None, Some, length, replicate, slice_get, slice_set};
+ghost use Rattle.uniform_assign.specs.Drafts.{AreCounts, IsLeastOf};
+ghost use Rattle.uniform_assign.specs.Moves.{one_moved};
+
+use std::alloc::{AllocError, Global};
+
+/// The owners of the partitions while they are worked out.
+#[derive(Drop)]
+pub(crate) struct Draft {
+    /// For each partition, in partition order, the place of its owner among the members.
+    pub owners: Vec<Option<usize>>,
+    /// For each member, in member order, how many partitions it owns.
+    pub counts: Vec<usize>,
+}
+
+impl Draft {
+    /// Of so many partitions none has an owner, among so many members.
+    pub fn new(alloc: Global, partitions: usize, members: usize) -> Result<Draft, AllocError>
+        ensures owners { IfOk result (λ draft. draft.owners.items ≡ replicate partitions None) }
+        ensures counts { IfOk result (λ draft. draft.counts.items ≡ replicate members 0) }
+    {
+        let owners = vec![in alloc; None; partitions]?;
+        let counts = vec![in alloc; 0; members]?;
+        Ok(Draft { owners, counts })
+    }
+
+    /// Gives the partition at a place to the member at a place, from its owner if it has one.
+    pub fn give(&mut self, partition: usize, member: usize)
+        requires partition_in { partition < length self.old.owners.items }
+        requires member_in { member < length self.old.counts.items }
+        requires counts { AreCounts self.old.owners.items self.old.counts.items }
+        ensures owners { self.new.owners.items ≡ slice_set self.old.owners.items partition (Some member) }
+        ensures counts { AreCounts self.new.owners.items self.new.counts.items }
+        ensures moved { (owner : ℕ) → slice_get self.old.owners.items partition ≡ Some (Some owner)
+            → self.new.counts.items ≡ one_moved self.old.counts.items owner member }
+        ensures as_many { length self.new.counts.items ≡ length self.old.counts.items }
+    {
+        if let Some(owner) = self.owners[partition] {
+            self.counts[owner] -= 1;
+        }
+        self.owners[partition] = Some(member);
+        self.counts[member] += 1;
+    }
+
+    /// Of the takers the one that owns the fewest partitions, and of several such the first.
+    pub fn fewest(&self, takers: &[usize]) -> Option<usize>
+        requires { All (λ t. t < length self.now.counts.items) takers.now }
+        ensures { IsLeastOf self.now.counts.items takers.now result }
+    {
+        let (first, others) = takers.split_first()?;
+        let mut best = *first;
+        for taker in others {
+            if self.counts[*taker] < self.counts[best] {
+                best = *taker;
+            }
+        }
+        Some(best)
+    }
+}

@@ -1,0 +1,22 @@
+//! The assignor `uniform` of consumer groups (KIP-848, "Server Side Assignors"): who owns which partition of a view so
+//! that the members own nearly as many, and few partitions change their owners.
+//!
+//! [`Uniform`] is an [`Assignor`]. Start from [`Assignor::assign`].
+#![tactic(auto)]
+
+mod board;
+mod draft;
+mod fill;
+mod keep;
+mod laws;
+mod level;
+mod shares;
+#[cfg(test)]
+mod tests;
+mod uniform;
+
+pub use laws::{
+    lawful_and_even_owners_stay, uniform_is_even, uniform_is_lawful, uniform_is_one_spread,
+};
+pub use range_assign::{Assignor, Share, Spread, Subs, Subscriber};
+pub use uniform::Uniform;
