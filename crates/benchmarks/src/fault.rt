@@ -1,11 +1,12 @@
 //! Why a run ends before its end.
 ghost use Rattle.std.specs.Prelude.{◌≡◌};
-ghost use Rattle.benchmarks.specs.declared.fault.Fault.TheVariants.{NoMemory, Unread, Io};
+ghost use Rattle.benchmarks.specs.declared.fault.Fault.TheVariants.{NoMemory, Unread, NoImage, Io};
 
 use kip_msgs::MsgFault;
 use std::alloc::{AllocError, AllocFailed};
 use std::io;
 use thiserror::Error;
+use topic_meta::ImageFault;
 
 /// Why a run ends before its end. The text is one line.
 #[derive(Debug, Drop, Error)]
@@ -18,6 +19,11 @@ pub enum Fault {
     /// A message that was written could not be read.
     #[error("reading a message: {0}")]
     Unread(MsgFault),
+    /// The measured topics make no image.
+    #[error("making an image: {0}")]
+    NoImage(ImageFault),
+    #[error("two measured members have one id")]
+    OneId,
     /// A work that was done again gave something else.
     #[error("a measured work is not the same each time")]
     Unsteady,
@@ -34,7 +40,12 @@ impl Fault {
     {
         match self {
             Fault::CommandLine => 2,
-            Fault::NoMemory | Fault::Unread(_) | Fault::Unsteady | Fault::Io(_) => 1,
+            Fault::NoMemory
+            | Fault::Unread(_)
+            | Fault::NoImage(_)
+            | Fault::OneId
+            | Fault::Unsteady
+            | Fault::Io(_) => 1,
         }
     }
 }
@@ -60,6 +71,14 @@ impl From<MsgFault> for Fault {
 
     fn from(fault: MsgFault) -> Fault {
         Fault::Unread(fault)
+    }
+}
+
+impl From<ImageFault> for Fault {
+    ghost from_gives = { λ refused fault. fault ≡ NoImage refused };
+
+    fn from(fault: ImageFault) -> Fault {
+        Fault::NoImage(fault)
     }
 }
 

@@ -1,18 +1,23 @@
 //! The program `benchmarks`: what the coordinator's parts cost.
 //!
-//! Without an argument it prints what each measured message has, which is the same on every machine. With
+//! Without an argument it prints what each measured work is over and gives, which is the same on every machine. With
 //! `times` it prints how long each measured work takes. What is measured is a [`Work`](work::Work), and how
 //! is [`pace_of`](timing::pace_of). Each part of the coordinator has a file of its works, which prints
-//! their lines: start from [`print_messages`](wire::print_messages).
+//! their lines: [`print_messages`](wire::print_messages), [`print_assignors`](assignors::print_assignors) and
+//! [`print_topics`](topics::print_topics).
 #![tactic(auto)]
 
+mod assignors;
 mod command_line;
 mod fault;
+mod group;
 mod messages;
 mod pace;
 mod partitions;
+mod print;
 mod table;
 mod timing;
+mod topics;
 mod wire;
 mod work;
 
@@ -37,6 +42,7 @@ fn main(rt: HostRuntime) -> ExitCode {
 /// Prints what the command line asks for.
 fn run(rt: &(impl AllocGlobal + Clock + Env + Print)) -> Result<(), Fault> {
     let mode = command_line::read(rt)?;
-    rt.println(table::head_line(rt.alloc(), mode)?)?;
-    wire::print_messages(rt, mode)
+    wire::print_messages(rt, mode)?;
+    assignors::print_assignors(rt, mode)?;
+    topics::print_topics(rt, mode)
 }

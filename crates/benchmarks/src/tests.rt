@@ -5,14 +5,17 @@ ghost use Rattle.kip_msgs.specs.Writable.{IsWritableRequest, IsWritableReply};
 
 use crate::command_line::{Mode, mode_of};
 use crate::fault::Fault;
+use crate::group::{Wish, names_of, seats_of, subs_of, view_of};
 use crate::messages::{commit_reply, commit_request, heartbeat_reply, heartbeat_request};
 use crate::pace::Pace;
 use crate::partitions::{of_reply, of_request};
 use crate::table::{counts_line, head_line, pace_line, ratio_line};
 use crate::timing::pace_of;
 use crate::work::Work;
+use group_types::PartSet;
 use kip_msgs::{Api, MsgFault, Reply, Request, put_reply, put_request, read_reply, read_request};
-use std::alloc::Global;
+use range_assign::{Assignor, Range, Spread};
+use std::alloc::{AllocError, Global};
 use std::cell::Cell;
 use std::process::Abort;
 use std::test::Fail;
@@ -142,6 +145,61 @@ fn words_ask_for_counts_or_times(rt: HostRuntime) -> Result<(), Fail> {
     Ok(())
 }
 
+/// The indexes of the topic's partitions that each of three members has under range, and how many they are.
+fn runs_of_a_long_topic(alloc: Global) -> Result<String, Fault> {
+    let view = view_of(alloc, 1, 100_000)?;
+    let seats = seats_of(alloc, 3, 1, Wish::All)?;
+    let subs = subs_of(alloc, &seats, 3)?;
+    let spread = Range.assign(alloc, &Spread::empty(alloc), &subs, &view)?;
+    let mut text = String::new(alloc);
+    for member in subs.members() {
+        if let Some(set) = spread.share_of(member.id.as_str()) {
+            text.push_str(run_in(alloc, set)?.as_str())?;
+        }
+    }
+    Ok(text)
+}
+
+fn run_in(alloc: Global, set: &PartSet) -> Result<String, AllocError> {
+    let (mut first, mut last) = (i32::MAX, i32::MIN);
+    for partition in set.iter() {
+        first = first.min(partition.index);
+        last = last.max(partition.index);
+    }
+    let count = set.len();
+    format!(in alloc; "{first} to {last}: {count}\n")
+}
+
+// 100,000 is three times 33,333 and one more, which the first member gets.
+#[test]
+fn range_gives_runs_of_a_long_topic(rt: HostRuntime) -> Result<(), Fail> {
+    let runs = made!(rt, "range", runs_of_a_long_topic(rt.alloc()));
+    let want = "0 to 33333: 33334\n33334 to 66666: 33333\n66667 to 99999: 33333\n";
+    assert_eq!(rt; runs.as_str(), want);
+    Ok(())
+}
+
+/// How many of 8 topics each of 5 members subscribes, three of four each.
+fn wishes(alloc: Global) -> Result<String, AllocError> {
+    let mut text = String::new(alloc);
+    for member in 0..5 {
+        let names = names_of(alloc, 8, Wish::ThreeOfFour, member)?;
+        for topic in names.iter() {
+            text.push_str(topic.strip_prefix("topic-0000").unwrap_or("?"))?;
+        }
+        text.push_str(" ")?;
+    }
+    Ok(text)
+}
+
+// A member leaves out the topics whose number leaves its own number's remainder by 4.
+#[test]
+fn members_wish_three_of_four(rt: HostRuntime) -> Result<(), Fail> {
+    let text = made!(rt, "names_of", wishes(rt.alloc()));
+    assert_eq!(rt; text.as_str(), "123567 023467 013457 012456 123567 ");
+    Ok(())
+}
+
 // Four repetitions in 1,001 nanoseconds: 250.25 each, 3,996,003.99 a second.
 #[test]
 fn lines_have_their_texts(rt: HostRuntime) -> Result<(), Fail> {
@@ -175,7 +233,11 @@ fn lines_have_their_texts(rt: HostRuntime) -> Result<(), Fail> {
     );
     let want = "a request                                     77          10";
     assert_eq!(rt; line.as_str(), want);
-    let line = made!(rt, "head_line", head_line(rt.alloc(), Mode::Times));
+    let line = made!(
+        rt,
+        "head_line",
+        head_line(rt.alloc(), Mode::Times, "message", "bytes", "")
+    );
     let want =
         "message                                            bytes       ns each      a second";
     assert_eq!(rt; line.as_str(), want);

@@ -6,7 +6,8 @@ use crate::command_line::Mode;
 use crate::fault::Fault;
 use crate::messages::{commit_reply, commit_request, heartbeat_reply, heartbeat_request};
 use crate::partitions::{of_reply, of_request};
-use crate::table::{counts_line, pace_line, ratio_line};
+use crate::print::print_growth_of;
+use crate::table::{counts_line, head_line, pace_line};
 use crate::timing::pace_of;
 use crate::work::Work;
 use kip_msgs::{Api, Reply, Request, put_reply, put_request, read_reply, read_request};
@@ -80,6 +81,7 @@ impl Work for ReplyRead<'_> {
 
 /// Prints what the messages have, or how long it takes to write and to read them.
 pub fn print_messages(rt: &(impl AllocGlobal + Clock + Print), mode: Mode) -> Result<(), Fault> {
+    rt.println(head_line(rt.alloc(), mode, "message", "bytes", "partitions")?)?;
     print_heartbeats(rt, mode)?;
     print_commits(rt, mode)?;
     match mode {
@@ -162,23 +164,6 @@ fn print_growth(rt: &(impl AllocGlobal + Clock + Print)) -> Result<(), Fault> {
         &read_of(alloc, few_body.as_slice()),
         &read_of(alloc, many_body.as_slice()),
     )
-}
-
-/// Prints how many times as long the second work takes as the first.
-fn print_growth_of<W: Work>(
-    rt: &(impl AllocGlobal + Clock + Print),
-    name: &str,
-    short: &W,
-    long: &W,
-) -> Result<(), Fault>
-    requires short { W.can_be_done short.now }
-    requires long { W.can_be_done long.now }
-{
-    let short = pace_of(rt, short)?;
-    let long = pace_of(rt, long)?;
-    let line = ratio_line(rt.alloc(), name, long, short)?;
-    rt.println(line)?;
-    Ok(())
 }
 
 fn body_of(alloc: Global, request: &Request<'_>) -> Result<Vec<u8>, AllocError>

@@ -94,3 +94,12 @@ IdsAreApart-of (x ∷ xs) n all apart =
     let shown : (k : ℕ) → k < length ms → get_or (subscribers_in ms) k d ≡ subscriber_of (get_or ms k x) =
     λ k within. get_or_default (subscribers_in ms) k d (subscriber_of x) (omega arith) ∙ get_or-map subscriber_of ms k x (subscriber_of x) within in
     apart i j x rise (omega arith) (ap (λ s. s.id) (sym (shown i (omega arith))) ∙ same ∙ ap (λ s. s.id) (shown j (omega arith))))
+
+-- members of which two have one id
+pub one_id_is_not_apart : (ms : List Given) (i j : ℕ) (d : Given) → i < j → j < length ms → (get_or ms i d).id.now ≡ (get_or ms j d).id.now → IdsAreApart (subscribers_in ms) → ⊥
+one_id_is_not_apart ms i j d rise in_j same apart =
+    let long = length-map ms subscriber_of in
+    let shown : (k : ℕ) → k < length ms → get_or (subscribers_in ms) k (subscriber_of d) ≡ subscriber_of (get_or ms k d) =
+    λ k within. get_or-map subscriber_of ms k d (subscriber_of d) within in
+    pairs_of_apart (subscribers_in ms) apart i j (subscriber_of d) rise (omega arith)
+    (ap (λ s. s.id) (shown i (omega arith)) ∙ same ∙ sym (ap (λ s. s.id) (shown j in_j)))

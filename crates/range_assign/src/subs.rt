@@ -1,6 +1,6 @@
 //! The members of a group as an assignor sees them.
 
-ghost use Rattle.std.specs.Prelude.{◌≡◌, map, IsSorted, IsPermutation};
+ghost use Rattle.std.specs.Prelude.{◌≡◌, ◌↔◌, map, IsSorted, IsPermutation, IsTrue};
 ghost use Rattle.group_types.specs.Assignors.{IdsAreApart, asks_for, assignor_of, member_cmp, votes};
 ghost use Rattle.range_assign.specs.Members.{subscriber_of, subscribers_in};
 
@@ -18,6 +18,22 @@ pub struct Subscriber<'a> {
     pub names: &'a NameSet,
     /// The assignor that the member asks for.
     pub assignor: Option<AssignorName>,
+}
+
+impl<'a> Subscriber<'a> {
+    /// Whether no two of the members have one id. Takes no memory; the time grows with the square of their number.
+    pub fn are_apart(members: &[Subscriber<'a>]) -> bool
+        ensures { IsTrue result ↔ IdsAreApart (subscribers_in members.now) }
+    {
+        for (place, later) in members.iter().enumerate() {
+            for earlier in &members[..place] {
+                if earlier.id.is(later.id.as_str()) {
+                    return false;
+                }
+            }
+        }
+        true
+    }
 }
 
 /// The members of a group in member order: those with an instance, by its bytes; then the others, by their ids' bytes.
@@ -41,7 +57,7 @@ impl<'a> Model for Subs<'a> {
 }
 
 impl<'a> Subs<'a> {
-    /// The members in member order. No two have one id. Takes no memory.
+    /// The members in member order. No two have one id, as [`Subscriber::are_apart`] tells. Takes no memory.
     pub fn of(members: Vec<Subscriber<'a>>) -> Subs<'a>
         requires { IdsAreApart (subscribers_in members.items) }
         ensures same { IsPermutation (subscribers_in members.entry.items) result }

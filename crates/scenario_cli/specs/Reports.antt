@@ -5,7 +5,6 @@ use Rattle.std.specs.List.{flat_map}
 use Rattle.std.specs.Fmt.{signed_decimal}
 use Rattle.hex.specs.Hex.{decode_of, encode_lower}
 use Rattle.uuid.specs.Text.{hyphenated_text, lower}
-use Rattle.flex_wire.specs.declared.fault.WireFault.{WireFault}
 use Rattle.flex_wire.specs.Faults.{number_of}
 use Rattle.kip_msgs.specs.declared.fault.MsgFault.{MsgFault}
 use Rattle.kip_msgs.specs.declared.fault.MsgFault.TheVariants.{Wire, UnknownApi, UnknownVersion, LeftOver, NoMemory}

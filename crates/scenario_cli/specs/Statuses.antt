@@ -1,5 +1,11 @@
 -- The statuses with which the program ends. They are this program's own.
-use Rattle.std.specs.Prelude.{ℕ}
+use Rattle.std.specs.Prelude.{◌≡◌, ℕ}
+use Rattle.std.specs.IoError.{error_kind}
+use Rattle.std.specs.declared.io.ErrorKind.TheVariants as io_kind
+use Rattle.clap.specs.Words.{kind_of}
+use Rattle.clap.specs.declared.error.kind.ErrorKind.TheVariants as clap_kind
+use Rattle.scenario_cli.specs.declared.command_line.CommandLineFault.{CommandLineFault}
+use Rattle.scenario_cli.specs.declared.command_line.CommandLineFault.TheVariants.{Refused, Unread}
 use Rattle.scenario_cli.specs.declared.fault.Fault.{Fault}
 use Rattle.scenario_cli.specs.declared.fault.Fault.TheVariants.{BadLine, Read, TooLong, Write, NoMemory}
 
@@ -10,3 +16,8 @@ status_of (Read error) = 1
 status_of TooLong = 1
 status_of (Write error) = 1
 status_of NoMemory = 1
+
+-- a command line could not be read, or could not be looked at, for want of memory
+abbrev pub IsForMemory : CommandLineFault → Type 0
+IsForMemory (Refused error) = kind_of error ≡ clap_kind.OutOfMemory
+IsForMemory (Unread error) = error_kind error ≡ io_kind.OutOfMemory

@@ -1,5 +1,6 @@
 //! The command line.
-ghost use Rattle.std.specs.Prelude.{◌≡◌, ◌⊎◌};
+ghost use Rattle.std.specs.Prelude.{◌≡◌, ◌↔◌};
+ghost use Rattle.scenario_cli.specs.Statuses.{IsForMemory};
 
 use clap::Command;
 use clap::error::ErrorKind;
@@ -32,7 +33,8 @@ pub enum CommandLineFault {
 impl CommandLineFault {
     /// The status with which the program ends: 1 where memory was short, 2 where the command line was wrong.
     pub fn status(&self) -> u8
-        ensures { (result ≡ 1) ⊎ (result ≡ 2) }
+        ensures memory { (result ≡ 1) ↔ IsForMemory self.now }
+        ensures wrong { (result ≡ 2) ↔ (¬ IsForMemory self.now) }
     {
         let is_for_memory = match self {
             CommandLineFault::Refused(error) => error.kind() == ErrorKind::OutOfMemory,

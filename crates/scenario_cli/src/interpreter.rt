@@ -1,5 +1,5 @@
 //! The lines of `coord reply`, each as one method.
-ghost use Rattle.std.specs.Prelude.{◌≡◌, ◌⊎◌, [], ◌∷◌, ◌++◌, OnOk, OnErr};
+ghost use Rattle.std.specs.Prelude.{◌≡◌, ◌⊎◌, [], ◌∷◌, ◌++◌, IfErr, OnOk, OnErr};
 ghost use Rattle.scenario_cli.specs.Requests.{PrintsOneLine};
 ghost use Rattle.scenario_cli.specs.Printing.{line_of, PrintsLines};
 
@@ -28,7 +28,8 @@ pub struct Interpreter {
 }
 
 impl Interpreter {
-    ghost use Rattle.std.specs.Prelude.{◌≡◌, ◌≢◌, ◌⊎◌, ℕ, ◌+◌, ◌-◌, ◌<◌, ◌^◌, min, None, decimal, OnOk, OnErr, IfOk};
+    ghost use Rattle.std.specs.Prelude.{◌≡◌, ◌≢◌, ◌⊎◌, ℕ, ◌+◌, ◌-◌, ◌<◌, ◌^◌, min, None, decimal, OnOk, OnErr, IfOk, IfErr, IsErr};
+    ghost use Rattle.hex.specs.Hex.{decode_of};
     ghost use Rattle.group_types.specs.declared.stamp.Stamp.{Stamp};
     ghost use Rattle.coord_node.specs.Coordinator.{opening};
     ghost use Rattle.scenario_cli.specs.Stamps.{stamp_of};
@@ -75,6 +76,7 @@ impl Interpreter {
         ensures set { OnOk result (millis.now ≡ decimal self.new.now) }
         ensures kept { self.new ≡ record self.old { now = self.new.now } }
         ensures refused { OnErr result ((number : ℕ) → number < 2 ^ 64 → millis.now ≢ decimal number) }
+        ensures fault { IfErr result (λ fault. fault ≡ LineFault.BadLine) }
     {
         let millis = words::number_of(millis).ok_or(LineFault::BadLine)?;
         self.now = Moment::of_millis(millis);
@@ -89,6 +91,7 @@ impl Interpreter {
         ensures refused { OnErr result ((connection_number frame_number : ℕ)
             → connection_number < 2 ^ 64 → frame_number < 2 ^ 64
             → connection.now ≡ decimal connection_number → frame.now ≢ decimal frame_number) }
+        ensures fault { IfErr result (λ fault. fault ≡ LineFault.BadLine) }
     {
         let connection = words::number_of(connection).ok_or(LineFault::BadLine)?;
         let frame = words::number_of(frame).ok_or(LineFault::BadLine)?;
@@ -103,6 +106,7 @@ impl Interpreter {
         ensures counted { OnOk result (self.new.stamps
             ≡ record { given = None; requests = min (self.old.stamps.requests + 1) (2 ^ 64 - 1) }) }
         ensures err { OnErr result (output.new ≡ output.old) }
+        ensures refused { result ≡ Err LineFault.BadLine → IsErr (decode_of frame.now) }
         ensures kept { self.new.now ≡ self.old.now }
     {
         let frame = words::bytes_of(self.alloc, frame)?;
@@ -157,6 +161,7 @@ fn print(
 ) -> Result<(), LineFault>
     ensures ok { OnOk result (output.new ≡ output.old ++ line_of answered reply.now ++ 10 ∷ []) }
     ensures err { OnErr result (output.new ≡ output.old) }
+    ensures fault { IfErr result (λ fault. fault ≡ LineFault.NoMemory) }
 {
     match answered {
         Answered::Replied => output.line(hex::encode(alloc, reply)?.as_str())?,

@@ -1,9 +1,5 @@
 //! Members, topics and targets for the tests.
 
-ghost use Rattle.std.specs.Prelude.{IsTrue};
-ghost use Rattle.group_types.specs.Assignors.{IdsAreApart};
-ghost use Rattle.range_assign.specs.Members.{subscribers_in};
-
 use crate::{Subs, Subscriber, Target};
 use group_types::limits::LONGEST_STRING;
 use group_types::{AssignorName, EpochNumber, MemberId, NameSet, Partition};
@@ -55,20 +51,6 @@ fn members_of<'a>(
     Ok(members)
 }
 
-/// Whether no two members have one id.
-fn are_apart(members: &[Subscriber<'_>]) -> bool
-    ensures { IsTrue result → IdsAreApart (subscribers_in members.now) }
-{
-    for (place, later) in members.iter().enumerate() {
-        for earlier in &members[..place] {
-            if earlier.id.is(later.id.as_str()) {
-                return false;
-            }
-        }
-    }
-    true
-}
-
 /// A view of topic t with so many partitions.
 fn view_of(alloc: Global, count: i32) -> Result<View, AllocError> {
     let mut list = Vec::new(alloc);
@@ -95,7 +77,7 @@ fn renewed(
     let view = view_of(alloc, count)?;
     let stored = stored_for(alloc, rows)?;
     let members = members_of(alloc, rows, &stored)?;
-    if !are_apart(&members) {
+    if !Subscriber::are_apart(&members) {
         return Ok(Target::new(alloc, epoch));
     }
     target.renew(alloc, &Subs::of(members), &view, epoch)

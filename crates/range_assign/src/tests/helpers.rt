@@ -1,9 +1,5 @@
 //! Members, topics and spreads for the tests.
 
-ghost use Rattle.std.specs.Prelude.{IsTrue};
-ghost use Rattle.group_types.specs.Assignors.{IdsAreApart};
-ghost use Rattle.range_assign.specs.Members.{subscribers_in};
-
 use crate::{Assignor, Range, Spread, Subs, Subscriber};
 use group_types::limits::LONGEST_STRING;
 use group_types::{AssignorName, MemberId, NameSet, Partition};
@@ -58,20 +54,6 @@ fn members_of<'a>(
     Ok(members)
 }
 
-/// Whether no two members have one id.
-fn are_apart(members: &[Subscriber<'_>]) -> bool
-    ensures { IsTrue result → IdsAreApart (subscribers_in members.now) }
-{
-    for (place, later) in members.iter().enumerate() {
-        for earlier in &members[..place] {
-            if earlier.id.is(later.id.as_str()) {
-                return false;
-            }
-        }
-    }
-    true
-}
-
 /// A view of the topics, which have no fault.
 fn view_of(alloc: Global, topics: &[Topic]) -> Result<View, AllocError> {
     let mut list = Vec::new(alloc);
@@ -104,7 +86,7 @@ fn assigned<A: Assignor>(
     view: &View,
 ) -> Result<Spread, AllocError> {
     let nothing = Spread::empty(alloc);
-    if !are_apart(&members) {
+    if !Subscriber::are_apart(&members) {
         return Ok(nothing);
     }
     assignor.assign(alloc, &nothing, &Subs::of(members), view)
@@ -171,7 +153,7 @@ pub fn assignor_under(
     for (member, vote) in members.iter_mut().zip(votes) {
         member.assignor = vote;
     }
-    if !are_apart(&members) {
+    if !Subscriber::are_apart(&members) {
         return Ok(None);
     }
     Ok(Some(Subs::of(members).assignor()))

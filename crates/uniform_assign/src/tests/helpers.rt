@@ -1,9 +1,5 @@
 //! Members, topics and spreads for the tests.
 
-ghost use Rattle.std.specs.Prelude.{IsTrue};
-ghost use Rattle.group_types.specs.Assignors.{IdsAreApart};
-ghost use Rattle.range_assign.specs.Members.{subscribers_in};
-
 use crate::{Assignor, Spread, Subs, Subscriber, Uniform};
 use group_types::limits::LONGEST_STRING;
 use group_types::{MemberId, NameSet, Partition};
@@ -59,20 +55,6 @@ fn members_of<'a>(
     Ok(members)
 }
 
-/// Whether no two members have one id.
-fn are_apart(members: &[Subscriber<'_>]) -> bool
-    ensures { IsTrue result → IdsAreApart (subscribers_in members.now) }
-{
-    for (place, later) in members.iter().enumerate() {
-        for earlier in &members[..place] {
-            if earlier.id.is(later.id.as_str()) {
-                return false;
-            }
-        }
-    }
-    true
-}
-
 /// A view of the topics, which have no fault.
 fn view_of(alloc: Global, topics: &[Topic]) -> Result<View, AllocError> {
     let mut list = Vec::new(alloc);
@@ -99,7 +81,7 @@ fn assigned<A: Assignor>(
     let view = view_of(alloc, topics)?;
     let stored = stored_for(alloc, rows)?;
     let members = members_of(alloc, rows, &stored)?;
-    if !are_apart(&members) {
+    if !Subscriber::are_apart(&members) {
         return Ok(Spread::empty(alloc));
     }
     assignor.assign(alloc, former, &Subs::of(members), &view)

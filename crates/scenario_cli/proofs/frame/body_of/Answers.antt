@@ -1,4 +1,4 @@
-use Rattle.std.proofs.Common.{◌≡◌, length, ap, arith, inl, inr}
+use Rattle.std.proofs.Common.{◌≡◌, length, arith, inl, inr}
 use Rattle.scenario_cli.proofs.FrameParts.{one_body}
 use Rattle.scenario_cli.proofs.frame.body_of.Goals as goal
 

@@ -1,6 +1,6 @@
 use Rattle.std.proofs.Common.{◌≡◌, ℕ, ◌<◌, get_or}
 use Rattle.range_assign.specs.declared.subs.Subscriber.{Subscriber}
-use Rattle.uniform_assign.proofs.tests.helpers.are_apart.Given as goal
+use Rattle.range_assign.proofs.subs.Subscriber.are_apart.Given as goal
 
 -- none of the members up to this one has the id of an earlier one
 abbrev pub invariant-loop-place : goal.invariant-loop-place

@@ -1,5 +1,0 @@
-use Rattle.range_assign.proofs.Apart.{IdsAreApart-of}
-use Rattle.group_target.proofs.tests.helpers.are_apart.Goals as goal
-
-pub returns : goal.returns
-returns c = λ so. IdsAreApart-of c.args.members.now c.loop-place.place c.loop-place-test.false c.loop-place.invariant
