@@ -1,0 +1,111 @@
+"""Cases: what the program is given, and what it must answer.
+
+    cases/SUBCOMMAND/NAME.in       standard input
+    cases/SUBCOMMAND/NAME.out      the standard output that is expected
+    cases/SUBCOMMAND/NAME.err      the standard error that is expected; without it, nothing
+    cases/SUBCOMMAND/NAME.status   the exit status that is expected; without it, 0
+    cases/SUBCOMMAND/NAME.args     words behind the subcommand, one a line
+"""
+
+import concurrent.futures
+import dataclasses
+import difflib
+import os
+import tempfile
+
+from gate import commands
+
+# The crate whose program the cases are for.
+PROGRAM_CRATE = "scenario_cli"
+# How long a case may take, in seconds, and how much of a difference is shown, in lines.
+LIMIT = 60
+SHOWN = 40
+ENDINGS = (".in", ".out", ".err", ".status", ".args")
+
+
+class BadCase(Exception):
+    """Why a case cannot be run."""
+
+
+@dataclasses.dataclass(frozen=True)
+class Case:
+    """The words for the program, what it is given and what it must answer."""
+
+    label: str
+    words: tuple
+    given: bytes
+    output: bytes
+    errors: bytes
+    status: int
+
+
+def labels_in(root):
+    """The cases of a tree, as cases/SUBCOMMAND/NAME: one for each name that a file there has."""
+    found = set()
+    for folder, folders, names in os.walk(f"{root}/cases"):
+        folders.sort()
+        stems = {os.path.splitext(it)[0] for it in names if not it.endswith(".md")}
+        found |= {os.path.relpath(f"{folder}/{it}", root) for it in stems}
+    return sorted(found)
+
+
+def read_case(root, label):
+    """Reads the files of one case."""
+    parts = label.split("/")
+    if len(parts) != 3:
+        raise BadCase("a case stands in cases/SUBCOMMAND/")
+    files = {it: content_of(f"{root}/{label}{it}") for it in ENDINGS}
+    if files[".in"] is None or files[".out"] is None:
+        raise BadCase(f"it has no file {parts[2]}{'.in' if files['.in'] is None else '.out'}")
+    status = (files[".status"] or b"0").strip()
+    if not status.isdigit():
+        raise BadCase(f"{parts[2]}.status holds no number")
+    words = (files[".args"] or b"").decode().splitlines()
+    return Case(label, (parts[1], *words), files[".in"], files[".out"], files[".err"] or b"", int(status))
+
+
+def content_of(path):
+    if not os.path.isfile(path):
+        return None
+    with open(path, "rb") as file:
+        return file.read()
+
+
+def run_all(root, program, say):
+    """Runs every case of a tree with the program; says each that fails. Returns how many passed and failed."""
+    labels = labels_in(root)
+    with concurrent.futures.ThreadPoolExecutor(os.cpu_count()) as pool:
+        faults = [*pool.map(lambda label: fault_of(root, label, program), labels)]
+    for label, fault in zip(labels, faults):
+        if fault is not None:
+            say(f"{label}: {fault}")
+    failed = sum(it is not None for it in faults)
+    return len(labels) - failed, failed
+
+
+def fault_of(root, label, program):
+    """How the program's answer differs from what a case expects, or None."""
+    try:
+        case = read_case(root, label)
+    except (BadCase, OSError, UnicodeDecodeError) as why:
+        return f"BAD CASE: {why}"
+    with tempfile.TemporaryDirectory(prefix="case-") as folder:
+        ran = commands.run([program, *case.words], folder, case.given, LIMIT, merged=False)
+    if ran.was_cut:
+        return f"FAILED: it had not ended after {LIMIT} seconds"
+    differences = [
+        *difference("standard output", case.output, ran.output),
+        *difference("standard error", case.errors, ran.errors),
+    ]
+    if ran.status != case.status:
+        differences.insert(0, f"the status is {ran.status}, and {case.status} is expected")
+    return "\n    ".join(["FAILED:", *differences]) if differences else None
+
+
+def difference(what, expected, found):
+    """The lines that tell how two texts differ; none where they are the same."""
+    if expected == found:
+        return []
+    texts = [it.decode(errors="backslashreplace").split("\n") for it in (expected, found)]
+    lines = [*difflib.unified_diff(*texts, f"{what}, expected", what, n=1, lineterm="")]
+    return [*(it[:400] for it in lines[:SHOWN]), *[f".. and {len(lines) - SHOWN} lines more"][: len(lines) > SHOWN]]

@@ -1,0 +1,188 @@
+"""Starts programs, measures them, and ends them all when this process is told to stop.
+
+Every program runs in a session of its own. This process adopts what its programs leave behind, so that
+whatever they have started can be found below it, in whatever session, and be ended.
+"""
+
+import contextlib
+import ctypes
+import dataclasses
+import os
+import shutil
+import signal
+import subprocess
+import sys
+import tempfile
+import threading
+import time
+
+# From <sys/prctl.h>: orphans below this process become its children.
+PR_SET_CHILD_SUBREAPER = 36
+# What a signal that stops the tools adds to its number to make the exit status, as shells do.
+STOPPED_STATUS = 128
+
+stopping = threading.Event()
+
+
+class Stopped(Exception):
+    """This process was told to stop, so no program is started any more."""
+
+
+@dataclasses.dataclass(frozen=True)
+class Ran:
+    """A program that has ended: its status (negative: the signal), what it wrote, and its time in seconds."""
+
+    status: int
+    output: bytes
+    errors: bytes
+    wall: float
+    processor: float
+    was_cut: bool
+
+    def lines(self):
+        return self.output.decode(errors="replace").rstrip("\n").split("\n")
+
+
+def run(words, folder=None, given=b"", limit=None, merged=True):
+    """Runs a program to its end, or for at most `limit` seconds. Where `merged`, its errors go into `output`."""
+    with contextlib.ExitStack() as files:
+        given_file, output, errors = (files.enter_context(tempfile.TemporaryFile()) for _ in range(3))
+        given_file.write(given)
+        given_file.seek(0)
+        began = time.monotonic()
+        child = start(words, folder, given_file, output, subprocess.STDOUT if merged else errors)
+        with time_limit(child, limit) as was_cut:
+            status, processor = wait_for(child)
+        wall = time.monotonic() - began
+        kill(members_of(child.pid))
+        if stopping.is_set():
+            raise Stopped
+        return Ran(status, contents(output), contents(errors), wall, processor, was_cut.is_set())
+
+
+def start(words, folder, given, output, errors):
+    """Starts a program in a session of its own."""
+    if stopping.is_set():
+        raise Stopped
+    child = subprocess.Popen(
+        words, cwd=folder, stdin=given, stdout=output, stderr=errors, start_new_session=True
+    )
+    if stopping.is_set():
+        end(child)
+    return child
+
+
+@contextlib.contextmanager
+def time_limit(child, seconds):
+    """Ends a program that is still running after so many seconds, and tells whether it had to."""
+    was_cut = threading.Event()
+
+    def cut():
+        was_cut.set()
+        end(child)
+
+    timer = threading.Timer(seconds or threading.TIMEOUT_MAX, cut)
+    timer.daemon = True
+    timer.start()
+    try:
+        yield was_cut
+    finally:
+        timer.cancel()
+
+
+def wait_for(child):
+    """The exit status and the processor time of a program and of all that it waited for."""
+    _, status, used = os.wait4(child.pid, 0)
+    child.returncode = os.waitstatus_to_exitcode(status)
+    return child.returncode, used.ru_utime + used.ru_stime
+
+
+def contents(file):
+    file.seek(0)
+    return file.read()
+
+
+def processes():
+    """The processes of the machine that have not ended: number, parent and session."""
+    for name in os.listdir("/proc"):
+        if not name.isdigit():
+            continue
+        with contextlib.suppress(OSError):
+            with open(f"/proc/{name}/stat", encoding="utf-8", errors="replace") as file:
+                # The program's name stands in brackets, and can have spaces and brackets itself.
+                state, parent, _, session = file.read().rpartition(")")[2].split()[:4]
+            if state != "Z":
+                yield int(name), int(parent), int(session)
+
+
+def below(number):
+    """The processes that descend from this one."""
+    parents = {child: parent for child, parent, _ in processes()}
+    found = {number}
+    while more := {child for child, parent in parents.items() if parent in found and child not in found}:
+        found |= more
+    return found - {number}
+
+
+def kill(numbers):
+    for number in numbers:
+        with contextlib.suppress(ProcessLookupError):
+            os.kill(number, signal.SIGKILL)
+
+
+def members_of(session):
+    return [child for child, _, its_session in processes() if its_session == session]
+
+
+def end(child):
+    """Ends a program that is running, and all that it has started."""
+    kill({*members_of(child.pid), *below(child.pid)})
+
+
+def end_all():
+    """Ends every process below this one, also those that begin meanwhile."""
+    while found := below(os.getpid()):
+        kill(found)
+        time.sleep(0.01)
+
+
+def stop(number, _frame):
+    """Ends what was started; what waits for it then ends too, and removes its files."""
+    for it in (signal.SIGINT, signal.SIGTERM, signal.SIGHUP):
+        signal.signal(it, signal.SIG_IGN)
+    stopping.set()
+    end_all()
+    sys.exit(STOPPED_STATUS + number)
+
+
+@contextlib.contextmanager
+def room(name):
+    """A folder that others can read and that is removed at the end, whatever ends it but SIGKILL.
+
+    What is written meanwhile to the folder for temporary files, also by the programs, lies in it. From here on a
+    signal to stop also ends every program that was started.
+    """
+    ctypes.CDLL(None, use_errno=True).prctl(PR_SET_CHILD_SUBREAPER, 1, 0, 0, 0)
+    for it in (signal.SIGINT, signal.SIGTERM, signal.SIGHUP):
+        signal.signal(it, stop)
+    folder = os.path.realpath(tempfile.mkdtemp(prefix=f"{name}-"))
+    tempfile.tempdir = os.environ["TMPDIR"] = f"{folder}/tmp"
+    os.mkdir(tempfile.tempdir)
+    for it in (folder, tempfile.tempdir):
+        os.chmod(it, 0o755)
+    try:
+        yield folder
+    finally:
+        end_all()
+        shutil.rmtree(folder, ignore_errors=True)
+
+
+def need(program):
+    """Ends this process where a program is not on PATH."""
+    if shutil.which(program) is None:
+        fail(f"{program}, the Rattle toolchain's command, is not on PATH")
+
+
+def fail(why):
+    """Ends this process with one line that says why."""
+    sys.exit(f"{os.path.basename(sys.argv[0])}: {why}")

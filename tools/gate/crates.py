@@ -1,0 +1,117 @@
+"""The crates of a tree, as crates.txt lists them, and how the checker is called for one of them."""
+
+import os
+
+from gate import commands
+
+# The parts of a crate that a check reads.
+PARTS = ("src", "specs", "proofs")
+
+
+class Tree:
+    """A repository's files: its crates, and the libraries that were built of them."""
+
+    def __init__(self, root, kit):
+        self.root, self.kit = root, kit
+        self.uses = listed(f"{root}/crates.txt")
+
+    def folder(self, crate):
+        return f"{self.root}/crates/{crate}"
+
+    def library(self, crate):
+        return f"{self.folder(crate)}/out/rlib/{crate}.rlib"
+
+    def own(self, crate):
+        """The crates of the tree that this one names."""
+        return [it for it in self.uses[crate] if it in self.uses]
+
+    def below(self, crate):
+        """The crates of the tree that this one rests on, each after those that it rests on itself."""
+        found = []
+        for it in self.own(crate):
+            found += [low for low in [*self.below(it), it] if low not in found]
+        return found
+
+    def above(self, crates):
+        """These crates and those that rest on one of them, lowest first."""
+        return self.lowest_first([it for it in self.uses if it in crates or {*crates} & {*self.below(it)}])
+
+    def lowest_first(self, crates):
+        """These crates, each after those of them that it rests on."""
+        order = dict.fromkeys(low for it in crates for low in [*self.below(it), it])
+        return [it for it in order if it in crates]
+
+    def root_file(self, crate):
+        is_program = os.path.isfile(f"{self.folder(crate)}/src/main.rt")
+        return "src/main.rt" if is_program else "src/lib.rt"
+
+    def sources(self, crate):
+        """The crate's own files, by their path in it."""
+        folder, found = self.folder(crate), []
+        for part in PARTS:
+            for at, _, names in os.walk(f"{folder}/{part}"):
+                found += [os.path.relpath(f"{at}/{name}", folder) for name in names]
+        return sorted(found)
+
+    def read(self, crate, path):
+        with open(f"{self.folder(crate)}/{path}", encoding="utf-8") as file:
+            return file.read()
+
+    def check_words(self, crate, uses=None, root_file=None):
+        """The words that check a crate, in a folder that has its files, over the tree's built libraries.
+
+        `uses` and `root_file` are given for code that is no crate of the tree.
+        """
+        uses = self.uses[crate] if uses is None else uses
+        words = [f"{self.kit}/bin/rattle", "check", "--crate-name", crate]
+        words.append(root_file or self.root_file(crate))
+        own = [it for it in uses if it in self.uses]
+        for name in ["std", *(it for it in uses if it not in self.uses)]:
+            words += ["--extern", f"{name}={self.kit}/rlibs/{name}.rlib"]
+        for name in own:
+            words += ["--extern", f"{name}={self.library(name)}"]
+        words += ["-L", f"dependency={self.kit}/rlibs"]
+        for name in dict.fromkeys(low for it in own for low in [*self.below(it), it]):
+            words += ["-L", f"dependency={os.path.dirname(self.library(name))}"]
+        words += ["--antt-project", f"{self.kit}/rattle/logic/antt-project.json"]
+        return [*words, "--logic-built", f"{self.kit}/logic_built", "--links", f"{crate}="]
+
+    def build_below(self, crates):
+        """Builds the libraries that these crates rest on. Says why one does not build, or None."""
+        return self.build(dict.fromkeys(low for it in crates for low in self.below(it)))
+
+    def build(self, names):
+        """Builds these libraries, where they have changed. Says why one does not build, or None."""
+        for name in names:
+            ran = commands.run(["rt", "lib"], self.folder(name))
+            if ran.status:
+                return "\n".join([*ran.lines()[-20:], f"the library {name} is not proved"])
+        return None
+
+
+def listed(file):
+    """What crates.txt says: each crate, and the libraries that it names."""
+    found = {}
+    with open(file, encoding="utf-8") as lines:
+        for line in lines:
+            head, colon, uses = line.partition("#")[0].partition(":")
+            if colon:
+                found[head.split()[0]] = uses.split()
+    return found
+
+
+def kit_folder():
+    """The folder of the toolchain."""
+    page = commands.run(["rt", "doc"]).lines()[-1]
+    return os.path.dirname(page)
+
+
+def repository():
+    """The repository that these tools stand in."""
+    return os.path.dirname(os.path.dirname(os.path.dirname(os.path.realpath(__file__))))
+
+
+def work_tree():
+    """The repository as it stands, with what earlier checks left in it."""
+    commands.need("rt")
+    return Tree(repository(), kit_folder())

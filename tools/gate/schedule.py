@@ -1,0 +1,135 @@
+"""How much runs side by side, for how long, and which crate comes first."""
+
+import concurrent.futures
+import contextlib
+import os
+import random
+import re
+import subprocess
+import threading
+import time
+
+# What a check takes of memory in bytes: in any crate, and for each line of the crate's source. Measured on crates
+# of 360 to 2,800 lines; the most that one took was 4 GB.
+CHECK_MEMORY, LINE_MEMORY = 3_000_000_000, 1_000_000
+# How much of the free memory is used, and by how much a further job of a check adds to what the first one takes.
+USED_MEMORY, JOB_MEMORY = 0.85, 0.6
+# More jobs than this seldom make a check faster.
+MOST_JOBS = 4
+# How long a round that was begun in time may run on, in seconds.
+GRACE = 600
+# Where a control group says how much processor time (quota and period) and memory (limit and use) there is.
+QUOTA_FILE = "/sys/fs/cgroup/cpu.max"
+MEMORY_FILES = ("/sys/fs/cgroup/memory.max", "/sys/fs/cgroup/memory.current")
+
+
+class OutOfTime(Exception):
+    """A round was ended, since the time for edits is over."""
+
+
+class Clock:
+    """The time from a start on, of which so many minutes are for what is left out at need; None: any number."""
+
+    def __init__(self, minutes=None):
+        self.began, self.minutes = time.monotonic(), minutes
+
+    def seconds(self):
+        return time.monotonic() - self.began
+
+    def is_over(self):
+        return self.minutes is not None and self.seconds() >= 60 * self.minutes
+
+    def seconds_left(self):
+        """How long a round that begins now may take; None: as long as it wants."""
+        return None if self.minutes is None else max(60 * self.minutes + GRACE - self.seconds(), 1)
+
+
+class Lanes:
+    """Runs tasks side by side, as many as there are processors and memory for."""
+
+    def __init__(self):
+        self.processors, self.memory = processors(), USED_MEMORY * free_memory()
+        self.used, self.left = [], 0
+        self.changed = threading.Condition()
+
+    def run(self, tasks):
+        """Runs tasks, each a need of memory and a call, beginning them in this order. Returns what the calls gave."""
+        self.left = len(tasks)
+        with concurrent.futures.ThreadPoolExecutor(self.processors) as pool:
+            return [it.result() for it in [pool.submit(self.run_one, *task) for task in tasks]]
+
+    def run_one(self, need, call):
+        with self.room_for(need):
+            return call()
+
+    @contextlib.contextmanager
+    def room_for(self, need):
+        with self.changed:
+            self.changed.wait_for(lambda: not self.used or sum(self.used) + need <= self.memory)
+            self.used.append(need)
+        try:
+            yield
+        finally:
+            with self.changed:
+                self.used.remove(need)
+                self.left -= 1
+                self.changed.notify_all()
+
+    def jobs(self):
+        """How many jobs a check that begins now gets: its share of the processors and of the memory."""
+        with self.changed:
+            sharers = max(min(self.left, self.processors), 1)
+            most, need = self.memory / sharers, max(self.used, default=CHECK_MEMORY)
+        fitting = 1 + int(max(most / need - 1, 0) / JOB_MEMORY)
+        return max(1, min(self.processors // sharers, fitting, MOST_JOBS))
+
+
+def need_of(tree, crate):
+    """The memory that a check of the crate is planned with."""
+    texts = (tree.read(crate, it) for it in tree.sources(crate) if it.endswith(".rt"))
+    return CHECK_MEMORY + LINE_MEMORY * sum(it.count("\n") for it in texts)
+
+
+def number_in(file, pattern):
+    try:
+        with open(file, encoding="utf-8") as text:
+            found = re.search(pattern, text.read())
+    except OSError:
+        return None
+    return int(found[1]) if found else None
+
+
+def processors():
+    """How many processors this process may use."""
+    found = len(os.sched_getaffinity(0))
+    quota, period = number_in(QUOTA_FILE, r"^(\d+)"), number_in(QUOTA_FILE, r" (\d+)")
+    return min(found, max(quota // period, 1)) if quota and period else found
+
+
+def free_memory():
+    """How many bytes of memory are free for this process."""
+    free = 1024 * number_in("/proc/meminfo", r"MemAvailable:\s+(\d+)")
+    limit, used = (number_in(it, r"(\d+)") for it in MEMORY_FILES)
+    return free if limit is None or used is None else min(free, limit - used)
+
+
+def order(root, names):
+    """The names in an order that changes from commit to commit, and the crates that the last commit changed first."""
+    commit = git(root, "rev-parse", "HEAD").strip()
+    changed = set(re.findall(r"^crates/(\w+)/", git(root, "diff", "--name-only", "HEAD^", "HEAD"), re.M))
+    shuffled = random.Random(commit).sample(sorted(names), len(names))
+    return sorted(shuffled, key=lambda it: it not in changed)
+
+
+def shuffled(root, items, name):
+    """The items of a crate in an order that changes from commit to commit."""
+    return random.Random(git(root, "rev-parse", "HEAD").strip() + name).sample(items, len(items))
+
+
+def git(root, *words):
+    """What git writes, or nothing where it has no answer. Who owns the folder makes no difference."""
+    command = ["git", "-c", "safe.directory=*", "-C", root, *words]
+    try:
+        return subprocess.run(command, stdout=subprocess.PIPE, stderr=subprocess.DEVNULL, text=True).stdout
+    except OSError:
+        return ""

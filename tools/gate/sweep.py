@@ -1,0 +1,122 @@
+"""The edits of many crates, side by side: by itself in a work tree, or in the gate behind `rt ci`."""
+
+import collections
+import contextlib
+import threading
+
+from gate import edits, rounds, schedule, trials
+
+BY_ITS_TEST, TEST_PASSED, LEFT_OUT = "refused by its test", "TEST PASSED", "left out"
+
+Tally = collections.namedtuple("Tally", "passed failed left")
+
+
+class Sweep:
+    """Tries edits of the crates of a tree.
+
+    `known` has for each crate the names in its verdict, where `rt ci` has just proved the tree's very files and built
+    its libraries. Without it a check of each crate as it stands comes first, over what its own checks have kept.
+    """
+
+    def __init__(self, tree, room, say, clock, known=None):
+        self.tree, self.room, self.clock, self.known = tree, room, clock, known
+        self.lanes, self.printing, self.say_line = schedule.Lanes(), threading.Lock(), say
+        self.named, self.trials = {}, None
+
+    def say(self, line):
+        with self.printing:
+            self.say_line(line)
+
+    def run(self, tried, named):
+        """Tries these edits, by crate in the order to be kept; says what came of each, and counts."""
+        self.named = named
+        tests = [it.test for each in tried.values() for it in each if it.test]
+        self.trials = trials.Trials(self.tree, self.room, tests, self.say, self.clock)
+        tasks = [
+            (schedule.need_of(self.tree, crate), lambda crate=crate, each=each: self.try_crate(crate, each))
+            for crate, each in tried.items()
+        ]
+        answers = {edit: answer for found in self.lanes.run(tasks) for edit, answer in found.items()}
+        return answers, tally(answers, named)
+
+    def try_crate(self, crate, tried):
+        """What came of each edit of a crate: a word, and why."""
+        began = self.clock.seconds()
+        found = {edit: (LEFT_OUT, "") for edit in tried}
+        if not self.clock.is_over():
+            bench = rounds.Bench(self.tree, crate, f"{self.room}/bench-{crate}", self.say, self.lanes, self.clock)
+            with contextlib.suppress(schedule.OutOfTime):
+                found.update(self.answers_of(bench, tried))
+            bench.remove()
+            spent = f"{bench.processor:.0f} s of processor time, {self.clock.seconds() - began:.0f} s"
+            self.say(f"{crate}: {len(tried)} edits: {bench.checks} checks, {spent}")
+        for edit in sorted((it for it in tried if found[it][0] != LEFT_OUT), key=lambda it: it.label):
+            self.say(f"{edit.label}: {shown(found[edit], edit, self.named)}")
+        return found
+
+    def answers_of(self, bench, tried):
+        """What came of the edits that there was time for."""
+        known = (self.known or {}).get(bench.crate) or self.control(bench)
+        if not known:
+            return {edit: (rounds.BAD_EDIT, "the crate as it stands is not proved") for edit in tried}
+        run = rounds.Rounds(bench, known)
+        with contextlib.suppress(schedule.OutOfTime):
+            run.try_all(tried)
+        proved = [it for it, (word, _) in run.answers.items() if it.is_for_a_test and word == rounds.PROVED]
+        return {**run.answers, **{it: self.tested(it, run.changes[it].texts) for it in proved}}
+
+    def control(self, bench):
+        """Checks a crate as it stands, and returns the names in its verdict, or None where it is not proved."""
+        bench.take_kept()
+        verdict = bench.check({}, "as it stands")
+        if verdict.proves_all():
+            return {*verdict.lines}
+        self.say("\n".join(verdict.said[-20:]))
+        return None
+
+    def tested(self, edit, texts):
+        """What came of an edit that is proved and that a test or a case must refuse."""
+        if self.clock.is_over():
+            return LEFT_OUT, ""
+        try:
+            outcome = self.trials.outcome(edit, texts)
+        except trials.NotRun as why:
+            return rounds.BAD_EDIT, str(why)
+        except schedule.OutOfTime:
+            return LEFT_OUT, ""
+        if outcome == trials.FAILS:
+            return BY_ITS_TEST, ""
+        return TEST_PASSED, f"{edit.test or edit.case} passes with this edit"
+
+
+def is_good(answer, edit, named):
+    """Whether an edit came out as it must."""
+    if edit.is_for_a_test:
+        return answer[0] == BY_ITS_TEST
+    return answer[0] == rounds.REFUSED or answer[0] == rounds.NAMED and edit.name in named.get(edit.crate, ())
+
+
+def shown(answer, edit, named):
+    word, why = answer
+    if word == rounds.NAMED and is_good(answer, edit, named):
+        return f"{word}, as {edits.NAMED_FILE} lists it"
+    return f"{word}: {why}" if why else word
+
+
+def tally(answers, named):
+    left = sum(answer[0] == LEFT_OUT for answer in answers.values())
+    passed = sum(is_good(answer, edit, named) for edit, answer in answers.items())
+    return Tally(passed, len(answers) - left - passed, left)
+
+
+def gathered(folder_of, names, say):
+    """The edits of these crates and the names that their NAMED.md list, by crate; and how many files are no edits."""
+    tried, named, bad = {}, {}, 0
+    for crate in names:
+        tried[crate], named[crate], strange = edits.edits_of(folder_of(crate), crate)
+        lost = named[crate] - {it.name for it in tried[crate]}
+        strange.update({f"{crate}/{edits.NAMED_FILE}": f"it lists {it}, which is not there" for it in lost})
+        for label, why in strange.items():
+            say(f"{label}: {rounds.BAD_EDIT}: {why}")
+        bad += len(strange)
+    return {crate: each for crate, each in tried.items() if each}, named, bad

@@ -1,0 +1,119 @@
+"""Reading what a check says.
+
+A check names every function that is not proved, and callers rest on contracts alone. So a line that only says
+that a function calls another one that is not proved is no failure of its own.
+"""
+
+import re
+
+from gate import functions
+
+# RESTS: the function's own proof stands, and it calls one that is not proved. WAITS: it is not judged for such a call.
+PROVED, RESTS, WAITS, UNKNOWN, FAILED = "proved", "rests", "waits", "unknown", "failed"
+
+LINE = re.compile(r"fn (\S+): (.*)")
+CALLS = re.compile(r"it (?:calls|passes the blocks?) `[^`]+`(?: and `[^`]+`)*, which (?:is|are) not proved")
+WAITS_FOR = re.compile(
+    r"the borrow checker's part in its proof is not made yet.*a call of `[^`]+`(?:: `[^`]+`)?, which has no proof"
+)
+# What is said of a text that cannot be read, where a statement that is only false reads well.
+MESSAGE = re.compile(r"(?:\./)?(\S+?):\d+:\d+: error: (?:(`[^`]*`): )?(.*)")
+UNREADABLE = re.compile(
+    r"is not in scope|has no field|is no name|operand is missing|expected the end|cannot continue"
+)
+# What is said of a proof that names what the code no longer has.
+NAMES_WHAT_IS_GONE = re.compile(r"has no field|is not in scope|has no `|was not admitted")
+# What is said at a place of the crate's files, as an error or a note.
+TOLD = re.compile(r"note: \S+:\d+:\d+:|\S+:\d+:\d+:.*: error")
+STALE = re.compile(r"module .Rattle-\w+-.*Run the lower steps again")
+
+
+class Verdict:
+    """What one check said: whether it came to a verdict, and how it judged each function."""
+
+    def __init__(self, ran):
+        self.status, self.said = ran.status, ran.lines()
+        self.lines = {it[1]: it[2] for it in map(LINE.fullmatch, self.said) if it}
+        self.last = next((it for it in reversed(self.said) if it.startswith(("logic=", "only="))), "")
+
+    def proves_all(self):
+        is_last = self.last.startswith("logic=proved ")
+        return self.status == 0 and is_last and bool(self.lines) and {*self.lines.values()} == {"proved"}
+
+    def why_void(self, edited):
+        """Why this is no verdict on code that was read as it was meant, or None. `edited` are the changed files."""
+        unread = next((it for it in self.said if is_unread(it, edited)), None)
+        if unread:
+            return f"the prover cannot read the edited text: {unread[:200]}"
+        if any(map(STALE.search, self.said)):
+            return "the kept work of a library below could not be used"
+        if self.status not in (0, 1) or not self.last or not self.lines:
+            return f"it did not reach the prover: {self.first_error()}"
+        return None
+
+    def lines_with_errors(self):
+        """The lines of source, from 0, at which an error is said to be."""
+        found = (re.match(r"(?:\./)?(\S+?):(\d+):\d+: error", it) for it in self.said)
+        return {(it[1], int(it[2]) - 1) for it in found if it}
+
+    def first_error(self):
+        errors = [it for it in self.said if re.search(r"error[\[:]", it)]
+        return (errors or self.said[-1:] or [""])[0][:200]
+
+    def of(self, name):
+        """How a function is judged, its closures and inner functions with it."""
+        found = [judged(said) for it, said in self.lines.items() if functions.owner_in(it, self.lines) == name]
+        return next((it for it in (FAILED, UNKNOWN, WAITS, RESTS, PROVED) if it in found), UNKNOWN)
+
+    def failing(self):
+        """The functions that fail of their own, or of which an unknown thing is said."""
+        bad = (it for it, said in self.lines.items() if judged(said) in (FAILED, UNKNOWN))
+        return {functions.owner_in(it, self.lines) for it in bad}
+
+    def why_stray(self, turned):
+        """Why a verdict tells nothing of the functions that edits turn: another one fails. Else None."""
+        strays = sorted(self.failing() - turned)
+        return f"{strays[0]} fails, which no edit turns: {self.lines[strays[0]][:120]}" if strays else None
+
+    def is_only_by_name(self, name, function):
+        """Whether a function that fails does so only since its proof files use a name that is gone."""
+        *path, last = name.split("::")[1:]
+        folder = "".join(f"{re.escape(it)}/" for it in path)
+        own = re.compile(rf"(?:\./)?proofs/{folder}\+?{re.escape(last)}/\S+: error: ")
+        told = [it for it in self.said if own.match(it)]
+        by_name = bool(told) and all(map(NAMES_WHAT_IS_GONE.search, told))
+        return by_name and self.lines[name].startswith("not proved") and not self.has_open_goal(function)
+
+    def is_all_by_name(self):
+        """Whether nothing is said to be wrong but that proof files use names that are gone."""
+        told = [it for it in self.said if TOLD.match(it)]
+        by_name = (it.startswith(("proofs/", "./proofs/")) and NAMES_WHAT_IS_GONE.search(it) for it in told)
+        return bool(told) and all(by_name)
+
+    def has_open_goal(self, function):
+        """Whether a goal of the function's own code is said to be not proved."""
+        note = re.compile(rf"(?:note: )?(?:\./)?{re.escape(function.path)}:(\d+):\d+: (?:error: )?it is not proved")
+        rows = (int(it[1]) - 1 for it in map(note.match, self.said) if it)
+        return any(function.first <= row <= function.last for row in rows)
+
+
+def judged(said):
+    """What the text behind `fn NAME: ` says of the function's own proof."""
+    if said == "proved":
+        return PROVED
+    if WAITS_FOR.search(said):
+        return WAITS
+    rest = re.sub(r"[;\s]+$", "", CALLS.sub("", said))
+    if rest != said and rest == "no proof:":
+        return RESTS
+    if rest == "not proved" or rest.startswith("no proof: expected "):
+        return FAILED
+    return UNKNOWN
+
+
+def is_unread(line, edited):
+    """Whether a line says that a text of src/, specs/ or an edited file cannot be read."""
+    found = MESSAGE.match(line)
+    if not found or found[1] not in edited and not found[1].startswith(("src/", "specs/")):
+        return False
+    return not found[2] or bool(UNREADABLE.search(re.sub(r"`[^`]*`", "", found[3])))
