@@ -31,7 +31,7 @@ abbrev pub FitsUuid : List ℕ → Type 0
 FitsUuid id = length id ≡ 16
 
 -- UNSIGNED_VARINT (KIP-482): groups of seven bits, the lowest first, the high bit set on all but the
--- last; as few as the number needs, and at most `more` behind the first.
+-- last; as few as the number needs (ours: KIP-482 allows more), and at most `more` behind the first.
 unfoldable pub varint_groups : ℕ → ℕ → List ℕ
 varint_groups zero n = n ∷ []
 varint_groups (suc more) n = if nat_lt n 128 then n ∷ [] else (n % 128 + 128) ∷ varint_groups more (n / 128)

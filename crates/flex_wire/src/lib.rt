@@ -31,6 +31,3 @@ pub use text::{
     take_old_str,
 };
 pub use varint::{put_varint, take_varint};
-
-#[cfg(test)]
-mod tests;

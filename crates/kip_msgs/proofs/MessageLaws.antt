@@ -2,8 +2,9 @@
 use Rattle.std.proofs.Common.{◌≡◌, ℕ, Bool, true, false, List, [], ◌∷◌, ◌++◌, Option, Some, None, Ok, refl, sym, ap, subst, ◌∙◌, append_assoc}
 use Rattle.std.specs.Prelude.{FitsSigned, IfSome}
 use Rattle.std.specs.Int.{w16, w32, w64}
-use Rattle.flex_wire.specs.Spelling.{int16, int32, int64, nullable_string, tagged_fields, mark}
-use Rattle.flex_wire.specs.Reading.{Read, signed_at, mark_at}
+use Rattle.flex_wire.specs.Spelling.{Tagged, int16, int32, int64, nullable_string, tagged_fields, FitsTaggedFields, mark}
+use Rattle.flex_wire.specs.Reading.{Read, signed_at, mark_at, tagged_fields_at}
+use Rattle.flex_wire.specs.Composed.{nothing_at, pair_at}
 use Rattle.flex_wire.specs.Laws.{AreBytes, IsField}
 use Rattle.flex_wire.proofs.Fields.{bind_ok, ok_is, AreBytes-rest}
 use Rattle.flex_wire.proofs.IntLaws.{signed_is_field, wide16, wide32, wide64, uuid_is_field}
@@ -24,6 +25,15 @@ int32_is_field = signed_is_field w32 wide32
 int64_is_field : IsField (FitsSigned w64) int64 (signed_at w64)
 int64_is_field = signed_is_field w64 wide64
 
+-- a field, and those behind it
+infixr 9 ◌▸◌
+abbrev ◌▸◌ : {V W : Type 0} {F : V → Type 0} {G : W → Type 0} {s : V → List ℕ} {t : W → List ℕ} {r : List ℕ → Read V} {q : List ℕ → Read W} → IsField F s r → IsField G t q → IsField (λ (p : V × W). F p.0 × G p.1) (λ p. s p.0 ++ t p.1) (pair_at r q)
+first ▸ others = pair_is_field first others
+
+-- the tagged fields that each structure ends in
+tags_are_field : IsField (λ (p : List Tagged × Unit {0}). FitsTaggedFields p.0 × Unit {0}) (λ p. tagged_fields p.0 ++ []) (pair_at tagged_fields_at nothing_at)
+tags_are_field = pair_is_field tagged_fields_is_field nothing_is_field
+
 -- what stands behind the key and the version of a request's header
 abbrev pub header_rest : RequestHeaderValue → List ℕ
 header_rest header = fields (int32 header.correlation_id ∷ nullable_string header.client_id ∷ tagged_fields header.tags ∷ [])
@@ -35,7 +45,7 @@ request_header_is_field =
     (λ h f. record { correlation_id = f.0; client_id = f.1.0; tags = f.1.1.0 })
     (λ h f. (f.correlation_id, (f.client_id, (f.tags, tt))))
     (made_is_field _ (λ h. (h.correlation_id, (h.client_id, (h.tags, tt)))) (λ _. refl) (λ _. refl)
-    (pair_is_field int32_is_field (pair_is_field nullable_string_is_field (pair_is_field tagged_fields_is_field nothing_is_field))))
+    (int32_is_field ▸ nullable_string_is_field ▸ tags_are_field))
 
 pub response_header_is_field : IsField FitsResponseHeader response_header_fields response_header_at
 unfolding response_header_fields response_header_at
@@ -44,7 +54,7 @@ response_header_is_field =
     (λ h f. record { correlation_id = f.0; tags = f.1.0 })
     (λ h f. (f.correlation_id, (f.tags, tt)))
     (made_is_field _ (λ h. (h.correlation_id, (h.tags, tt))) (λ _. refl) (λ _. refl)
-    (pair_is_field int32_is_field (pair_is_field tagged_fields_is_field nothing_is_field)))
+    (int32_is_field ▸ tags_are_field))
 
 pub topic_partitions_is_field : IsField FitsTopicPartitions topic_partitions_fields topic_partitions_at
 unfolding topic_partitions_fields topic_partitions_at
@@ -53,7 +63,7 @@ topic_partitions_is_field =
     (λ t f. record { topic_id = f.0; partitions = f.1.0; tags = f.1.1.0 })
     (λ t f. (f.topic_id, (f.partitions, (f.tags, tt))))
     (made_is_field _ (λ t. (t.topic_id, (t.partitions, (t.tags, tt)))) (λ _. refl) (λ _. refl)
-    (pair_is_field uuid_is_field (pair_is_field (array_is_field int32_is_field) (pair_is_field tagged_fields_is_field nothing_is_field))))
+    (uuid_is_field ▸ array_is_field int32_is_field ▸ tags_are_field))
 
 pub heartbeat_request_is_field : IsField FitsHeartbeatRequest heartbeat_request_fields heartbeat_request_at
 unfolding heartbeat_request_fields heartbeat_request_at
@@ -73,16 +83,9 @@ heartbeat_request_is_field =
     })
     (λ v f. (f.group_id, (f.member_id, (f.member_epoch, (f.instance_id, (f.rack_id, (f.rebalance_timeout_ms, (f.subscribed_topic_names, (f.server_assignor, (f.topic_partitions, (f.tags, tt)))))))))))
     (made_is_field _ (λ v. (v.group_id, (v.member_id, (v.member_epoch, (v.instance_id, (v.rack_id, (v.rebalance_timeout_ms, (v.subscribed_topic_names, (v.server_assignor, (v.topic_partitions, (v.tags, tt))))))))))) (λ _. refl) (λ _. refl)
-    (pair_is_field compact_string_is_field
-    (pair_is_field compact_string_is_field
-    (pair_is_field int32_is_field
-    (pair_is_field compact_nullable_string_is_field
-    (pair_is_field compact_nullable_string_is_field
-    (pair_is_field int32_is_field
-    (pair_is_field (nullable_array_is_field compact_string_is_field)
-    (pair_is_field compact_nullable_string_is_field
-    (pair_is_field (nullable_array_is_field topic_partitions_is_field)
-    (pair_is_field tagged_fields_is_field nothing_is_field)))))))))))
+    (compact_string_is_field ▸ compact_string_is_field ▸ int32_is_field ▸ compact_nullable_string_is_field
+    ▸ compact_nullable_string_is_field ▸ int32_is_field ▸ nullable_array_is_field compact_string_is_field
+    ▸ compact_nullable_string_is_field ▸ nullable_array_is_field topic_partitions_is_field ▸ tags_are_field))
 
 -- a nullable structure
 marked_taken : {V : Type 0} {F : V → Type 0} {s : V → List ℕ} {r : List ℕ → Read V} → IsField F s r → (there : Bool) (bytes : List ℕ) (p : Option V × List ℕ) → AreBytes bytes → marked_at r there bytes ≡ Ok p → IfSome p.0 F × (mark there ++ bytes ≡ nullable_struct s p.0 ++ p.1)
@@ -117,7 +120,7 @@ assignment_is_field =
     (λ a f. record { topic_partitions = f.0; tags = f.1.0 })
     (λ a f. (f.topic_partitions, (f.tags, tt)))
     (made_is_field _ (λ a. (a.topic_partitions, (a.tags, tt))) (λ _. refl) (λ _. refl)
-    (pair_is_field (array_is_field topic_partitions_is_field) (pair_is_field tagged_fields_is_field nothing_is_field)))
+    (array_is_field topic_partitions_is_field ▸ tags_are_field))
 
 pub heartbeat_reply_is_field : IsField FitsHeartbeatReply heartbeat_reply_fields heartbeat_reply_at
 unfolding heartbeat_reply_fields heartbeat_reply_at
@@ -135,14 +138,8 @@ heartbeat_reply_is_field =
     })
     (λ v f. (f.throttle_time_ms, (f.error_code, (f.error_message, (f.member_id, (f.member_epoch, (f.heartbeat_interval_ms, (f.assignment, (f.tags, tt)))))))))
     (made_is_field _ (λ v. (v.throttle_time_ms, (v.error_code, (v.error_message, (v.member_id, (v.member_epoch, (v.heartbeat_interval_ms, (v.assignment, (v.tags, tt))))))))) (λ _. refl) (λ _. refl)
-    (pair_is_field int32_is_field
-    (pair_is_field int16_is_field
-    (pair_is_field compact_nullable_string_is_field
-    (pair_is_field compact_nullable_string_is_field
-    (pair_is_field int32_is_field
-    (pair_is_field int32_is_field
-    (pair_is_field (nullable_struct_is_field assignment_is_field)
-    (pair_is_field tagged_fields_is_field nothing_is_field)))))))))
+    (int32_is_field ▸ int16_is_field ▸ compact_nullable_string_is_field ▸ compact_nullable_string_is_field
+    ▸ int32_is_field ▸ int32_is_field ▸ nullable_struct_is_field assignment_is_field ▸ tags_are_field))
 
 pub commit_request_partition_is_field : IsField FitsCommitRequestPartition commit_request_partition_fields commit_request_partition_at
 unfolding commit_request_partition_fields commit_request_partition_at
@@ -157,26 +154,16 @@ commit_request_partition_is_field =
     })
     (λ v f. (f.partition_index, (f.committed_offset, (f.committed_leader_epoch, (f.committed_metadata, (f.tags, tt))))))
     (made_is_field _ (λ v. (v.partition_index, (v.committed_offset, (v.committed_leader_epoch, (v.committed_metadata, (v.tags, tt)))))) (λ _. refl) (λ _. refl)
-    (pair_is_field int32_is_field
-    (pair_is_field int64_is_field
-    (pair_is_field int32_is_field
-    (pair_is_field compact_nullable_string_is_field
-    (pair_is_field tagged_fields_is_field nothing_is_field))))))
+    (int32_is_field ▸ int64_is_field ▸ int32_is_field ▸ compact_nullable_string_is_field ▸ tags_are_field))
 
 pub commit_request_topic_is_field : IsField FitsCommitRequestTopic commit_request_topic_fields commit_request_topic_at
 unfolding commit_request_topic_fields commit_request_topic_at
 commit_request_topic_is_field =
     refitted_is_field
-    (λ v f. record {
-      name = f.0;
-      partitions = f.1.0;
-      tags = f.1.1.0;
-    })
+    (λ v f. record { name = f.0; partitions = f.1.0; tags = f.1.1.0 })
     (λ v f. (f.name, (f.partitions, (f.tags, tt))))
     (made_is_field _ (λ v. (v.name, (v.partitions, (v.tags, tt)))) (λ _. refl) (λ _. refl)
-    (pair_is_field compact_string_is_field
-    (pair_is_field (array_is_field commit_request_partition_is_field)
-    (pair_is_field tagged_fields_is_field nothing_is_field))))
+    (compact_string_is_field ▸ array_is_field commit_request_partition_is_field ▸ tags_are_field))
 
 pub commit_request_is_field : IsField FitsCommitRequest commit_request_fields commit_request_at
 unfolding commit_request_fields commit_request_at
@@ -192,57 +179,35 @@ commit_request_is_field =
     })
     (λ v f. (f.group_id, (f.generation_id_or_member_epoch, (f.member_id, (f.group_instance_id, (f.topics, (f.tags, tt)))))))
     (made_is_field _ (λ v. (v.group_id, (v.generation_id_or_member_epoch, (v.member_id, (v.group_instance_id, (v.topics, (v.tags, tt))))))) (λ _. refl) (λ _. refl)
-    (pair_is_field compact_string_is_field
-    (pair_is_field int32_is_field
-    (pair_is_field compact_string_is_field
-    (pair_is_field compact_nullable_string_is_field
-    (pair_is_field (array_is_field commit_request_topic_is_field)
-    (pair_is_field tagged_fields_is_field nothing_is_field)))))))
+    (compact_string_is_field ▸ int32_is_field ▸ compact_string_is_field ▸ compact_nullable_string_is_field
+    ▸ array_is_field commit_request_topic_is_field ▸ tags_are_field))
 
 pub commit_reply_partition_is_field : IsField FitsCommitReplyPartition commit_reply_partition_fields commit_reply_partition_at
 unfolding commit_reply_partition_fields commit_reply_partition_at
 commit_reply_partition_is_field =
     refitted_is_field
-    (λ v f. record {
-      partition_index = f.0;
-      error_code = f.1.0;
-      tags = f.1.1.0;
-    })
+    (λ v f. record { partition_index = f.0; error_code = f.1.0; tags = f.1.1.0 })
     (λ v f. (f.partition_index, (f.error_code, (f.tags, tt))))
     (made_is_field _ (λ v. (v.partition_index, (v.error_code, (v.tags, tt)))) (λ _. refl) (λ _. refl)
-    (pair_is_field int32_is_field
-    (pair_is_field int16_is_field
-    (pair_is_field tagged_fields_is_field nothing_is_field))))
+    (int32_is_field ▸ int16_is_field ▸ tags_are_field))
 
 pub commit_reply_topic_is_field : IsField FitsCommitReplyTopic commit_reply_topic_fields commit_reply_topic_at
 unfolding commit_reply_topic_fields commit_reply_topic_at
 commit_reply_topic_is_field =
     refitted_is_field
-    (λ v f. record {
-      name = f.0;
-      partitions = f.1.0;
-      tags = f.1.1.0;
-    })
+    (λ v f. record { name = f.0; partitions = f.1.0; tags = f.1.1.0 })
     (λ v f. (f.name, (f.partitions, (f.tags, tt))))
     (made_is_field _ (λ v. (v.name, (v.partitions, (v.tags, tt)))) (λ _. refl) (λ _. refl)
-    (pair_is_field compact_string_is_field
-    (pair_is_field (array_is_field commit_reply_partition_is_field)
-    (pair_is_field tagged_fields_is_field nothing_is_field))))
+    (compact_string_is_field ▸ array_is_field commit_reply_partition_is_field ▸ tags_are_field))
 
 pub commit_reply_is_field : IsField FitsCommitReply commit_reply_fields commit_reply_at
 unfolding commit_reply_fields commit_reply_at
 commit_reply_is_field =
     refitted_is_field
-    (λ v f. record {
-      throttle_time_ms = f.0;
-      topics = f.1.0;
-      tags = f.1.1.0;
-    })
+    (λ v f. record { throttle_time_ms = f.0; topics = f.1.0; tags = f.1.1.0 })
     (λ v f. (f.throttle_time_ms, (f.topics, (f.tags, tt))))
     (made_is_field _ (λ v. (v.throttle_time_ms, (v.topics, (v.tags, tt)))) (λ _. refl) (λ _. refl)
-    (pair_is_field int32_is_field
-    (pair_is_field (array_is_field commit_reply_topic_is_field)
-    (pair_is_field tagged_fields_is_field nothing_is_field))))
+    (int32_is_field ▸ array_is_field commit_reply_topic_is_field ▸ tags_are_field))
 
 -- a heartbeat's body behind the key and the version
 pub heartbeat_body_is_field : IsField (λ p. FitsRequestHeader p.0 × FitsHeartbeatRequest p.1) (λ p. header_rest p.0 ++ heartbeat_request_fields p.1) heartbeat_body_at

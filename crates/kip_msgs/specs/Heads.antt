@@ -1,11 +1,14 @@
--- What may stand at the front of a body that is no request, and behind a message.
-use Rattle.std.specs.Prelude.{◌≡◌, ◌≢◌, ℕ, ℤ, ◌<◌, List, [], ◌++◌, length, None, FitsSigned, ◌⊎◌}
+-- What may stand at the front of a body that is no request, in one that is no message, and behind a message.
+use Rattle.std.specs.Prelude.{◌≡◌, ◌≢◌, ℕ, ℤ, ◌<◌, List, [], ◌++◌, length, None, Err, FitsSigned, ◌⊎◌}
 use Rattle.std.specs.Int.{w16}
+use Rattle.flex_wire.specs.declared.fault.WireFault.{WireFault}
 use Rattle.flex_wire.specs.Spelling.{int16}
 use Rattle.kip_msgs.specs.declared.api.Api.{Api}
+use Rattle.kip_msgs.specs.declared.fault.MsgFault.TheVariants.{Wire}
 use Rattle.kip_msgs.specs.Api.{key_of, version_of, api_with_key}
 use Rattle.kip_msgs.specs.Values.{RequestValue, ReplyValue, reply_api}
 use Rattle.kip_msgs.specs.Spelling.{FitsRequest, request_body, FitsReply, reply_body}
+use Rattle.kip_msgs.specs.Reading.{request_at, reply_at}
 
 -- It begins with the key and the version of an API ("Request Header v2").
 abbrev pub BeginsWith : Api → List ℕ → List ℕ → Type 0
@@ -24,6 +27,14 @@ HasUnknownVersion body =
 abbrev pub EndsInHead : List ℕ → Type 0
 EndsInHead body =
     (length body < 2) ⊎ ((api : Api) × (rest : List ℕ) × (length rest < 2) × (body ≡ int16 (key_of api) ++ rest))
+
+-- The first of its fields that is no value of its type has this fault, where they are read in the order of the schema.
+abbrev pub HasFieldFault : WireFault → List ℕ → Type 0
+HasFieldFault fault body = request_at body ≡ Err (Wire fault)
+
+-- The same of a reply of the API.
+abbrev pub HasFieldFaultReply : Api → WireFault → List ℕ → Type 0
+HasFieldFaultReply api fault body = reply_at api body ≡ Err (Wire fault)
 
 -- It is a request with at least one byte more.
 abbrev pub HasLeftOver : List ℕ → Type 0

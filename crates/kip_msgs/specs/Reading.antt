@@ -1,10 +1,11 @@
 -- Reading a message from the front of a list of bytes: its value and the bytes after it, or the
 -- first fault that is met.
-use Rattle.std.specs.Prelude.{◌≡◌, ◌≢◌, ℕ, List, length, Option, Some, None, Result, Ok, Err, Bool, true, false, ◌==◌, if◌then◌else◌}
+use Rattle.std.specs.Prelude.{◌≡◌, ◌≢◌, ℕ, ℤ, List, length, Option, Some, None, Result, Ok, Err, Bool, true, false, ◌==◌, if◌then◌else◌}
 use Rattle.std.specs.Int.{w16, w32, w64}
 use Rattle.std.specs.Ordering.{int_eq}
 use Rattle.flex_wire.specs.declared.fault.WireFault.{WireFault}
 use Rattle.flex_wire.specs.Reading.{Read, ◌>>=◌, signed_at, uuid_at, compact_string_at, compact_nullable_string_at, nullable_string_at, mark_at, tagged_fields_at}
+use Rattle.flex_wire.specs.Spelling.{Tagged}
 use Rattle.flex_wire.specs.Composed.{nothing_at, pair_at, made_at, array_at, nullable_array_at}
 use Rattle.kip_msgs.specs.declared.api.Api.{Api}
 use Rattle.kip_msgs.specs.declared.api.Api.TheVariants.{Heartbeat, Commit}
@@ -44,6 +45,16 @@ topic_partitions_at =
     made_at (λ x. record { topic_id = x.0; partitions = x.1.0; tags = x.1.1.0 })
     (pair_at uuid_at (pair_at (array_at (signed_at w32)) (pair_at tagged_fields_at nothing_at)))
 
+-- KIP-848, "ConsumerGroupHeartbeatRequest", from RebalanceTimeoutMs on.
+abbrev pub heartbeat_rest_at :
+    Reader (ℤ × (Option (List (List ℕ)) × (Option (List ℕ) × (Option (List TopicPartitionsValue) × (List Tagged × Unit {0})))))
+heartbeat_rest_at =
+    pair_at (signed_at w32)
+    (pair_at (nullable_array_at compact_string_at)
+    (pair_at compact_nullable_string_at
+    (pair_at (nullable_array_at topic_partitions_at)
+    (pair_at tagged_fields_at nothing_at))))
+
 unfoldable pub heartbeat_request_at : Reader HeartbeatRequestValue
 heartbeat_request_at =
     made_at (λ x. record {
@@ -63,16 +74,17 @@ heartbeat_request_at =
     (pair_at (signed_at w32)
     (pair_at compact_nullable_string_at
     (pair_at compact_nullable_string_at
-    (pair_at (signed_at w32)
-    (pair_at (nullable_array_at compact_string_at)
-    (pair_at compact_nullable_string_at
-    (pair_at (nullable_array_at topic_partitions_at)
-    (pair_at tagged_fields_at nothing_at))))))))))
+    heartbeat_rest_at)))))
 
 unfoldable pub assignment_at : Reader AssignmentValue
 assignment_at =
     made_at (λ x. record { topic_partitions = x.0; tags = x.1.0 })
     (pair_at (array_at topic_partitions_at) (pair_at tagged_fields_at nothing_at))
+
+-- KIP-848, "ConsumerGroupHeartbeatResponse", from HeartbeatIntervalMs on.
+abbrev pub heartbeat_reply_rest_at : Reader (ℤ × (Option AssignmentValue × (List Tagged × Unit {0})))
+heartbeat_reply_rest_at =
+    pair_at (signed_at w32) (pair_at (nullable_struct_at assignment_at) (pair_at tagged_fields_at nothing_at))
 
 unfoldable pub heartbeat_reply_at : Reader HeartbeatReplyValue
 heartbeat_reply_at =
@@ -91,9 +103,7 @@ heartbeat_reply_at =
     (pair_at compact_nullable_string_at
     (pair_at compact_nullable_string_at
     (pair_at (signed_at w32)
-    (pair_at (signed_at w32)
-    (pair_at (nullable_struct_at assignment_at)
-    (pair_at tagged_fields_at nothing_at))))))))
+    heartbeat_reply_rest_at)))))
 
 unfoldable pub commit_request_partition_at : Reader CommitRequestPartitionValue
 commit_request_partition_at =

@@ -1,3 +1,5 @@
+//! The APIs that are supported, each in one version.
+
 ghost use Rattle.std.specs.Prelude.{◌≡◌};
 ghost use Rattle.kip_msgs.specs.Api.{key_of, version_of, api_with_key};
 

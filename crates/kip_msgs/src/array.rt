@@ -1,3 +1,5 @@
+//! Arrays of messages.
+
 ghost use Rattle.std.specs.Prelude.{◌≡◌, ◌==◌, ◌++◌, ◌∷◌, [], length, is_ok, IfErr, if◌then◌else◌};
 
 use std::alloc::{AllocFailed, Global};

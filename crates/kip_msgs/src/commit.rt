@@ -1,3 +1,5 @@
+//! OffsetCommit: the request and the reply.
+
 use crate::array::Array;
 use flex_wire::TaggedFields;
 

@@ -1,3 +1,5 @@
+//! Why a body is no message.
+
 ghost use Rattle.std.specs.Prelude.{◌≡◌};
 ghost use Rattle.kip_msgs.specs.Faults.{fault_number, message_fault};
 

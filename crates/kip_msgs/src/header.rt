@@ -1,3 +1,5 @@
+//! The headers of requests and replies.
+
 use flex_wire::TaggedFields;
 
 /// A request's header (Kafka protocol guide, "Request Header v2"). The API key and version are not

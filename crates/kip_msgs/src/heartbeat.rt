@@ -1,3 +1,5 @@
+//! ConsumerGroupHeartbeat: the request and the reply.
+
 use crate::array::Array;
 use flex_wire::TaggedFields;
 use uuid::Uuid;

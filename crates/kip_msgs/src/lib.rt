@@ -31,6 +31,3 @@ pub use laws::{one_body_a_message, one_reply_a_body, one_request_a_body};
 pub use message::{Reply, Request};
 pub use reading::{api_of, read_reply, read_request};
 pub use writing::{put_reply, put_request};
-
-#[cfg(test)]
-mod tests;

@@ -1,3 +1,5 @@
+//! Whole bodies: a header and the message of its API.
+
 use crate::commit::{CommitReply, CommitRequest};
 use crate::header::{RequestHeader, ResponseHeader};
 use crate::heartbeat::{HeartbeatReply, HeartbeatRequest};

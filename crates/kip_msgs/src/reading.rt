@@ -1,12 +1,13 @@
 //! Bodies of requests and replies, read whole.
 
 ghost use Rattle.std.specs.Prelude.{◌≡◌, ℕ, List, ◌↔◌, IfOk, IsOkAnd, IsErrOf};
+ghost use Rattle.flex_wire.specs.declared.fault.WireFault.{WireFault};
 ghost use Rattle.flex_wire.specs.declared.fault.WireFault.TheVariants.{Short, NoMemory};
 ghost use Rattle.kip_msgs.specs.declared.api.Api.{Api};
 ghost use Rattle.kip_msgs.specs.Values.{RequestValue, ReplyValue, reply_api};
 ghost use Rattle.kip_msgs.specs.Spelling.{SpellsRequest, SpellsReply};
 ghost use Rattle.kip_msgs.specs.Reading.{Gives, GivesInMemory, version_at, api_at, whole, request_behind_at, request_at, reply_at};
-ghost use Rattle.kip_msgs.specs.Heads.{BeginsWith, HasUnknownKey, HasUnknownVersion, EndsInHead, HasLeftOver, HasLeftOverReply};
+ghost use Rattle.kip_msgs.specs.Heads.{BeginsWith, HasUnknownKey, HasUnknownVersion, EndsInHead, HasFieldFault, HasFieldFaultReply, HasLeftOver, HasLeftOverReply};
 ghost use Rattle.kip_msgs.specs.Answers.{AnswersInMemory, FailsInMemory};
 ghost use Rattle.kip_msgs.specs.Views.{request_value, reply_value};
 
@@ -101,13 +102,16 @@ fn request_of<'a>(alloc: Global, body: &'a [u8]) -> Result<Request<'a>, MsgFault
 /// of its bytes spell, tagged fields included. Texts and tagged fields are lent from `body`; no
 /// count takes memory before its elements are read.
 ///
-/// Faults, in this order: those of [`api_of`]; a field's; `LeftOver` where bytes stand behind the
-/// last field. `NoMemory` comes only behind a version that is known.
+/// Faults, in this order: those of [`api_of`]; that of the first field that has one; `LeftOver` where
+/// bytes stand behind the last field. `NoMemory` comes only behind a version that is known.
 pub fn read_request<'a>(alloc: Global, body: &'a [u8]) -> Result<Request<'a>, MsgFault>
     ensures found { IfOk result (λ request. SpellsRequest (request_value request) body.now) }
     ensures only { (v : RequestValue) → SpellsRequest v body.now → AnswersInMemory request_value result v }
     ensures unknown_api { IsErrOf result MsgFault.UnknownApi ↔ HasUnknownKey body.now }
     ensures unknown_version { IsErrOf result MsgFault.UnknownVersion ↔ HasUnknownVersion body.now }
+    ensures ends_in_head { EndsInHead body.now → IsErrOf result (MsgFault.Wire Short) }
+    ensures field { (fault : WireFault) → IsErrOf result (MsgFault.Wire fault) → HasFieldFault fault body.now }
+    ensures field_or_no_memory { (fault : WireFault) → HasFieldFault fault body.now → FailsInMemory (MsgFault.Wire fault) result }
     ensures left_over { IsErrOf result MsgFault.LeftOver → HasLeftOver body.now }
     ensures left_over_or_no_memory { HasLeftOver body.now → FailsInMemory MsgFault.LeftOver result }
     ensures memory_by_itself { ¬ IsErrOf result (MsgFault.Wire NoMemory) }
@@ -138,11 +142,14 @@ fn reply_of<'a>(alloc: Global, api: Api, body: &'a [u8]) -> Result<Reply<'a>, Ms
 /// API. Texts and tagged fields are lent from `body`; no count takes memory before its elements are
 /// read.
 ///
-/// Faults, in this order: a field's; `LeftOver` where bytes stand behind the last field. Never
+/// Faults, in this order: that of the first field that has one; `LeftOver` where bytes stand behind
+/// the last field; or `NoMemory`. Never
 /// `UnknownApi` or `UnknownVersion`.
 pub fn read_reply<'a>(alloc: Global, api: Api, body: &'a [u8]) -> Result<Reply<'a>, MsgFault>
     ensures found { IfOk result (λ reply. (reply_api (reply_value reply) ≡ api) × SpellsReply (reply_value reply) body.now) }
     ensures only { (v : ReplyValue) → reply_api v ≡ api → SpellsReply v body.now → AnswersInMemory reply_value result v }
+    ensures field { (fault : WireFault) → IsErrOf result (MsgFault.Wire fault) → HasFieldFaultReply api fault body.now }
+    ensures field_or_no_memory { (fault : WireFault) → HasFieldFaultReply api fault body.now → FailsInMemory (MsgFault.Wire fault) result }
     ensures left_over { IsErrOf result MsgFault.LeftOver → HasLeftOverReply api body.now }
     ensures left_over_or_no_memory { HasLeftOverReply api body.now → FailsInMemory MsgFault.LeftOver result }
     ensures no_key { ¬ IsErrOf result MsgFault.UnknownApi }

@@ -1,3 +1,5 @@
+//! The headers of requests and replies, read.
+
 ghost use Rattle.flex_wire.specs.Reading.{ReadsInMemory};
 ghost use Rattle.kip_msgs.specs.Reading.{request_header_at, response_header_at};
 ghost use Rattle.kip_msgs.specs.Views.{request_header_value, response_header_value};

@@ -1,19 +1,20 @@
 //! Heartbeats and their replies.
 
-ghost use Rattle.std.specs.Prelude.{option_map};
+ghost use Rattle.std.specs.Prelude.{map, option_map};
 ghost use Rattle.std.specs.Option.{option_copied};
 ghost use Rattle.flex_wire.specs.Reading.{ReadsInMemory};
-ghost use Rattle.kip_msgs.specs.Reading.{topic_partitions_at, heartbeat_request_at, heartbeat_body_at, assignment_at, nullable_struct_at, heartbeat_reply_at, heartbeat_reply_body_at};
-ghost use Rattle.kip_msgs.specs.Topics.{topic_partitions_value};
+ghost use Rattle.kip_msgs.specs.Reading.{topic_partitions_at, heartbeat_rest_at, heartbeat_request_at, heartbeat_body_at, assignment_at, nullable_struct_at, heartbeat_reply_rest_at, heartbeat_reply_at, heartbeat_reply_body_at};
+ghost use Rattle.kip_msgs.specs.Topics.{topic_partitions_value, topic_partitions_values};
 ghost use Rattle.kip_msgs.specs.Views.{request_header_value, heartbeat_request_value, response_header_value, assignment_value, heartbeat_reply_value};
 
 use super::arrays::{TakeElement, take_array, take_indexes, take_nullable_array};
 use super::header::{take_request_header, take_response_header};
+use crate::array::Array;
 use crate::header::{RequestHeader, ResponseHeader};
 use crate::heartbeat::{Assignment, HeartbeatReply, HeartbeatRequest, TopicPartitions};
 use flex_wire::{
-    WireFault, take_compact_str, take_i16, take_i32, take_mark, take_nullable_str, take_tags,
-    take_uuid,
+    TaggedFields, WireFault, take_compact_str, take_i16, take_i32, take_mark, take_nullable_str,
+    take_tags, take_uuid,
 };
 use std::alloc::Global;
 
@@ -42,11 +43,9 @@ fn take_heartbeat_request<'a>(
     let (member_epoch, rest) = take_i32(rest)?;
     let (instance_id, rest) = take_nullable_str(rest)?;
     let (rack_id, rest) = take_nullable_str(rest)?;
-    let (rebalance_timeout_ms, rest) = take_i32(rest)?;
-    let (subscribed_topic_names, rest) = take_nullable_array(alloc, rest)?;
-    let (server_assignor, rest) = take_nullable_str(rest)?;
-    let (topic_partitions, rest) = take_nullable_array(alloc, rest)?;
-    let (tags, rest) = take_tags(alloc, rest)?;
+    let (others, rest) = take_request_rest(alloc, rest)?;
+    let (rebalance_timeout_ms, subscribed_topic_names, server_assignor, topic_partitions, tags) =
+        others;
     let message = HeartbeatRequest {
         group_id,
         member_id,
@@ -62,10 +61,38 @@ fn take_heartbeat_request<'a>(
     Ok((message, rest))
 }
 
+/// The timeout, the subscribed names, the assignor, the owned partitions and the tagged fields of a
+/// heartbeat.
+type RequestRest<'a> = (
+    i32,
+    Option<Array<&'a str>>,
+    Option<&'a str>,
+    Option<Array<TopicPartitions<'a>>>,
+    TaggedFields<'a>,
+);
+
+/// A heartbeat from its timeout on.
+fn take_request_rest<'a>(
+    alloc: Global,
+    bytes: &'a [u8],
+) -> Result<(RequestRest<'a>, &'a [u8]), WireFault>
+    ensures { ReadsInMemory (λ x. (
+      (x.0.0, (option_map (map (λ name. name.now)) x.0.1, (option_copied x.0.2, (option_map topic_partitions_values x.0.3, (x.0.4, tt))))),
+      x.1.now,
+    )) result (heartbeat_rest_at bytes.now) }
+{
+    let (timeout, rest) = take_i32(bytes)?;
+    let (names, rest) = take_nullable_array(alloc, rest)?;
+    let (assignor, rest) = take_nullable_str(rest)?;
+    let (topics, rest) = take_nullable_array(alloc, rest)?;
+    let (tags, rest) = take_tags(alloc, rest)?;
+    Ok(((timeout, names, assignor, topics, tags), rest))
+}
+
 impl<'a> TakeElement<'a> for TopicPartitions<'a> {
     ghost use Rattle.kip_msgs.specs.Values.{TopicPartitionsValue};
     ghost use Rattle.kip_msgs.specs.Reading.{topic_partitions_at};
-    ghost use Rattle.kip_msgs.specs.Topics.{topic_partitions_value};
+    ghost use Rattle.kip_msgs.specs.Topics.{topic_partitions_value, topic_partitions_values};
 
     ghost Value = { TopicPartitionsValue };
 
@@ -124,9 +151,7 @@ fn take_heartbeat_reply<'a>(
     let (error_message, rest) = take_nullable_str(rest)?;
     let (member_id, rest) = take_nullable_str(rest)?;
     let (member_epoch, rest) = take_i32(rest)?;
-    let (heartbeat_interval_ms, rest) = take_i32(rest)?;
-    let (assignment, rest) = take_nullable_assignment(alloc, rest)?;
-    let (tags, rest) = take_tags(alloc, rest)?;
+    let (heartbeat_interval_ms, assignment, tags, rest) = take_reply_rest(alloc, rest)?;
     let reply = HeartbeatReply {
         throttle_time_ms,
         error_code,
@@ -138,6 +163,19 @@ fn take_heartbeat_reply<'a>(
         tags,
     };
     Ok((reply, rest))
+}
+
+/// A reply from its interval on: that, the assignment and the tagged fields.
+fn take_reply_rest<'a>(
+    alloc: Global,
+    bytes: &'a [u8],
+) -> Result<(i32, Option<Assignment<'a>>, TaggedFields<'a>, &'a [u8]), WireFault>
+    ensures { ReadsInMemory (λ x. ((x.0, (option_map assignment_value x.1, (x.2, tt))), x.3.now)) result (heartbeat_reply_rest_at bytes.now) }
+{
+    let (interval, rest) = take_i32(bytes)?;
+    let (assignment, rest) = take_nullable_assignment(alloc, rest)?;
+    let (tags, rest) = take_tags(alloc, rest)?;
+    Ok((interval, assignment, tags, rest))
 }
 
 /// An assignment behind the mark that says whether it is there.

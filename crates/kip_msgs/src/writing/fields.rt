@@ -1,3 +1,5 @@
+//! Texts and other fields, written by their Rust types.
+
 ghost use Rattle.std.specs.Option.{option_copied};
 ghost use Rattle.flex_wire.specs.Writing.{Appends};
 ghost use Rattle.flex_wire.specs.Spelling.{uuid, FitsUuid, compact_string, FitsText, compact_nullable_string, nullable_string, FitsNullableText};

@@ -1,3 +1,5 @@
+//! The headers of requests and replies, written.
+
 ghost use Rattle.std.specs.Prelude.{OnOk};
 ghost use Rattle.flex_wire.specs.Writing.{AppendsUpTo};
 ghost use Rattle.flex_wire.specs.Spelling.{FitsTaggedFields};

@@ -19,6 +19,14 @@ pub returns-clause-only : goal.returns-clause-only
 returns-clause-only c = λ v same spells.
     answers_in_memory reply_value v c.reply_of.result (reply_at c.args.api c.args.body.now) c.reply_of.ensures (spells_read c.args.api c.args.body.now v same spells)
 
+pub returns-clause-field : goal.returns-clause-field
+returns-clause-field c = λ fault e.
+    reading_failed_in_memory reply_value c.reply_of.result (reply_at c.args.api c.args.body.now) (Wire fault) (λ same. absurd cc) c.reply_of.ensures e
+
+pub returns-clause-field_or_no_memory : goal.returns-clause-field_or_no_memory
+returns-clause-field_or_no_memory c = λ fault h.
+    fails_in_memory reply_value (Wire fault) c.reply_of.result (reply_at c.args.api c.args.body.now) c.reply_of.ensures h
+
 pub returns-clause-left_over : goal.returns-clause-left_over
 returns-clause-left_over c = λ e.
     let api = c.args.api in

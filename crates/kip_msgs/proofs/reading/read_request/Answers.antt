@@ -6,7 +6,7 @@ use Rattle.kip_msgs.specs.Spelling.{SpellsRequest}
 use Rattle.kip_msgs.specs.Views.{request_value}
 use Rattle.kip_msgs.specs.Reading.{api_at, request_at}
 use Rattle.kip_msgs.proofs.GivesLaws.{reading_failed_in_memory, if_ok_in_memory, answers_in_memory, fails_in_memory}
-use Rattle.kip_msgs.proofs.HeadLaws.{unknown_key_again, unknown_version_again, front, front_unknown_key, front_unknown_version}
+use Rattle.kip_msgs.proofs.HeadLaws.{unknown_key_again, unknown_version_again, short_again, front, front_unknown_key, front_unknown_version}
 use Rattle.kip_msgs.proofs.RequestLaws.{read_spells, spells_read, left_over_again, is_left_over, head_failed, never_no_memory}
 use Rattle.kip_msgs.proofs.reading.read_request.Goals as goal
 
@@ -37,6 +37,17 @@ returns-clause-unknown_version c =
           front_unknown_version body (api_at body) (front body (λ i. omega (arith, c.type_inv.body i))) a),
       (λ h. c.request_of.ensures.head UnknownVersion (unknown_version_again body h)),
     )
+
+pub returns-clause-ends_in_head : goal.returns-clause-ends_in_head
+returns-clause-ends_in_head c = λ h. c.request_of.ensures.head (Wire wire.Short) (short_again c.args.body.now h)
+
+pub returns-clause-field : goal.returns-clause-field
+returns-clause-field c = λ fault e.
+    reading_failed_in_memory request_value c.request_of.result (request_at c.args.body.now) (Wire fault) (λ same. absurd cc) c.request_of.ensures.exact e
+
+pub returns-clause-field_or_no_memory : goal.returns-clause-field_or_no_memory
+returns-clause-field_or_no_memory c = λ fault h.
+    fails_in_memory request_value (Wire fault) c.request_of.result (request_at c.args.body.now) c.request_of.ensures.exact h
 
 pub returns-clause-left_over : goal.returns-clause-left_over
 returns-clause-left_over c = λ e.
