@@ -1,5 +1,5 @@
 -- Small facts on truth values.
-use Rattle.std.proofs.Common.{◌≡◌, Bool, true, false, cond, not, ◌&&◌, ◌||◌, refl, sym}
+use Rattle.std.proofs.Common.{◌≡◌, Bool, true, false, cond, not, ◌&&◌, ◌||◌, refl, sym, true≢false}
 
 pub or_group : (a b c : Bool) → (a || (b || c)) ≡ ((a || b) || c)
 or_group true b c = refl
@@ -43,3 +43,20 @@ same_answer true true p q = refl
 same_answer true false p q = p
 same_answer false true p q = sym q
 same_answer false false p q = refl
+
+pub or_known : (a b : Bool) → (a ≡ true → b ≡ true) → (a || b) ≡ b
+or_known true b f = sym (f refl)
+or_known false b f = refl
+
+pub and_known : (a b : Bool) → (a ≡ true → b ≡ false) → (not a && b) ≡ b
+and_known true b f = sym (f refl)
+and_known false b f = refl
+
+pub taken_away : (a b : Bool) → (a ≡ true → b ≡ false) → b ≡ (not a && (a || b))
+taken_away true b f = f refl
+taken_away false b f = refl
+
+pub repeated : (a b c : Bool) → b ≡ a → (a || c) ≡ (a || (b || c))
+repeated true b c is = refl
+repeated false true c is = absurd (true≢false is)
+repeated false false c is = refl

@@ -3,7 +3,14 @@ pub mod ListLemmas
 pub mod SetLemmas
 pub mod SpreadLemmas
 pub mod ListSets
+pub mod RisingLists
 pub mod Orders
 pub mod NameLemmas
 pub mod MadeIds
 pub mod Members
+pub mod Answering
+pub mod Lookups
+pub mod PastLemmas
+pub mod GrantLemmas
+pub mod Soundness
+pub mod Commits

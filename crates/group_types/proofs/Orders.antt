@@ -1,12 +1,13 @@
 -- The orders of partitions and of texts are total, and only equal keys tie in them.
-use Rattle.std.proofs.Common.{◌≡◌, ap, ◌&&◌}
+use Rattle.std.proofs.Common.{◌≡◌, true, ap, refl, subst, sym, true≢false, ◌&&◌}
 use Rattle.std.specs.Bool.{Decides}
 use Rattle.std.specs.Str.{bytes_eq}
-use Rattle.std.proofs.lemmas.Bool.Decides.{Decides-int_eq}
+use Rattle.std.proofs.lemmas.Bool.Decides.{Decides-int_eq, same_from_decides}
 use Rattle.std.proofs.lemmas.Slice.Eq.{bytes_eq-Decides}
-use Rattle.std.specs.Cmp.{first_so, second_so}
-use Rattle.std.specs.declared.cmp.Ordering.TheVariants.{Equal}
-use Rattle.std.specs.Ordering.{int_cmp, int_eq}
+use Rattle.std.specs.Cmp.{Equal-is, first_so, second_so}
+use Rattle.std.specs.declared.cmp.Ordering.{Ordering}
+use Rattle.std.specs.declared.cmp.Ordering.TheVariants.{Less, Equal, Greater}
+use Rattle.std.specs.Ordering.{eq_by_cmp, int_cmp, int_eq, is_lt}
 use Rattle.std.specs.Cmp.{IsTotalOrder, int_cmp_total, on_total, then_total, tied_itself}
 use Rattle.std.specs.Cmp.Lexicographic.{nat_list_cmp_total}
 use Rattle.std.specs.FinMap.{IsAntisymmetric, int_cmp-IsAntisymmetric, nat_cmp-IsAntisymmetric, slice_cmp-IsAntisymmetric}
@@ -44,3 +45,17 @@ partition_cmp-itself p = tied_itself partition_cmp_total p
 
 pub text_cmp-itself : (text : Text) → text_cmp text text ≡ Equal
 text_cmp-itself text = tied_itself text_cmp_total text
+
+-- the test of equality answers as the order does
+pub partition_eq-ties : (p q : Partition) → (bytes_eq p.topic q.topic && int_eq p.index q.index) ≡ eq_by_cmp partition_cmp p q
+partition_eq-ties p q =
+    let ties = Equal-is (partition_cmp p q) in
+    same_from_decides _ _ (partition_eq-Decides p q) (
+      λ so. partition_cmp-IsAntisymmetric p q (ties.0 so),
+      λ is. ties.1 (subst (λ r. partition_cmp p r ≡ Equal) is (partition_cmp-itself p)),
+    )
+
+pub Less-is_lt : (o : Ordering) → is_lt o ≡ true → o ≡ Less
+Less-is_lt Less is = refl
+Less-is_lt Equal is = absurd (true≢false (sym is))
+Less-is_lt Greater is = absurd (true≢false (sym is))

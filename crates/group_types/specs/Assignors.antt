@@ -23,7 +23,7 @@ instance_cmp (Some a) None rest = Less
 instance_cmp None (Some b) rest = Greater
 instance_cmp None None rest = rest
 
--- Member order: members with an instance, by its bytes; then the others, by their ids' bytes.
+-- Member order (ours): members with an instance, by its bytes; then the others, by their ids' bytes.
 abbrev pub member_cmp : Subscriber → Subscriber → Ordering
 member_cmp m n = instance_cmp m.instance n.instance (text_cmp m.id n.id)
 
@@ -42,7 +42,7 @@ asks_for a None = false
 abbrev pub votes : List Subscriber → AssignorName → ℕ
 votes subs a = length (filter (λ m. asks_for a m.assignor) subs)
 
--- The group's assignor: range where more members ask for it than for uniform, otherwise uniform.
+-- The group's assignor: range where more members ask for it than for uniform, otherwise uniform (the tie is ours).
 abbrev pub assignor_of : List Subscriber → AssignorName
 assignor_of subs = if nat_lt (votes subs Uniform) (votes subs Range) then Range else Uniform
 

@@ -19,7 +19,8 @@ code_number UnreleasedInstanceId = pos 111
 code_number UnsupportedAssignor = pos 112
 code_number StaleMemberEpoch = pos 113
 
--- the ErrorMessage of a heartbeat reply with the code; no message goes with success, nor with the codes of commits alone
+-- the ErrorMessage of a heartbeat reply with the code (the texts are ours); no message goes with
+-- success, nor with the codes of commits alone
 abbrev pub code_text : Code → Option Text
 code_text NoError = None
 code_text UnknownTopicOrPartition = None

@@ -23,7 +23,7 @@ pub record Record : Type 0 where
   pub rebalance_timeout : ℕ  -- in milliseconds, as every time here
   pub epoch : Epoch  -- the member epoch, or Away
   pub previous_epoch : ℕ
-  pub stamp : Stamp  -- of its last accepted heartbeat
+  pub stamp : Stamp  -- of its last accepted heartbeat (ours)
   pub sent : Option Partitions  -- the set that it was last sent
   pub session_deadline : ℕ
   pub release_deadline : Option ℕ
@@ -59,12 +59,12 @@ place_cmp a b = ordering_then (text_cmp a.0 b.0) (int_cmp a.1 b.1)
 abbrev pub Offsets : Type 0
 Offsets = finite.FinMap place_cmp Committed
 
--- the last ids that had a record and have none, with their last stamps, oldest first
+-- the last ids that had a record and have none, with their last stamps, oldest first (ours)
 abbrev pub Past : Type 0
 Past = List (Text × Stamp)
 
 pub record Group : Type 0 where
-  pub salt : ℕ  -- of the ids that are made; it never changes
+  pub salt : ℕ  -- of the ids that are made (ours); it never changes
   pub epoch : ℕ  -- the group epoch
   pub target_epoch : ℕ
   pub records : Records
@@ -72,8 +72,8 @@ pub record Group : Type 0 where
   pub grants : Grants
   pub offsets : Offsets
   pub view : Topics  -- the stored view
-  pub clock : ℕ  -- the greatest moment that was used
-  pub serial : ℕ  -- of the next id that is made
+  pub clock : ℕ  -- the greatest moment that was used (ours)
+  pub serial : ℕ  -- of the next id that is made (ours)
   pub past : Past
 
 -- a group of an epoch that nobody has joined yet

@@ -1,5 +1,5 @@
--- One heartbeat at one group: what is answered, and the group afterwards.
-use Rattle.std.specs.Prelude.{◌≡◌, ℕ, ℤ, pos, negsuc, Bool, true, false, not, ◌||◌, if◌then◌else◌, nat_le, is_none, max, List, [], ◌∷◌, Option, Some, None}
+-- One heartbeat at one group: what is answered, and the group afterwards (KIP-848, "Consumer Group Heartbeat").
+use Rattle.std.specs.Prelude.{◌≡◌, ℕ, ℤ, pos, Bool, true, false, not, ◌||◌, ◌&&◌, if◌then◌else◌, nat_le, max, Option, Some, None}
 use Rattle.std.specs.FinMap as finite
 use Rattle.group_types.specs.declared.code.Code.{Code}
 use Rattle.group_types.specs.declared.code.Code.TheVariants as codes
@@ -7,16 +7,62 @@ use Rattle.group_types.specs.declared.epoch.Epoch.{Epoch}
 use Rattle.group_types.specs.declared.epoch.Epoch.TheVariants.{At, Away}
 use Rattle.group_types.specs.declared.stamp.Stamp.{Stamp}
 use Rattle.group_types.specs.Text.{Text}
-use Rattle.group_types.specs.Sets.{nothing, common, are_same}
+use Rattle.group_types.specs.Sets.{common, are_same, in_order}
 use Rattle.group_types.specs.Partition.{Partitions}
 use Rattle.group_types.specs.Topics.{Topics}
 use Rattle.group_types.specs.declared.limits.TheConstants.{GREATEST_EPOCH, HEARTBEAT_INTERVAL}
-use Rattle.group_types.specs.MemberId.{made_id}
-use Rattle.group_types.specs.Request.{Heartbeat, Kind, Joins, Beats, Leaves, GoesAway, IsNone, kind_of, is_invalid, is_unsupported, is_full}
+use Rattle.group_types.specs.Request.{Heartbeat, Kind, Joins, Beats, Leaves, GoesAway, IsNone, LEAVES_AT, GOES_AWAY_AT, kind_of, is_full, reported}
+use Rattle.group_types.specs.Owners.{renamed}
 use Rattle.group_types.specs.Group.{Record, Group, wanted, held}
-use Rattle.group_types.specs.Settle.{settled}
-use Rattle.group_types.specs.Renewal.{view_for, Changes, Renews}
-use Rattle.group_types.specs.Join.{IsSerial, new_record, with_new_member}
+use Rattle.group_types.specs.Members.{members_of, with_members, with_record, taken_over}
+use Rattle.group_types.specs.Settle.{grants_of_others, granting, settled}
+use Rattle.group_types.specs.Renewal.{view_for, IsChange, changed_if, Renews}
+use Rattle.group_types.specs.Join.{Name, IsNamed, record_of_join, record_of_beat}
+use Rattle.group_types.specs.Leave.{left, gone_away}
+use Rattle.group_types.specs.Checks.{Verdict, Accepted, Refused, Overtaken, Member, Sender, sender_of, verdict_on}
+
+-- a heartbeat as it comes to a group
+pub record Arrival : Type 0 where
+  pub heartbeat : Heartbeat
+  pub stamp : Stamp
+  pub moment : ℕ
+  pub image : Topics  -- that the node has
+
+-- ---- the drafts
+
+-- who takes over, and the last stamp under the old id
+pub record Heir : Type 0 where
+  pub id : Text
+  pub last : Stamp
+
+-- The group with a heartbeat's record in it, before anything else comes of it. At a take-over the record still stands
+-- under the old id.
+pub record Draft : Type 0 where
+  pub group : Group
+  pub id : Text  -- under which the record stands
+  pub before : Option Record  -- as it was; none of a new member
+  pub after : Record
+  pub heir : Option Heir
+
+-- the group at a moment, with a member's record
+abbrev pub with_record_at : Group → ℕ → Text → Record → Group
+with_record_at g now m r = with_members (record g { clock = now }) (with_record (members_of g) m r)
+
+abbrev pub draft_of : Group → ℕ → Text → Option Record → Record → Option Heir → Draft
+draft_of g now m before after heir =
+    record { group = with_record_at g now m after; id = m; before = before; after = after; heir = heir }
+
+abbrev pub draft_of_beat : Group → ℕ → Record → Heartbeat → Stamp → Draft
+draft_of_beat g now r q stamp = draft_of g now q.member (Some r) (record_of_beat r q stamp now) None
+
+-- By the member's own record, and another member that has its instance: it rejoins, it is new, or it takes over.
+abbrev pub draft_of_join : Group → ℕ → Text → Option Record → Option Member → Heartbeat → Stamp → Draft
+draft_of_join g now m (Some r) other q stamp = draft_of g now m (Some r) (record_of_join (Some r) q stamp now) None
+draft_of_join g now m None None q stamp = draft_of g now m None (record_of_join None q stamp now) None
+draft_of_join g now m None (Some old) q stamp =
+    draft_of g now old.id (Some old.kept) (record_of_join (Some old.kept) q stamp now) (Some (record { id = m; last = old.kept.stamp }))
+
+-- ---- the reply
 
 -- a reply, without its bytes
 pub record Reply : Type 0 where
@@ -30,33 +76,12 @@ pub data Answer : Type 0 where
   Replied : Reply → Answer
   Closes : Answer  -- no reply: the connection is closed
 
--- what the checks of a heartbeat come to
-pub data Verdict : Type 0 where
-  Accepted : Verdict
-  Refused : Code → Verdict
-  Overtaken : Verdict
-
 abbrev pub refusal : Code → Reply
 refusal code = record { code = code; member = None; epoch = pos 0; interval = pos 0; assignment = None }
 
--- ---- the checks
-
--- The first check that applies: INVALID_REQUEST, UNSUPPORTED_ASSIGNOR, COORDINATOR_NOT_AVAILABLE.
-abbrev pub first_refusal : Bool → Bool → Bool → Verdict
-first_refusal true unsupported unavailable = Refused codes.InvalidRequest
-first_refusal false true unavailable = Refused codes.UnsupportedAssignor
-first_refusal false false true = Refused codes.CoordinatorNotAvailable
-first_refusal false false false = Accepted
-
--- COORDINATOR_NOT_AVAILABLE for a new member: the group epoch can't rise, or no serial is left for its id.
-abbrev pub is_unavailable : Group → Option ℕ → Bool
-is_unavailable g serial = nat_le GREATEST_EPOCH g.epoch || is_none serial
-
--- The verdict on a join under no id and no instance: it makes a new member.
-abbrev pub verdict_on_new : Group → Heartbeat → Option ℕ → Verdict
-verdict_on_new g q serial = first_refusal (is_invalid q) (is_unsupported q) (is_unavailable g serial)
-
--- ---- the reply
+-- to a member that leaves, with the member epoch of its heartbeat
+abbrev pub farewell : Text → ℤ → Reply
+farewell m epoch = record { code = codes.NoError; member = Some m; epoch = epoch; interval = pos 0; assignment = None }
 
 -- what a member is shown: what it holds of its target
 abbrev pub shown : Group → Text → Partitions
@@ -66,9 +91,10 @@ abbrev pub is_news : Option Partitions → Partitions → Bool
 is_news None set = true
 is_news (Some sent) set = not (are_same sent set)
 
--- An assignment stands in the reply where the heartbeat was full or the shown set isn't the one last sent.
+-- An assignment stands in the reply where the heartbeat was full or the shown set isn't the one last sent (ours).
 abbrev pub assignment_of : Bool → Partitions → Option Partitions
-assignment_of present set = if present then Some set else None
+assignment_of true set = Some set
+assignment_of false set = None
 
 abbrev pub sent_after : Record → Option Partitions → Record
 sent_after r None = r
@@ -76,62 +102,109 @@ sent_after r (Some set) = record r { sent = Some set }
 
 abbrev pub epoch_number : Epoch → ℤ
 epoch_number (At e) = pos e
-epoch_number Away = negsuc 1
+epoch_number Away = GOES_AWAY_AT
 
 abbrev pub acceptance : Text → Record → Option Partitions → Reply
 acceptance m r assignment =
     record { code = codes.NoError; member = Some m; epoch = epoch_number r.epoch; interval = HEARTBEAT_INTERVAL; assignment = assignment }
 
-abbrev pub RepliesWith : Group → Text → Record → Option Partitions → Answer → Group → Type 0
-RepliesWith g m r assignment answer new =
-    (answer ≡ Replied (acceptance m r assignment))
-    × (new ≡ record g { records = finite.insert g.records m (sent_after r assignment) })
+-- ---- the end of a take-over
 
-abbrev pub RepliesTo : Group → Text → Option Record → Bool → Answer → Group → Type 0
-RepliesTo g m None full answer new = ⊥
-RepliesTo g m (Some r) full answer new =
-    RepliesWith g m r (assignment_of (full || is_news r.sent (shown g m)) (shown g m)) answer new
+-- The heir has the record, and the old id's target and grants; the old id is a former member's. The renewal and the
+-- settling before it are done under the old id. That differs from renaming first only where two members have one
+-- instance, which no group has.
+abbrev pub handed_over : Group → Text → Record → Option Heir → Group
+handed_over g old r None = record g { records = finite.insert g.records old r }
+handed_over g old r (Some heir) =
+    record (with_members g (taken_over (members_of g) old heir.id r heir.last)) {
+      target = renamed g.target old heir.id;
+      grants = granting (grants_of_others g.grants old) heir.id (in_order (held g.grants old));
+    }
 
--- ---- the stages of an accepted heartbeat
+-- the id that the reply says
+abbrev pub heir_or : Text → Option Heir → Text
+heir_or m None = m
+heir_or m (Some heir) = heir.id
 
--- From a draft in which the member has its record on: the change, the renewal, the settling, the reply.
-abbrev pub GoesOn : Group → Text → Option Record → Record → Heartbeat → Option Partitions → Topics → Answer → Group → Type 0
-GoesOn draft m before after q owned image answer new =
-    (changed : Group) × Changes before after (view_for image draft.records) draft changed
-    × (renewed : Group) × Renews changed renewed
-    × (let g = settled renewed m owned renewed.clock in
-    RepliesTo g m (finite.get g.records m) (is_full q) answer new)
+-- ---- the stages of an accepted heartbeat of epoch 0 or more: the change, the renewal, the settling, the reply
 
--- a new member joins, and reports that it owns nothing
-abbrev pub JoinsAsNew : Group → Option ℕ → Heartbeat → Stamp → ℕ → Topics → Answer → Group → Type 0
-JoinsAsNew g None q stamp moment image answer new = ⊥
-JoinsAsNew g (Some n) q stamp moment image answer new =
-    GoesOn (with_new_member g n q stamp moment) (made_id g.salt n) None (new_record q stamp (max g.clock moment))
-    q (Some nothing) image answer new
+abbrev pub RepliesWith : Group → Draft → Record → Option Partitions → Answer → Group → Type 0
+RepliesWith g d r assignment answer new =
+    (answer ≡ Replied (acceptance (heir_or d.id d.heir) r assignment))
+    × (new ≡ handed_over g d.id (sent_after r assignment) d.heir)
 
+abbrev pub RepliesTo : Group → Draft → Option Record → Bool → Answer → Group → Type 0
+RepliesTo g d None full answer new = ⊥
+RepliesTo g d (Some r) full answer new =
+    RepliesWith g d r (assignment_of (full || is_news r.sent (shown g d.id)) (shown g d.id)) answer new
+
+abbrev pub SettlesAndReplies : Group → Draft → Heartbeat → Answer → Group → Type 0
+SettlesAndReplies renewed d q answer new =
+    let g = settled renewed d.id (reported q) renewed.clock in
+    RepliesTo g d (finite.get g.records d.id) (is_full q) answer new
+
+-- from a draft with its change on
+pub record GoesOn (changed : Group) (d : Draft) (q : Heartbeat) (answer : Answer) (new : Group) : Type 0 where
+  pub renewed : Group
+  pub renews : Renews changed renewed
+  pub replies : SettlesAndReplies renewed d q answer new
+
+-- a refusal and an overtaken heartbeat change nothing
 abbrev pub ByVerdict : Verdict → (Answer → Group → Type 0) → Group → Answer → Group → Type 0
 ByVerdict Accepted Accepts g answer new = Accepts answer new
 ByVerdict (Refused code) Accepts g answer new = (answer ≡ Replied (refusal code)) × (new ≡ g)
 ByVerdict Overtaken Accepts g answer new = (answer ≡ Closes) × (new ≡ g)
 
--- what isn't described yet is closed, and changes nothing
-abbrev pub IsClosed : Group → Answer → Group → Type 0
-IsClosed g answer new = (answer ≡ Closes) × (new ≡ g)
+-- The last check: COORDINATOR_NOT_AVAILABLE where the step is a change and the group epoch can't rise.
+abbrev pub verdict_on_change : Bool → ℕ → Verdict
+verdict_on_change change epoch =
+    if change && nat_le GREATEST_EPOCH epoch then Refused codes.CoordinatorNotAvailable else Accepted
 
--- ---- by the kind of heartbeat, the member id, the instance and the members: what a group without members does
+-- A draft is taken in where that check lets it, and else nothing changes. The view is that of the present image.
+pub record TakesIn (g : Group) (d : Draft) (q : Heartbeat) (image : Topics) (answer : Answer) (new : Group) : Type 0 where
+  pub change : Bool
+  pub is_change : IsChange change d.before d.after g.view (view_for image d.group.records)
+  pub step : ByVerdict (verdict_on_change change g.epoch) (GoesOn (changed_if change d.group (view_for image d.group.records)) d q) g answer new
 
-abbrev pub StepOf : Kind → Text → Option Text → List (Text × Record) → Group → Heartbeat → Stamp → ℕ → Topics → Answer → Group → Type 0
-StepOf Joins [] None [] g q stamp moment image answer new =
-    (serial : Option ℕ) × IsSerial g serial
-    × ByVerdict (verdict_on_new g q serial) (JoinsAsNew g serial q stamp moment image) g answer new
-StepOf Joins [] None (m ∷ ms) g q stamp moment image answer new = IsClosed g answer new
-StepOf Joins [] (Some instance) members g q stamp moment image answer new = IsClosed g answer new
-StepOf Joins (c ∷ member) instance members g q stamp moment image answer new = IsClosed g answer new
-StepOf (Beats n) member instance members g q stamp moment image answer new = IsClosed g answer new
-StepOf Leaves member instance members g q stamp moment image answer new = IsClosed g answer new
-StepOf GoesAway member instance members g q stamp moment image answer new = IsClosed g answer new
-StepOf IsNone member instance members g q stamp moment image answer new = IsClosed g answer new
+-- ---- by the kind of heartbeat
 
-abbrev pub HeartbeatStep : Group → Heartbeat → Stamp → ℕ → Topics → Answer → Group → Type 0
-HeartbeatStep g q stamp moment image answer new =
-    StepOf (kind_of q.epoch) q.member q.instance (finite.entries g.records) g q stamp moment image answer new
+-- the last check, too: no serial is left for the id
+abbrev pub JoinsUnder : Option Name → Sender → Group → Arrival → Answer → Group → Type 0
+JoinsUnder None sender g a answer new = (answer ≡ Replied (refusal codes.CoordinatorNotAvailable)) × (new ≡ g)
+JoinsUnder (Some name) sender g a answer new =
+    let named = record g { serial = name.next_serial } in
+    let d = draft_of_join named (max g.clock a.moment) name.id sender.own sender.other a.heartbeat a.stamp in
+    TakesIn g d a.heartbeat a.image answer new
+
+-- the member gets its id, and joins under it
+pub record JoinsAs (sender : Sender) (g : Group) (a : Arrival) (answer : Answer) (new : Group) : Type 0 where
+  pub name : Option Name
+  pub is_named : IsNamed g a.heartbeat.member name
+  pub joins : JoinsUnder name sender g a answer new
+
+abbrev pub BeatsWith : Option Record → Group → Arrival → Answer → Group → Type 0
+BeatsWith None g a answer new = ⊥
+BeatsWith (Some r) g a answer new =
+    TakesIn g (draft_of_beat g (max g.clock a.moment) r a.heartbeat a.stamp) a.heartbeat a.image answer new
+
+abbrev pub GoesAwayWith : Option Record → Group → Arrival → Answer → Group → Type 0
+GoesAwayWith None g a answer new = ⊥
+GoesAwayWith (Some r) g a answer new =
+    (answer ≡ Replied (farewell a.heartbeat.member GOES_AWAY_AT))
+    × (new ≡ gone_away g a.heartbeat.member r a.stamp a.moment)
+
+abbrev pub StepOf : Kind → Sender → Group → Arrival → Answer → Group → Type 0
+StepOf Joins sender g a answer new = JoinsAs sender g a answer new
+StepOf (Beats n) sender g a answer new = BeatsWith sender.own g a answer new
+StepOf Leaves sender g a answer new =
+    (answer ≡ Replied (farewell a.heartbeat.member LEAVES_AT)) × (new ≡ left g a.heartbeat.member a.stamp a.moment)
+StepOf GoesAway sender g a answer new = GoesAwayWith sender.own g a answer new
+StepOf IsNone sender g a answer new = ⊥
+
+abbrev pub StepBy : Kind → Sender → Group → Arrival → Answer → Group → Type 0
+StepBy kind sender g a answer new =
+    ByVerdict (verdict_on kind sender g a.heartbeat a.stamp) (StepOf kind sender g a) g answer new
+
+abbrev pub HeartbeatStep : Group → Arrival → Answer → Group → Type 0
+HeartbeatStep g a answer new =
+    StepBy (kind_of a.heartbeat.epoch) (sender_of g.records a.heartbeat) g a answer new

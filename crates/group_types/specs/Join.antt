@@ -1,12 +1,11 @@
--- KIP-848, "Consumer Group Heartbeat", at member epoch 0: a member joins.
-use Rattle.std.specs.Prelude.{◌≡◌, ℕ, suc, ◌<◌, ◌≤◌, ◌^◌, ℤ, pos, negsuc, Bool, true, false, ◌||◌, max, List, Option, Some, None}
-use Rattle.std.specs.List.{list_any}
-use Rattle.std.specs.Option.{option_or, option_and_then}
-use Rattle.std.specs.Ordering.{eq_by_cmp}
-use Rattle.std.specs.FinMap as finite
-use Rattle.group_types.specs.declared.epoch.Epoch.TheVariants.{At}
+-- KIP-848, "Consumer Group Heartbeat", at member epochs of 0 or more: the record that a member has then, and the id
+-- under which it joins.
+use Rattle.std.specs.Prelude.{◌≡◌, ℕ, suc, ◌<◌, ◌≤◌, ◌^◌, ℤ, pos, negsuc, Bool, true, false, List, [], ◌∷◌, Option, Some, None}
+use Rattle.std.specs.Option.{option_or, option_and_then, option_map}
+use Rattle.group_types.specs.declared.epoch.Epoch.{Epoch}
+use Rattle.group_types.specs.declared.epoch.Epoch.TheVariants.{At, Away}
 use Rattle.group_types.specs.declared.stamp.Stamp.{Stamp}
-use Rattle.group_types.specs.Text.{Text, text_cmp}
+use Rattle.group_types.specs.Text.{Text}
 use Rattle.group_types.specs.Sets.{nothing, of_list}
 use Rattle.group_types.specs.Topics.{Names}
 use Rattle.group_types.specs.AssignorName.{assignor_named}
@@ -15,22 +14,37 @@ use Rattle.group_types.specs.Moment.{saturated_sum}
 use Rattle.group_types.specs.MemberId.{made_id}
 use Rattle.group_types.specs.Request.{Heartbeat}
 use Rattle.group_types.specs.Group.{Record, Group}
+use Rattle.group_types.specs.Members.{members_of, is_remembered}
 
--- an id that has a record, or had one and is still in the past
-abbrev pub is_remembered : Group → Text → Bool
-is_remembered g m = finite.contains_key g.records m || list_any (λ e. eq_by_cmp text_cmp m e.0) g.past
+-- ---- the id
 
--- n is the first serial from the group's on whose id isn't remembered
+-- n is the first serial from the group's on whose id isn't remembered (ours)
 pub record IsNextSerial (g : Group) (n : ℕ) : Type 0 where
   pub from : g.serial ≤ n
   pub below : n < 2 ^ 64
-  pub fresh : is_remembered g (made_id g.salt n) ≡ false
-  pub first : (k : ℕ) → g.serial ≤ k → k < n → is_remembered g (made_id g.salt k) ≡ true
+  pub fresh : is_remembered (members_of g) (made_id g.salt n) ≡ false
+  pub first : (k : ℕ) → g.serial ≤ k → k < n → is_remembered (members_of g) (made_id g.salt k) ≡ true
 
 -- the next serial, or that none is left
 abbrev pub IsSerial : Group → Option ℕ → Type 0
 IsSerial g (Some n) = IsNextSerial g n
-IsSerial g None = (k : ℕ) → g.serial ≤ k → k < 2 ^ 64 → is_remembered g (made_id g.salt k) ≡ true
+IsSerial g None = (k : ℕ) → g.serial ≤ k → k < 2 ^ 64 → is_remembered (members_of g) (made_id g.salt k) ≡ true
+
+-- the id under which a member joins, and the serial of the next id that is made
+pub record Name : Type 0 where
+  pub id : Text
+  pub next_serial : ℕ
+
+-- the id of a serial
+abbrev pub name_of_serial : Group → ℕ → Name
+name_of_serial g n = record { id = made_id g.salt n; next_serial = suc n }
+
+-- The id that the member names, or one that is made where it names none; no id where no serial is left.
+abbrev pub IsNamed : Group → Text → Option Name → Type 0
+IsNamed g [] name = (serial : Option ℕ) × IsSerial g serial × (name ≡ option_map (name_of_serial g) serial)
+IsNamed g (c ∷ m) name = name ≡ Some (record { id = c ∷ m; next_serial = g.serial })
+
+-- ---- the record
 
 -- a member of which nothing is known yet
 abbrev pub blank_record : Record
@@ -58,7 +72,7 @@ abbrev pub timeout_after : ℕ → ℤ → ℕ
 timeout_after timeout (pos given) = given
 timeout_after timeout (negsuc n) = timeout
 
--- a record after what an accepted heartbeat of epoch 0 or more gives
+-- the record after what an accepted heartbeat of epoch 0 or more gives
 abbrev pub updated : Record → Heartbeat → Stamp → ℕ → Record
 updated r q stamp now =
     record r {
@@ -70,20 +84,23 @@ updated r q stamp now =
       session_deadline = saturated_sum now SESSION_TIMEOUT;
     }
 
+-- a member that was away is at its previous epoch again
+abbrev pub returned_at : Epoch → Record → Record
+returned_at (At e) r = r
+returned_at Away r = record r { epoch = At r.previous_epoch }
+
+abbrev pub returned : Record → Record
+returned r = returned_at r.epoch r
+
 -- a join sets the instance, and the member is sent everything again
 abbrev pub joined : Record → Option Text → Record
 joined r instance = record r { instance = instance; sent = None }
 
--- the record of a new member
-abbrev pub new_record : Heartbeat → Stamp → ℕ → Record
-new_record q stamp now = joined (updated blank_record q stamp now) q.instance
+-- the record of a member that joins: anew, or again, or in place of another one whose record this was
+abbrev pub record_of_join : Option Record → Heartbeat → Stamp → ℕ → Record
+record_of_join None q stamp now = joined (updated blank_record q stamp now) q.instance
+record_of_join (Some r) q stamp now = joined (updated (returned r) q stamp now) q.instance
 
--- The draft of a new member under the id of a serial: the clock, the next serial and the record.
-abbrev pub with_new_member : Group → ℕ → Heartbeat → Stamp → ℕ → Group
-with_new_member g n q stamp moment =
-    let now = max g.clock moment in
-    record g {
-      clock = now;
-      serial = suc n;
-      records = finite.insert g.records (made_id g.salt n) (new_record q stamp now);
-    }
+-- the record of a member that beats, at a member epoch of 1 or more
+abbrev pub record_of_beat : Record → Heartbeat → Stamp → ℕ → Record
+record_of_beat r q stamp now = updated r q stamp now

@@ -13,10 +13,15 @@ pub mod Assignors
 pub mod Owners
 pub mod Uniform
 pub mod Group
+pub mod Request
+pub mod Members
 pub mod Settle
 pub mod Renewal
+pub mod Join
 pub mod Leave
 pub mod Tick
-pub mod Request
-pub mod Join
+pub mod Checks
 pub mod HeartbeatStep
+pub mod Commit
+pub mod Sound
+pub mod Laws

@@ -51,8 +51,9 @@ abbrev pub IsLawful : Topics → List Subscriber → Spread → Type 0
 IsLawful view subs spread =
     (p : Partition) → MatchOption (finite.get spread p) ((id : Text) → ¬ IsSubscriber view subs p id) (IsSubscriber view subs p)
 
--- The place among k subscribers of the one who owns index i of n partitions: the partitions go in rising runs to the
--- subscribers in member order, and the first n mod k of these get one more than the rest.
+-- The place among k subscribers of the one who owns index i of n partitions, under range (the formula is ours): the
+-- partitions go in rising runs to the subscribers in member order, and the first n mod k of these get one more than the
+-- rest.
 abbrev pub range_place : ℕ → ℕ → ℕ → ℕ
 range_place n k i =
     let q = n / k in let r = n % k in

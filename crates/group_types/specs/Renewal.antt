@@ -1,5 +1,5 @@
 -- KIP-848, "Target Assignment": a change raises the group epoch, and then the target is renewed.
-use Rattle.std.specs.Prelude.{◌≡◌, ◌⊎◌, suc, Bool, true, false, ◌==◌, List, map, Option, Some, None, IsPermutation, IsSorted}
+use Rattle.std.specs.Prelude.{◌≡◌, suc, Bool, true, false, ◌==◌, List, map, Option, Some, None, IsPermutation, IsSorted}
 use Rattle.std.specs.List.{list_any}
 use Rattle.std.specs.FinMap as finite
 use Rattle.group_types.specs.declared.assignor_name.AssignorName.{AssignorName}
@@ -20,16 +20,23 @@ is_subscribed records name = list_any (λ r. has r.names name) (finite.values re
 abbrev pub view_for : Topics → Records → Topics
 view_for image records = finite.retain_keys image (is_subscribed records)
 
-abbrev pub changed : Group → Topics → Group
-changed g view = record g { epoch = suc g.epoch; view = view }
+-- names, assignor and view are as they were
+pub record IsUnchanged (before after : Record) (stored present : Topics) : Type 0 where
+  pub names : before.names ≡ after.names
+  pub assignor : before.assignor ≡ after.assignor
+  pub view : stored ≡ present
 
--- A step is a change where the member is new, where its names or its assignor became others, or where the
--- view isn't the stored one.
-abbrev pub Changes : Option Record → Record → Topics → Group → Group → Type 0
-Changes None after view g new = new ≡ changed g view
-Changes (Some before) after view g new =
-    let same : Type 0 = (before.names ≡ after.names) × (before.assignor ≡ after.assignor) × (g.view ≡ view) in
-    (same × (new ≡ g)) ⊎ (¬ same × (new ≡ changed g view))
+-- Whether a step is a change: the member is new, its names or its assignor became others, or the view isn't the stored
+-- one.
+abbrev pub IsChange : Bool → Option Record → Record → Topics → Topics → Type 0
+IsChange change None after stored view = change ≡ true
+IsChange true (Some before) after stored view = ¬ IsUnchanged before after stored view
+IsChange false (Some before) after stored view = IsUnchanged before after stored view
+
+-- a change raises the group epoch and stores the view
+abbrev pub changed_if : Bool → Group → Topics → Group
+changed_if true g view = record g { epoch = suc g.epoch; view = view }
+changed_if false g view = g
 
 -- a member as an assignor sees it
 abbrev pub subscriber_of : Text × Record → Subscriber

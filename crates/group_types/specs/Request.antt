@@ -1,8 +1,11 @@
 -- A heartbeat, without its bytes (KIP-848, "ConsumerGroupHeartbeat API").
 use Rattle.std.specs.Prelude.{ℕ, zero, suc, ℤ, pos, negsuc, Bool, true, false, ◌||◌, ◌&&◌, not, int_lt, int_le, is_none, is_some, length, ◌==◌, List, Option, Some, None}
+use Rattle.std.specs.Option.{option_map}
 use Rattle.std.specs.Ordering.{int_eq}
 use Rattle.group_types.specs.declared.partition.Partition.{Partition}
 use Rattle.group_types.specs.Text.{Text}
+use Rattle.group_types.specs.Sets.{nothing, of_list}
+use Rattle.group_types.specs.Partition.{Partitions}
 use Rattle.group_types.specs.AssignorName.{assignor_named}
 
 pub record Heartbeat : Type 0 where
@@ -31,6 +34,18 @@ kind_of (negsuc zero) = Leaves
 kind_of (negsuc (suc zero)) = GoesAway
 kind_of (negsuc (suc (suc n))) = IsNone
 
+-- the member epoch of a heartbeat by which a member leaves for good
+abbrev pub LEAVES_AT : ℤ
+LEAVES_AT = negsuc 0
+
+-- the member epoch of a heartbeat by which a static member goes away for a while
+abbrev pub GOES_AWAY_AT : ℤ
+GOES_AWAY_AT = negsuc 1
+
+-- the rebalance timeout that leaves the stored one as it is
+abbrev pub SAME_TIMEOUT : ℤ
+SAME_TIMEOUT = negsuc 0
+
 abbrev pub is_empty : {X : Type 0} → List X → Bool
 is_empty xs = length xs == 0
 
@@ -46,13 +61,13 @@ is_given_some (Some xs) = not (is_empty xs)
 -- says to own a partition.
 abbrev pub is_invalid_join : Heartbeat → Bool
 is_invalid_join q =
-    int_eq q.rebalance_timeout (negsuc 0) || is_none q.names || is_given_empty q.instance || is_given_some q.owned
+    int_eq q.rebalance_timeout SAME_TIMEOUT || is_none q.names || is_given_empty q.instance || is_given_some q.owned
 
 -- What is invalid beside an empty group id, by the kind of heartbeat: a member epoch that means nothing, no
 -- member id where one is wanted, no instance id to go away under, a rebalance timeout below -1.
 abbrev pub is_invalid_as : Heartbeat → Kind → Bool
-is_invalid_as q Joins = int_lt q.rebalance_timeout (negsuc 0) || is_invalid_join q
-is_invalid_as q (Beats epoch) = is_empty q.member || int_lt q.rebalance_timeout (negsuc 0)
+is_invalid_as q Joins = int_lt q.rebalance_timeout SAME_TIMEOUT || is_invalid_join q
+is_invalid_as q (Beats epoch) = is_empty q.member || int_lt q.rebalance_timeout SAME_TIMEOUT
 is_invalid_as q Leaves = is_empty q.member
 is_invalid_as q GoesAway = is_empty q.member || is_none q.instance
 is_invalid_as q IsNone = true
@@ -72,4 +87,16 @@ is_unsupported q = int_le (pos 0) q.epoch && is_unknown q.assignor
 -- All that a member may say is said: it joins, or timeout, names and partitions are given.
 abbrev pub is_full : Heartbeat → Bool
 is_full q =
-    int_eq q.epoch (pos 0) || (not (int_eq q.rebalance_timeout (negsuc 0)) && is_some q.names && is_some q.owned)
+    int_eq q.epoch (pos 0) || (not (int_eq q.rebalance_timeout SAME_TIMEOUT) && is_some q.names && is_some q.owned)
+
+-- ---- what a member reports that it owns: a join that it owns nothing, and nothing at all where the field is null
+
+abbrev pub reported_at : Kind → Option (List Partition) → Option Partitions
+reported_at Joins owned = Some nothing
+reported_at (Beats epoch) owned = option_map of_list owned
+reported_at Leaves owned = None
+reported_at GoesAway owned = None
+reported_at IsNone owned = None
+
+abbrev pub reported : Heartbeat → Option Partitions
+reported q = reported_at (kind_of q.epoch) q.owned

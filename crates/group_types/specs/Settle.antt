@@ -11,11 +11,7 @@ use Rattle.group_types.specs.Text.{Text, text_cmp}
 use Rattle.group_types.specs.Sets.{is_nothing, has, with_one, common, minus, in_order}
 use Rattle.group_types.specs.Partition.{partition_cmp, Partitions}
 use Rattle.group_types.specs.Moment.{saturated_sum}
-use Rattle.group_types.specs.Group.{Record, Target, Grants, Group, wanted, held}
-
--- what a member holds and its target hasn't
-abbrev pub rest : Grants → Target → Text → Partitions
-rest grants target m = minus (held grants m) (wanted target m)
+use Rattle.group_types.specs.Group.{Record, Grants, Group, wanted, held}
 
 -- A member may move where it holds nothing more than its target, or has reported what it owns and that
 -- shares nothing with the rest. Null reports nothing.
@@ -54,16 +50,31 @@ abbrev pub asked : Record → Option ℕ → ℕ → Record
 asked r (Some deadline) now = r
 asked r None now = record r { release_deadline = Some (saturated_sum now r.rebalance_timeout) }
 
-abbrev pub settled_by : Group → Text → ℕ → Bool → Option Record → Group
-settled_by g m now may None = g
-settled_by g m now true (Some r) =
-    record g {
-      grants = moved g.grants m (wanted g.target m);
-      records = finite.insert g.records m (arrived r r.epoch g.target_epoch);
-    }
-settled_by g m now false (Some r) =
-    record g { records = finite.insert g.records m (asked r r.release_deadline now) }
+-- ---- an offer of its target to a member that reports what it owns
 
+-- of the grants alone: whether the member may move
+abbrev pub may_settle : Grants → Text → Partitions → Option Partitions → Bool
+may_settle grants m target owned = may_move (minus (held grants m) target) owned
+
+-- the grants afterwards
+abbrev pub grants_after : Bool → Grants → Text → Partitions → Grants
+grants_after true grants m target = moved grants m target
+grants_after false grants m target = grants
+
+-- the member's record afterwards
+abbrev pub settled_record : Bool → Record → ℕ → ℕ → Record
+settled_record true r target_epoch now = arrived r r.epoch target_epoch
+settled_record false r target_epoch now = asked r r.release_deadline now
+
+abbrev pub settled_by : Bool → Group → Text → Option Record → ℕ → Group
+settled_by may g m None now = g
+settled_by may g m (Some r) now =
+    record g {
+      grants = grants_after may g.grants m (wanted g.target m);
+      records = finite.insert g.records m (settled_record may r g.target_epoch now);
+    }
+
+-- The group once the member was offered its target: it has moved, or is to give up what isn't its target any more.
 abbrev pub settled : Group → Text → Option Partitions → ℕ → Group
 settled g m owned now =
-    settled_by g m now (may_move (rest g.grants g.target m) owned) (finite.get g.records m)
+    settled_by (may_settle g.grants m (wanted g.target m) owned) g m (finite.get g.records m) now

@@ -1,4 +1,4 @@
--- Stamps: where and when a frame came in.
+-- Stamps: where and when a frame came in. They are ours: by them a late repeat is told from a new heartbeat.
 use Rattle.std.specs.declared.cmp.Ordering.{Ordering}
 use Rattle.std.specs.Ordering.{nat_cmp, ordering_then}
 use Rattle.group_types.specs.declared.stamp.Stamp.{Stamp}

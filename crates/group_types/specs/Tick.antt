@@ -1,8 +1,9 @@
 -- KIP-848, "Session Management" and "Rebalance Timeout": whose deadline has come leaves the group.
-use Rattle.std.specs.Prelude.{ℕ, Bool, false, ◌||◌, nat_le, max, List, [], ◌∷◌, length, filter, Option, Some, None}
+use Rattle.std.specs.Prelude.{◌≡◌, IsTrue, ℕ, Bool, false, ◌||◌, nat_le, max, List, [], ◌∷◌, length, filter, Option, Some, None}
 use Rattle.std.specs.FinMap as finite
-use Rattle.group_types.specs.Text.{Text}
-use Rattle.group_types.specs.Group.{Record, Group}
+use Rattle.std.specs.declared.cmp.Ordering.TheVariants.{Less}
+use Rattle.group_types.specs.Text.{Text, text_cmp}
+use Rattle.group_types.specs.Group.{Record, Records, Group}
 use Rattle.group_types.specs.Leave.{risen, without_member}
 
 abbrev pub has_come : ℕ → Option ℕ → Bool
@@ -35,3 +36,15 @@ ticked g moment = expired (at_moment g moment) (due (at_moment g moment))
 -- how many members a tick removes
 abbrev pub removed_by_tick : Group → ℕ → ℕ
 removed_by_tick g moment = length (due (at_moment g moment))
+
+-- ---- the members that leave, one after the other
+
+-- the member is the first, by the ids' bytes, whose deadline has come
+pub record IsFirstDue (records : Records) (clock : ℕ) (m : Text) (r : Record) : Type 0 where
+  pub is_kept : finite.get records m ≡ Some r
+  pub due : IsTrue (is_due clock r)
+  pub first : (n : Text) (s : Record) → finite.get records n ≡ Some s → IsTrue (is_due clock s) → ¬ (text_cmp n m ≡ Less)
+
+-- nobody's deadline has come
+abbrev pub NoneIsDue : Records → ℕ → Type 0
+NoneIsDue records clock = (m : Text) (r : Record) → finite.get records m ≡ Some r → is_due clock r ≡ false

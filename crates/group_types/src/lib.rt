@@ -8,6 +8,7 @@
 mod assignor_name;
 mod code;
 mod epoch;
+mod laws;
 pub mod limits;
 mod member_id;
 mod moment;
@@ -15,13 +16,15 @@ mod name_set;
 mod part_set;
 mod partition;
 mod stamp;
-#[cfg(test)]
-mod tests;
 mod wanted;
 
 pub use assignor_name::AssignorName;
 pub use code::Code;
 pub use epoch::{Epoch, EpochNumber};
+pub use laws::{
+    closes_only_overtaken, commits_are_at_epoch, commits_are_sound, leaves_are_sound,
+    refusals_change_nothing, ticks_are_sound,
+};
 pub use member_id::{MemberId, made_ids_differ};
 pub use moment::Moment;
 pub use name_set::NameSet;

@@ -60,8 +60,19 @@ impl NameSet {
         Ok(self.names.insert(name)?)
     }
 
-    /// Adds the names of the other set. Where memory is short, some of them may be in already.
+    /// Adds the names of the other set. Where memory is short, the set stays as it was.
     pub fn add_all(&mut self, alloc: Global, other: &NameSet) -> Result<(), AllocError>
+        ensures added { OnOk result (self.new ≡ union self.old other.now) }
+        ensures err { OnErr result (self.new ≡ self.old) }
+    {
+        let mut all = self.copy(alloc)?;
+        all.add_each(alloc, other)?;
+        *self = all;
+        Ok(())
+    }
+
+    /// Adds the names of the other set one by one. Where memory is short, some of them may be in already.
+    fn add_each(&mut self, alloc: Global, other: &NameSet) -> Result<(), AllocError>
         ensures { OnOk result (self.new ≡ union self.old other.now) }
     {
         for name in other.iter() {

@@ -1,32 +1,38 @@
 //! A set of partitions.
-ghost use Rattle.std.specs.Prelude.{◌≡◌, ℕ, not, length, IsTrue, ◌↔◌, IfOk, OnOk, OnErr};
-ghost use Rattle.std.specs.Map.Iter.{ShowsInOrder, deref};
+ghost use Rattle.std.specs.Prelude.{◌≡◌, ◌≤◌, ◌<◌, ℕ, not, length, IsTrue, ◌↔◌, IfOk, IfErr, OnOk, OnErr, Some, is_ok, slice_get};
+ghost use Rattle.std.specs.Iterator.Adapters.{IterYieldsInOrder};
+ghost use Rattle.std.specs.List.{list_any};
+ghost use Rattle.std.specs.List.Sorted.{IsStrictlySortedBy};
+ghost use Rattle.std.specs.Ordering.{eq_by_cmp};
+ghost use Rattle.std.specs.Slice.Iter.{iter_rest};
 ghost use Rattle.group_types.specs.declared.partition.Partition.{Partition as Key};
 ghost use Rattle.group_types.specs.Sets.{nothing, has, with_one, without, common, in_order, of_list, size, is_nothing, are_disjoint, are_same};
-ghost use Rattle.group_types.specs.Partition.{partition_cmp};
+ghost use Rattle.group_types.specs.Partition.{partition_cmp, IsGap};
 
 use crate::partition::Partition;
 use std::alloc::{AllocError, Global};
-use std::collections::BTreeSet;
-use std::collections::btree_set::Iter;
 use std::marker::Model;
+use std::slice::Iter;
 
-/// A set of partitions, in the order of [`Partition`].
+/// A set of partitions: a list that rises in the order of [`Partition`].
 #[derive(Drop)]
 pub struct PartSet {
-    parts: BTreeSet<Partition>,
+    parts: Vec<Partition>,
 }
 
 impl Model for PartSet {
     ghost use Rattle.std.specs.FinSet as set;
+    ghost use Rattle.std.specs.List.Sorted.{IsStrictlySortedBy};
     ghost use Rattle.group_types.specs.Sets.{of_list};
-    ghost use Rattle.group_types.specs.Partition.{Partitions, partition_code};
+    ghost use Rattle.group_types.specs.Partition.{Partitions, partition_cmp, partition_code};
 
     ghost Value = { Partitions };
 
     ghost coded = { set.code partition_code };
 
-    ghost view = { λ s. of_list s.parts.keys };
+    ghost view = { λ s. of_list s.parts.items };
+
+    ghost invariant = { λ s. IsStrictlySortedBy partition_cmp s.parts.items };
 }
 
 impl PartSet {
@@ -35,7 +41,7 @@ impl PartSet {
         ensures { result ≡ nothing }
     {
         PartSet {
-            parts: BTreeSet::new(alloc),
+            parts: Vec::new(alloc),
         }
     }
 
@@ -43,18 +49,24 @@ impl PartSet {
     pub fn of_list(alloc: Global, list: &[Partition]) -> Result<PartSet, AllocError>
         ensures { IfOk result (λ s. s ≡ of_list list.now) }
     {
-        let mut set = PartSet::new(alloc);
-        for p in list {
-            set.insert(*p)?;
-        }
-        Ok(set)
+        let parts = Vec::from_slice(alloc, list)?;
+        Ok(PartSet::of_vec(parts))
+    }
+
+    /// The partitions of a list in any order, repeated ones once. Takes no memory.
+    pub fn of_vec(mut parts: Vec<Partition>) -> PartSet
+        ensures { result ≡ of_list parts.items }
+    {
+        parts.sort_unstable();
+        parts.dedup();
+        PartSet { parts }
     }
 
     /// Whether the partition is in the set.
     pub fn contains(&self, p: &Partition) -> bool
         ensures { result ≡ has self.now p.now }
     {
-        self.parts.contains(p)
+        place_of(&self.parts, p).is_ok()
     }
 
     /// Adds the partition, and says whether it is new. Where memory is short, the set stays as it was.
@@ -63,7 +75,13 @@ impl PartSet {
         ensures is_new { IfOk result (λ new. new ≡ not (has self.old p)) }
         ensures err { OnErr result (self.new ≡ self.old) }
     {
-        Ok(self.parts.insert(p)?)
+        match place_of(&self.parts, &p) {
+            Ok(_) => Ok(false),
+            Err(at) => {
+                self.parts.insert(at, p)?;
+                Ok(true)
+            }
+        }
     }
 
     /// Takes the partition out, and says whether it was there.
@@ -71,7 +89,13 @@ impl PartSet {
         ensures removed { self.new ≡ without self.old p.now }
         ensures was_there { result ≡ has self.old p.now }
     {
-        self.parts.remove(p)
+        match place_of(&self.parts, p) {
+            Ok(at) => {
+                self.parts.remove(at);
+                true
+            }
+            Err(_) => false,
+        }
     }
 
     /// How many partitions the set has.
@@ -98,8 +122,8 @@ impl PartSet {
 
     /// The partitions, rising.
     pub fn iter(&self) -> Iter<'_, Partition>
-        ensures rest { result ≡ in_order self.now }
-        ensures runs { ShowsInOrder (deref {X = Key}) }
+        ensures rest { iter_rest result ≡ in_order self.now }
+        ensures runs { IterYieldsInOrder Key }
     {
         self.parts.iter()
     }
@@ -108,11 +132,8 @@ impl PartSet {
     pub fn copy(&self, alloc: Global) -> Result<PartSet, AllocError>
         ensures { IfOk result (λ copy. copy ≡ self.now) }
     {
-        let mut copy = PartSet::new(alloc);
-        for p in self.iter() {
-            copy.insert(*p)?;
-        }
-        Ok(copy)
+        let parts = Vec::from_slice(alloc, &self.parts)?;
+        Ok(PartSet { parts })
     }
 
     /// Keeps the partitions that the other set has too. Takes no memory.
@@ -127,7 +148,7 @@ impl PartSet {
         ensures value { result ≡ are_disjoint self.now other.now }
         ensures disjoint { IsTrue result ↔ (common self.now other.now ≡ nothing) }
     {
-        self.parts.is_disjoint(&other.parts)
+        !has_any(other, &self.parts)
     }
 
     /// Whether the two sets have the same partitions.
@@ -135,7 +156,28 @@ impl PartSet {
         ensures value { result ≡ are_same self.now other.now }
         ensures same { IsTrue result ↔ (self.now ≡ other.now) }
     {
-        let (mine, theirs) = (&self.parts, &other.parts);
-        mine.len() == theirs.len() && mine == theirs
+        self.parts == other.parts
+    }
+}
+
+/// Whether a partition of the list is in the set.
+fn has_any(set: &PartSet, list: &[Partition]) -> bool
+    ensures { result ≡ list_any (has set.now) list.now }
+{
+    list.iter().any(|p| set.contains(p))
+}
+
+/// Where the partition is in a list that rises, or where it would go. What comes behind the last is not searched for, so
+/// a list is filled fastest when the partitions come rising.
+fn place_of(parts: &[Partition], p: &Partition) -> Result<usize, usize>
+    requires { IsStrictlySortedBy partition_cmp parts.now }
+    ensures there { is_ok result ≡ list_any (eq_by_cmp partition_cmp p.now) parts.now }
+    ensures found { IfOk result (λ at. slice_get parts.now at ≡ Some p.now) }
+    ensures bound { IfErr result (λ at. at ≤ length parts.now) }
+    ensures gap { IfErr result (IsGap p.now parts.now) }
+{
+    match parts.last() {
+        Some(last) if last.cmp(p).is_lt() => Err(parts.len()),
+        _ => parts.binary_search(p),
     }
 }

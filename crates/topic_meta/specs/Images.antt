@@ -1,4 +1,5 @@
--- What a list of topics must be to make an image, and which image it makes.
+-- What a list of topics must be to make an image, and which image it makes. The limits and the
+-- order of the faults are ours.
 use Rattle.std.specs.Prelude.{ℕ, ℤ, pos, negsuc, Bool, not, ◌&&◌, ◌||◌, List, [], ◌∷◌, ◌++◌, map, length, sum_by, nat_lt, nat_le, bytes_eq, if◌then◌else◌, string_bytes, Option, Some, None}
 use Rattle.std.specs.FinMap as finite
 use Rattle.std.specs.Option.{option_or}

@@ -1,6 +1,6 @@
 //! An image of the cluster's topics.
 
-ghost use Rattle.std.specs.Prelude.{◌≡◌, ◌⊎◌, ◌≤◌, ◌↔◌, length, option_map, pos, Some, None, IfOk, IfErr, IsTrue};
+ghost use Rattle.std.specs.Prelude.{◌≡◌, ◌⊎◌, ◌≤◌, ◌↔◌, length, option_map, pos, Some, None, IfOk, IfErr, IsTrue, true};
 ghost use Rattle.std.specs.FinMap as finite;
 ghost use Rattle.group_types.specs.Topics.{view_of};
 ghost use Rattle.topic_meta.specs.Images.{topics_of, entries_of, first_fault, is_too_many, partitions_in};
@@ -53,12 +53,13 @@ impl Image {
     ///
     /// More topics or partitions than the limits allow come before any other fault. Then the topics are looked at in
     /// their order, each for its count, its name and its id. The limits are this coordinator's own. Where memory is
-    /// short before a fault is found, the answer is [`ImageFault::NoMemory`].
+    /// short, the answer is [`ImageFault::NoMemory`], in place of the image or of a topic's fault, but not of the limits'.
     pub fn of(alloc: Global, list: Vec<TopicEntry>) -> Result<Image, ImageFault>
         ensures accepted { IfOk result (λ image. (first_fault (entries_of list.items) ≡ None)
             × (image ≡ topics_of (entries_of list.items))) }
         ensures refused { IfErr result (λ fault. (fault ≡ NoMemory)
             ⊎ (first_fault (entries_of list.items) ≡ Some fault)) }
+        ensures past_the_limits { is_too_many (entries_of list.items) ≡ true → result ≡ Err ImageFault.TooMany }
     {
         if is_past_the_limits(&list) {
             return Err(ImageFault::TooMany);

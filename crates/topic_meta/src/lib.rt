@@ -17,6 +17,3 @@ pub use image_fault::ImageFault;
 pub use topic::TopicEntry;
 pub use view::View;
 pub use view_topic::ViewTopic;
-
-#[cfg(test)]
-mod tests;

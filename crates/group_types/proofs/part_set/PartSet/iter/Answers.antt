@@ -7,5 +7,6 @@ use Rattle.group_types.proofs.part_set.PartSet.iter.Goals as goal
 pub returns-clause-rest : goal.returns-clause-rest
 returns-clause-rest c =
     c.iter.ensures.rest
-    ∙ sym (in_order-of_list partition_cmp_total c.self.inside.parts.keys c.iter.ensures.ordered)
+    ∙ c.deref.ensures.value
+    ∙ sym (in_order-of_list partition_cmp_total c.self.inside.parts.items c.self.invariant)
     ∙ ap in_order c.self.view_is

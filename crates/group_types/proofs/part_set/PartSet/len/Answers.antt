@@ -6,6 +6,7 @@ use Rattle.group_types.proofs.part_set.PartSet.len.Goals as goal
 
 pub returns : goal.returns
 returns c =
-    c.len.ensures.len
-    ∙ sym (size-of_list partition_cmp_total c.self.inside.parts.keys c.len.ensures.ordered)
+    c.len.ensures
+    ∙ c.self.inside.parts.ok.0
+    ∙ sym (size-of_list partition_cmp_total c.self.inside.parts.items c.self.invariant)
     ∙ ap size c.self.view_is

@@ -1,4 +1,4 @@
-use Rattle.std.proofs.Common.{◌≡◌, false, length, sym, ap, ◌∙◌, inl, inr}
+use Rattle.std.proofs.Common.{◌≡◌, false, true≢false, length, sym, ap, ◌∙◌, inl, inr}
 use Rattle.std.proofs.lemmas.Result.{err_from_is_err_and}
 use Rattle.std.proofs.lemmas.Iterator.Adapters.{YieldsList-from_vec}
 use Rattle.std.proofs.lemmas.Iterator.Consumers.{YieldsList-end}
@@ -23,6 +23,18 @@ returns-in_err-add-clause-refused c =
       | inl h ↦ inl h
       | inr h ↦ inr (first_fault-of_short (entries_of c.args.list.items) short ∙ reading-fault _ _ _ _ c.loop-entry.draft _ c.in-Some.ensures.steps.0 c.loop-entry.invariant _ h)
     ])
+
+pub returns-in_err-add-clause-past_the_limits : goal.returns-in_err-add-clause-past_the_limits
+returns-in_err-add-clause-past_the_limits c = λ past.
+    let short : is_too_many (entries_of c.args.list.items) ≡ false =
+    ap (λ list. is_too_many (entries_of list)) (sym c.deref.ensures.value) ∙ sym c.is_past_the_limits.ensures ∙ c.if-is_past_the_limits.false in
+    absurd (true≢false (sym past ∙ short))
+
+pub returns-clause-past_the_limits : goal.returns-clause-past_the_limits
+returns-clause-past_the_limits c = λ past.
+    let short : is_too_many (entries_of c.args.list.items) ≡ false =
+    ap (λ list. is_too_many (entries_of list)) (sym c.deref.ensures.value) ∙ sym c.is_past_the_limits.ensures ∙ c.if-is_past_the_limits.false in
+    absurd (true≢false (sym past ∙ short))
 
 pub invariant_of-result : goal.invariant_of-result
 invariant_of-result c =

@@ -3,7 +3,7 @@ use Rattle.group_types.specs.Sets.{with_one}
 use Rattle.group_types.proofs.NameLemmas.{texts_of}
 use Rattle.group_types.proofs.Orders.{text_cmp_total, text_cmp-IsAntisymmetric}
 use Rattle.group_types.proofs.ListSets.{with_all, with_all-union}
-use Rattle.group_types.proofs.name_set.NameSet.add_all.Goals as goal
+use Rattle.group_types.proofs.name_set.NameSet.add_each.Goals as goal
 
 pub loop-name-init : goal.loop-name-init
 loop-name-init c = ap (with_all c.args.self.now) (ap texts_of c.into_iter-name-iterator.ensures.into_iter_gives ∙ c.iter-name-items.ensures.rest)

@@ -1,0 +1,58 @@
+-- What the definitions of the machine come to, whatever the group and the heartbeat.
+use Rattle.std.specs.Prelude.{◌≡◌, ◌≢◌, ℕ, pos, Some, None}
+use Rattle.std.specs.FinMap as finite
+use Rattle.group_types.specs.declared.code.Code.TheVariants.{NoError}
+use Rattle.group_types.specs.declared.epoch.Epoch.TheVariants.{At}
+use Rattle.group_types.specs.declared.stamp.Stamp.{Stamp}
+use Rattle.group_types.specs.Text.{Text}
+use Rattle.group_types.specs.Topics.{Topics}
+use Rattle.group_types.specs.Group.{Record, Group}
+use Rattle.group_types.specs.Leave.{left, gone_away}
+use Rattle.group_types.specs.Tick.{ticked}
+use Rattle.group_types.specs.Commit.{Commit, CommitReply, CommitStep, refusal_of_commit}
+use Rattle.group_types.specs.Sound.{IsSound}
+use Rattle.group_types.specs.Request.{kind_of}
+use Rattle.group_types.specs.Checks.{Verdict, Overtaken, sender_of, verdict_on}
+use Rattle.group_types.specs.HeartbeatStep.{Answer, Replied, Closes, Reply, Arrival, HeartbeatStep}
+
+-- what the checks of a heartbeat come to in a group
+abbrev pub verdict_in : Group → Arrival → Verdict
+verdict_in g a = verdict_on (kind_of a.heartbeat.epoch) (sender_of g.records a.heartbeat) g a.heartbeat a.stamp
+
+-- a connection is closed only where the heartbeat was overtaken, and then nothing has changed
+abbrev pub ClosesOnlyOvertaken : Type 0
+ClosesOnlyOvertaken =
+    (g : Group) (a : Arrival) (new : Group) → HeartbeatStep g a Closes new → (verdict_in g a ≡ Overtaken) × (new ≡ g)
+
+-- a heartbeat that is answered with an error has changed nothing
+abbrev pub RefusalsChangeNothing : Type 0
+RefusalsChangeNothing =
+    (g : Group) (a : Arrival) (reply : Reply) (new : Group)
+    → HeartbeatStep g a (Replied reply) new → reply.code ≢ NoError → new ≡ g
+
+-- whose record a leave or a going away is, and that it is there
+abbrev pub IsMember : Group → Text → Record → Type 0
+IsMember g m r = finite.get g.records m ≡ Some r
+
+-- whoever leaves, for good or for a while, leaves a sound group
+abbrev pub LeavesAreSound : Type 0
+LeavesAreSound =
+    (g : Group) (m : Text) (r : Record) (stamp : Stamp) (moment : ℕ)
+    → IsSound g → IsMember g m r → IsSound (left g m stamp moment) × IsSound (gone_away g m r stamp moment)
+
+-- a tick leaves a sound group, whoever it removes
+abbrev pub TicksAreSound : Type 0
+TicksAreSound = (g : Group) (moment : ℕ) → IsSound g → IsSound (ticked g moment)
+
+-- a commit leaves a sound group, and nothing but the offsets changes
+abbrev pub CommitsAreSound : Type 0
+CommitsAreSound =
+    (g : Group) (c : Commit) (image : Topics) (reply : CommitReply) (new : Group)
+    → CommitStep g c image reply new → IsSound g → IsSound new × (record new { offsets = g.offsets } ≡ g)
+
+-- a commit that is taken at an epoch of 0 or more has its member's epoch
+abbrev pub CommitsAreAtEpoch : Type 0
+CommitsAreAtEpoch =
+    (g : Group) (c : Commit) (epoch : ℕ)
+    → c.epoch ≡ pos epoch → refusal_of_commit g.records c.member c.epoch ≡ None
+    → (r : Record) × IsMember g c.member r × (r.epoch ≡ At epoch)

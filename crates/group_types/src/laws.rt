@@ -1,0 +1,32 @@
+//! Laws of the machine's definitions, proved where nothing runs.
+ghost use Rattle.group_types.specs.Laws.{ClosesOnlyOvertaken, CommitsAreAtEpoch, CommitsAreSound, LeavesAreSound, RefusalsChangeNothing, TicksAreSound};
+
+/// A heartbeat closes its connection only where a later one of its member was accepted before.
+pub fn closes_only_overtaken()
+    ensures { ClosesOnlyOvertaken }
+{}
+
+/// A heartbeat that is refused with an error changes nothing.
+pub fn refusals_change_nothing()
+    ensures { RefusalsChangeNothing }
+{}
+
+/// Whoever leaves, for good or for a while, leaves a sound group.
+pub fn leaves_are_sound()
+    ensures { LeavesAreSound }
+{}
+
+/// A tick leaves a sound group.
+pub fn ticks_are_sound()
+    ensures { TicksAreSound }
+{}
+
+/// A commit leaves a sound group, and changes nothing but the offsets.
+pub fn commits_are_sound()
+    ensures { CommitsAreSound }
+{}
+
+/// A member's commit is taken at its present epoch alone.
+pub fn commits_are_at_epoch()
+    ensures { CommitsAreAtEpoch }
+{}
