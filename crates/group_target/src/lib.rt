@@ -5,8 +5,6 @@
 #![tactic(auto)]
 
 mod target;
-#[cfg(test)]
-mod tests;
 
 pub use range_assign::{Subs, Subscriber};
 pub use target::Target;

@@ -23,14 +23,9 @@ use Rattle.topic_meta.specs.Facts.{AreImageTopics}
 use Rattle.topic_meta.specs.Views.{all_named, named}
 use Rattle.topic_meta.proofs.Places.{get-topic_at, topic_at-ids_apart}
 use Rattle.range_assign.specs.Shares.{AreShares, spread_of}
-use Rattle.range_assign.specs.Turns.{IsGiven, IsInTurn, IsRangeShare, counts_of}
+use Rattle.range_assign.specs.Turns.{IsDealt, IsGiven, IsInTurn, counts_of}
 use Rattle.range_assign.proofs.Spreads.{IsShare-of, get-spread_of, owner_in-has}
 use Rattle.range_assign.proofs.Turns.{before_all, subscribers_of-next, subscribers_of-whole}
-
--- the share of the member at a place
-pub record IsDealt (topics : List ViewTopic) (subs : List Subscriber) (at : ℕ) (share : Text × Partitions) : Type 0 where
-  pub same_id : (m : Subscriber) → slice_get subs at ≡ Some m → share.0 ≡ m.id
-  pub set : IsRangeShare topics subs at share.1
 
 -- what is true of the topics' places and of the shares once the first n members have theirs
 pub record IsDealing (topics : List ViewTopic) (subs : List Subscriber) (n : ℕ) (places : List ℕ) (shares : List (Text × Partitions)) : Type 0 where

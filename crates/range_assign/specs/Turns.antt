@@ -2,6 +2,7 @@
 use Rattle.std.specs.Prelude.{◌≡◌, ◌⊎◌, ◌<◌, ◌≤◌, ◌↔◌, ℕ, pos, List, length, map, take, Some, IsTrue, slice_get, string_bytes}
 use Rattle.group_types.specs.declared.partition.Partition.{Partition}
 use Rattle.group_types.specs.Sets.{has}
+use Rattle.group_types.specs.Text.{Text}
 use Rattle.group_types.specs.Partition.{Partitions}
 use Rattle.group_types.specs.Assignors.{Subscriber, subscribers_of}
 use Rattle.group_types.specs.Owners.{range_place}
@@ -37,3 +38,8 @@ IsGiven topics n subs done m p =
 abbrev pub IsRangeShare : List ViewTopic → List Subscriber → ℕ → Partitions → Type 0
 IsRangeShare topics subs at set =
     (m : Subscriber) → slice_get subs at ≡ Some m → (p : Partition) → IsTrue (has set p) ↔ IsGiven topics (length topics) subs (take at subs) m p
+
+-- the share of the member at a place among the members, under range
+pub record IsDealt (topics : List ViewTopic) (subs : List Subscriber) (at : ℕ) (share : Text × Partitions) : Type 0 where
+  pub same_id : (m : Subscriber) → slice_get subs at ≡ Some m → share.0 ≡ m.id
+  pub set : IsRangeShare topics subs at share.1

@@ -9,8 +9,6 @@ mod laws;
 mod range;
 mod spread;
 mod subs;
-#[cfg(test)]
-mod tests;
 
 pub use assignor::Assignor;
 pub use laws::{range_is_lawful, subscribed_partitions_have_an_owner};

@@ -4,8 +4,10 @@ ghost use Rattle.std.specs.Prelude.{◌≡◌, ◌<◌, ◌≤◌, ◌+◌, ◌^
 ghost use Rattle.group_types.specs.declared.partition.Partition.{Partition as Key};
 ghost use Rattle.group_types.specs.Assignors.{subscribers_of};
 ghost use Rattle.group_types.specs.Owners.{IsLawful, IsRange, range_place};
+ghost use Rattle.group_types.specs.Sets.{of_list};
 ghost use Rattle.range_assign.specs.Members.{subscribers_in};
-ghost use Rattle.range_assign.specs.Turns.{AddsRun, IsRangeShare, counts_of};
+ghost use Rattle.range_assign.specs.Shares.{share_in};
+ghost use Rattle.range_assign.specs.Turns.{AddsRun, IsDealt, IsRangeShare, counts_of};
 
 use crate::assignor::Assignor;
 use crate::spread::{Share, Spread};
@@ -36,10 +38,8 @@ impl Assignor for Range {
         let counts = subscriber_counts(alloc, topics, members)?;
         let mut places = vec![in alloc; 0; topics.len()]?;
         let mut shares = Vec::with_capacity(alloc, members.len())?;
-        for (at, member) in members.iter().enumerate() {
-            let set = take_turns(alloc, members, at, topics, &counts, &mut places)?;
-            let id = member.id.copy(alloc)?;
-            shares.push(Share { id, set })?;
+        for at in 0..members.len() {
+            shares.push(share_for(alloc, members, at, topics, &counts, &mut places)?)?;
         }
         Ok(Spread::of(shares))
     }
@@ -69,6 +69,28 @@ fn count_subscribers(members: &[Subscriber<'_>], name: &str) -> usize
         .count()
 }
 
+/// The share of the member at a place among the members. The topics' places go on as in [`take_turns`].
+fn share_for(
+    alloc: Global,
+    members: &[Subscriber<'_>],
+    at: usize,
+    topics: &[ViewTopic],
+    counts: &[usize],
+    places: &mut [usize],
+) -> Result<Share, AllocError>
+    requires within { at < length members.now }
+    requires few { All (λ t. t.count ≤ 2 ^ 31) topics.now }
+    requires counted { counts.now ≡ counts_of topics.now (subscribers_in members.now) }
+    requires placed { places.old ≡ counts_of topics.now (take at (subscribers_in members.now)) }
+    ensures moved { OnOk result (places.new ≡ counts_of topics.now (take (at + 1) (subscribers_in members.now))) }
+    ensures share { IfOk result (λ share. IsDealt topics.now (subscribers_in members.now) at (share_in share)) }
+{
+    let member = &members[at];
+    let set = take_turns(alloc, members, at, topics, counts, places)?;
+    let id = member.id.copy(alloc)?;
+    Ok(Share { id, set })
+}
+
 /// The partitions of the member at a place among the members. The topics' places are those of the next subscribers, and
 /// go on past this member where it subscribes.
 fn take_turns(
@@ -87,15 +109,15 @@ fn take_turns(
     ensures share { IfOk result (IsRangeShare topics.now (subscribers_in members.now) at) }
 {
     let member = &members[at];
-    let mut set = PartSet::new(alloc);
+    let mut parts = Vec::new(alloc);
     for (t, topic) in topics.iter().enumerate() {
         if member.names.contains(topic.name.as_str()) {
             let (first, end) = run_of(topic.count as usize, counts[t], places[t]);
-            add_run(&mut set, topic.id, first, end)?;
+            add_run(&mut parts, topic.id, first, end)?;
             places[t] += 1;
         }
     }
-    Ok(set)
+    Ok(PartSet::of_vec(parts))
 }
 
 /// The indexes of the subscriber at a place: the first, and one past the last.
@@ -116,13 +138,18 @@ pub(crate) fn run_of(count: usize, subscribers: usize, place: usize) -> (usize, 
 
 /// Adds the partitions of a topic with the indexes from the first to before the end. Where memory is short, some of
 /// them may be in already.
-fn add_run(set: &mut PartSet, topic: Uuid, first: usize, end: usize) -> Result<(), AllocError>
+fn add_run(
+    parts: &mut Vec<Partition>,
+    topic: Uuid,
+    first: usize,
+    end: usize,
+) -> Result<(), AllocError>
     requires rise { first ≤ end }
     requires few { end ≤ 2 ^ 31 }
-    ensures { OnOk result (AddsRun set.old set.new topic first end) }
+    ensures { OnOk result (AddsRun (of_list parts.old.items) (of_list parts.new.items) topic first end) }
 {
     for index in first..end {
-        set.insert(Partition {
+        parts.push(Partition {
             topic,
             index: index as i32,
         })?;

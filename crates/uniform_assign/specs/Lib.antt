@@ -3,3 +3,4 @@ pub mod Boards
 pub mod Drafts
 pub mod Former
 pub mod Moves
+pub mod Hands

@@ -11,8 +11,6 @@ mod keep;
 mod laws;
 mod level;
 mod shares;
-#[cfg(test)]
-mod tests;
 mod uniform;
 
 pub use laws::{

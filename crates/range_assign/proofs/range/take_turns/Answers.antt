@@ -3,17 +3,19 @@ use Rattle.std.specs.List.{slice_get}
 use Rattle.std.specs.Option.{option_map}
 use Rattle.std.proofs.lemmas.List.{length-map}
 use Rattle.std.proofs.lemmas.Option.{slice_get-map, slice_get_read}
-use Rattle.group_types.specs.Sets.{has}
+use Rattle.std.specs.Global.{Vec}
+use Rattle.group_types.specs.declared.partition.Partition.{Partition}
+use Rattle.group_types.specs.Sets.{has, of_list}
 use Rattle.group_types.specs.Assignors.{subscribers_of}
 use Rattle.group_types.specs.Owners.{range_place}
 use Rattle.range_assign.specs.Members.{subscriber_of, subscribers_in}
-use Rattle.range_assign.specs.Turns.{counts_of}
+use Rattle.range_assign.specs.Turns.{IsRangeShare, counts_of}
 use Rattle.range_assign.proofs.Turns.{IsTurning, IsTurning-none, IsTurning-skip, IsTurning-take, IsTurning-moved, IsTurning-share, place-below}
 use Rattle.range_assign.proofs.range.take_turns.Goals as goal
 use Rattle.range_assign.proofs.range.take_turns.Goals.{then-contains+in_ok-add_run, else-contains}
 
 pub loop-t-init : goal.loop-t-init
-loop-t-init c = IsTurning-none c.args.topics.now (subscribers_in c.args.members.now) c.args.at (subscriber_of c.index-members-at.result) c.args.places.now c.new-set.result c.requires.placed c.new-set.ensures
+loop-t-init c = IsTurning-none c.args.topics.now (subscribers_in c.args.members.now) c.args.at (subscriber_of c.index-members-at.result) c.args.places.now (of_list c.new-parts.result.items) c.requires.placed (ap of_list c.new-parts.ensures.items)
 
 pub run_of-first-requires : goal.run_of-first-requires
 run_of-first-requires c =
@@ -25,7 +27,7 @@ run_of-first-requires c =
     let is : slice_get c.args.topics.now c.loop-t.t ≡ Some topic = slice_get_read c.args.topics.now _ c.loop-t.t topic refl c.loop-t-test.true c.index-topics-t.is in
     let there : has m.names (string_bytes topic.name) ≡ true = ap (has m.names) (sym c.as_str.ensures.value) ∙ sym c.contains.ensures ∙ c.if-contains.true in
     let counted = ap (λ list. get_or list c.loop-t.t 0) c.requires.counted in
-    let below = place-below c.args.topics.now subs c.args.at m c.loop-t.t c.loop-t.places c.loop-t.set topic here is c.loop-t.invariant there in
+    let below = place-below c.args.topics.now subs c.args.at m c.loop-t.t c.loop-t.places (of_list c.loop-t.parts.items) topic here is c.loop-t.invariant there in
     omega arith
 
 pub overflow_add-places : goal.overflow_add-places
@@ -38,7 +40,7 @@ overflow_add-places c =
     let is : slice_get c.args.topics.now c.loop-t.t ≡ Some topic = slice_get_read c.args.topics.now _ c.loop-t.t topic refl c.loop-t-test.true c.index-topics-t.is in
     let there : has m.names (string_bytes topic.name) ≡ true = ap (has m.names) (sym c.as_str.ensures.value) ∙ sym c.contains.ensures ∙ c.if-contains.true in
     let counted = ap (λ list. get_or list c.loop-t.t 0) c.requires.counted in
-    let below = place-below c.args.topics.now subs c.args.at m c.loop-t.t c.loop-t.places c.loop-t.set topic here is c.loop-t.invariant there in
+    let below = place-below c.args.topics.now subs c.args.at m c.loop-t.t c.loop-t.places (of_list c.loop-t.parts.items) topic here is c.loop-t.invariant there in
     let fits = c.type_inv.counts c.loop-t.t in
     omega arith
 
@@ -56,23 +58,23 @@ loop-t-preserved c =
       | then-contains+in_ok-add_run w ↦
           let long : c.loop-t.t < length c.loop-t.places =
           let all = ap length c.requires.placed ∙ length-map c.args.topics.now (λ t. length (subscribers_of (take c.args.at subs) (string_bytes t.name))) in omega arith in
-          let taken = IsTurning-take c.args.topics.now subs c.args.at m c.loop-t.t c.loop-t.places c.loop-t.set topic here is c.loop-t.invariant
-          w.add_run.new.set w.run_of-first.result.0 w.run_of-first.result.1 long (asked ∙ w.if-contains.true) w.run_of-first.ensures.within.1
+          let taken = IsTurning-take c.args.topics.now subs c.args.at m c.loop-t.t c.loop-t.places (of_list c.loop-t.parts.items) topic here is c.loop-t.invariant
+          (of_list w.add_run.new.parts.items) w.run_of-first.result.0 w.run_of-first.result.1 long (asked ∙ w.if-contains.true) w.run_of-first.ensures.within.1
           (subst (λ k. (i : ℕ) → i < topic.count → ((w.run_of-first.result.0 ≤ i) × (i < w.run_of-first.result.1)) ↔ (range_place topic.count k i ≡ get_or c.loop-t.places c.loop-t.t 0)) counted w.run_of-first.ensures.run)
           w.in_ok-add_run.ensures in
-          subst (λ set. IsTurning c.args.topics.now subs c.args.at m (c.loop-t.t + 1) c.if-contains.places set) (sym w.set-is)
-          (subst (λ places. IsTurning c.args.topics.now subs c.args.at m (c.loop-t.t + 1) places w.add_run.new.set) (sym w.places-is) taken)
+          subst (λ set. IsTurning c.args.topics.now subs c.args.at m (c.loop-t.t + 1) c.if-contains.places set) (ap (λ (v : Vec Partition). of_list v.items) (sym w.parts-is))
+          (subst (λ places. IsTurning c.args.topics.now subs c.args.at m (c.loop-t.t + 1) places (of_list w.add_run.new.parts.items)) (sym w.places-is) taken)
       | else-contains w ↦
-          let skipped = IsTurning-skip c.args.topics.now subs c.args.at m c.loop-t.t c.loop-t.places c.loop-t.set topic here is c.loop-t.invariant (asked ∙ w.if-contains.false) in
-          subst (λ set. IsTurning c.args.topics.now subs c.args.at m (c.loop-t.t + 1) c.if-contains.places set) (sym w.set-is)
-          (subst (λ places. IsTurning c.args.topics.now subs c.args.at m (c.loop-t.t + 1) places c.loop-t.set) (sym w.places-is) skipped)
+          let skipped = IsTurning-skip c.args.topics.now subs c.args.at m c.loop-t.t c.loop-t.places (of_list c.loop-t.parts.items) topic here is c.loop-t.invariant (asked ∙ w.if-contains.false) in
+          subst (λ set. IsTurning c.args.topics.now subs c.args.at m (c.loop-t.t + 1) c.if-contains.places set) (ap (λ (v : Vec Partition). of_list v.items) (sym w.parts-is))
+          (subst (λ places. IsTurning c.args.topics.now subs c.args.at m (c.loop-t.t + 1) places (of_list c.loop-t.parts.items)) (sym w.places-is) skipped)
     ]
 
 pub returns-clause-moved : goal.returns-clause-moved
 returns-clause-moved c =
     let subs = subscribers_in c.args.members.now in
     let all = ap length c.requires.placed ∙ length-map c.args.topics.now (λ t. length (subscribers_of (take c.args.at subs) (string_bytes t.name))) in
-    IsTurning-moved c.args.topics.now subs c.args.at (subscriber_of c.index-members-at.result) c.loop-t.t c.loop-t.places c.loop-t.set (omega arith) (omega arith) c.loop-t.invariant
+    IsTurning-moved c.args.topics.now subs c.args.at (subscriber_of c.index-members-at.result) c.loop-t.t c.loop-t.places (of_list c.loop-t.parts.items) (omega arith) (omega arith) c.loop-t.invariant
 
 pub returns-clause-share : goal.returns-clause-share
 returns-clause-share c =
@@ -80,4 +82,5 @@ returns-clause-share c =
     let m = subscriber_of c.index-members-at.result in
     let here : slice_get subs c.args.at ≡ Some m =
     slice_get-map subscriber_of c.args.members.now c.args.at ∙ ap (option_map subscriber_of) (slice_get_read c.args.members.now _ c.args.at c.index-members-at.result refl c.requires.within c.index-members-at.is) in
-    IsTurning-share c.args.topics.now subs c.args.at m c.loop-t.t c.loop-t.places c.loop-t.set here (omega arith) c.loop-t.invariant
+    subst (IsRangeShare c.args.topics.now subs c.args.at) (sym c.of_vec.ensures)
+    (IsTurning-share c.args.topics.now subs c.args.at m c.loop-t.t c.loop-t.places (of_list c.loop-t.parts.items) here (omega arith) c.loop-t.invariant)

@@ -1,17 +1,17 @@
 use Rattle.std.proofs.Common.{◌++◌, ◌∷◌, [], ◌≡◌, map, take, arith, sym, ap, ◌∙◌, refl, Some, length}
 use Rattle.group_types.specs.Assignors.{Subscriber}
-use Rattle.group_types.specs.Sets.{nothing}
+use Rattle.group_types.specs.Sets.{nothing, of_list}
 use Rattle.range_assign.specs.Members.{subscriber_of, subscribers_in}
-use Rattle.range_assign.specs.Shares.{share_in, shares_in}
 use Rattle.std.proofs.lemmas.List.{length-map, map-append, take_all}
 use Rattle.std.specs.List.{slice_get}
 use Rattle.std.specs.Option.{option_map}
 use Rattle.std.proofs.lemmas.Option.{slice_get-map, slice_get_read}
+use Rattle.uniform_assign.specs.Hands.{hand_in, hands_in}
 use Rattle.uniform_assign.proofs.Made.{take-next}
 use Rattle.uniform_assign.proofs.shares.no_partitions.Goals as goal
 
 pub loop-member-init : goal.loop-member-init
-loop-member-init c = ap shares_in c.in_ok-shares.ensures.items
+loop-member-init c = ap hands_in c.in_ok-hands.ensures.items
 
 pub loop-member-preserved : goal.loop-member-preserved
 loop-member-preserved c =
@@ -20,10 +20,10 @@ loop-member-preserved c =
     let m = c.member-item.result in
     let here : slice_get (subscribers_in members) n ≡ Some (subscriber_of m) =
     slice_get-map subscriber_of members n ∙ ap (option_map subscriber_of) (slice_get_read members (length members) n m refl c.loop-member-test.true c.member-item.is) in
-    let pushed : shares_in c.push.new.self.items ≡ shares_in c.loop-member.shares.items ++ (c.in_ok-copy.field-0, c.new.result) ∷ [] =
-    ap shares_in c.in_ok-push.ensures.items ∙ map-append share_in c.loop-member.shares.items _ in
+    let pushed : hands_in c.push.new.self.items ≡ hands_in c.loop-member.hands.items ++ (c.in_ok-copy.field-0, of_list c.new.result.items) ∷ [] =
+    ap hands_in c.in_ok-push.ensures.items ∙ map-append hand_in c.loop-member.hands.items _ in
     pushed
-    ∙ (λ i. c.loop-member.invariant i ++ (c.in_ok-copy.ensures i, c.new.ensures i) ∷ [])
+    ∙ (λ i. c.loop-member.invariant i ++ (c.in_ok-copy.ensures i, of_list (c.new.ensures.items i)) ∷ [])
     ∙ sym (ap (map (λ (s : Subscriber). (s.id, nothing))) (take-next (subscribers_in members) n (subscriber_of m) here) ∙ map-append (λ (s : Subscriber). (s.id, nothing)) (take n (subscribers_in members)) (subscriber_of m ∷ []))
 
 pub returns : goal.returns

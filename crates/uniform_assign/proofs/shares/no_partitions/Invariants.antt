@@ -1,8 +1,8 @@
 use Rattle.std.proofs.Common.{◌≡◌, map, take}
 use Rattle.group_types.specs.Sets.{nothing}
 use Rattle.range_assign.specs.Members.{subscribers_in}
-use Rattle.range_assign.specs.Shares.{shares_in}
+use Rattle.uniform_assign.specs.Hands.{hands_in}
 use Rattle.uniform_assign.proofs.shares.no_partitions.Given as goal
 
 abbrev pub invariant-loop-member : goal.invariant-loop-member
-invariant-loop-member l = shares_in l.shares.items ≡ map (λ m. (m.id, nothing)) (take l.member-index (subscribers_in l.members))
+invariant-loop-member l = hands_in l.hands.items ≡ map (λ m. (m.id, nothing)) (take l.member-index (subscribers_in l.members))

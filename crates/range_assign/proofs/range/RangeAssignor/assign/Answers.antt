@@ -1,8 +1,5 @@
-use Rattle.std.proofs.Common.{◌≡◌, ◌+◌, ◌∷◌, [], ◌++◌, length, take, drop, refl, sym, ap, ◌∙◌, subst, arith, Some, string_bytes}
-use Rattle.std.specs.List.{slice_get}
-use Rattle.std.specs.Option.{option_map}
+use Rattle.std.proofs.Common.{◌≡◌, ◌+◌, ◌∷◌, [], ◌++◌, length, take, drop, sym, ap, ◌∙◌, subst, arith, string_bytes}
 use Rattle.std.proofs.lemmas.List.{length-map, map-append}
-use Rattle.std.proofs.lemmas.Option.{same_Some, slice_get-map, slice_get_read}
 use Rattle.group_types.specs.Text.{Text}
 use Rattle.group_types.specs.Partition.{Partitions}
 use Rattle.group_types.specs.Assignors.{IdsAreApart, subscribers_of}
@@ -11,7 +8,7 @@ use Rattle.topic_meta.proofs.Places.{topic_at-count}
 use Rattle.range_assign.specs.Members.{subscriber_of, subscribers_in}
 use Rattle.range_assign.specs.Shares.{share_in, shares_in, spread_of}
 use Rattle.range_assign.specs.Turns.{counts_of}
-use Rattle.range_assign.proofs.Dealt.{IsDealing, IsDealing-more, IsDealing-none, IsDealt, dealt-AreShares, dealt-IsRange, written_over}
+use Rattle.range_assign.proofs.Dealt.{IsDealing, IsDealing-more, IsDealing-none, dealt-AreShares, dealt-IsRange, written_over}
 use Rattle.range_assign.proofs.Lawful.{range_is_lawful}
 use Rattle.range_assign.proofs.range.RangeAssignor.assign.Goals as goal
 
@@ -20,8 +17,8 @@ loop-at-init c =
     IsDealing-none c.topics-topics.result.now (subscribers_in c.members-members.result.now) c.in_ok-places.places.items (shares_in c.in_ok-shares.shares.items)
     (c.in_ok-places.ensures.items_if_clones_equal (λ y same. same)) (ap shares_in c.in_ok-shares.ensures.items)
 
-pub take_turns-requires-clause-few : goal.take_turns-requires-clause-few
-take_turns-requires-clause-few c = λ k d within.
+pub share_for-requires-clause-few : goal.share_for-requires-clause-few
+share_for-requires-clause-few c = λ k d within.
     let count = (topic_at-count c.args.view.now c.topics-topics.result.now c.topics-topics.ensures.all c.topics-topics.ensures.sound k d within).1 in
     omega arith
 
@@ -30,22 +27,15 @@ loop-at-preserved c =
     let topics = c.topics-topics.result.now in
     let members = c.members-members.result.now in
     let subs = subscribers_in members in
-    let m = subscriber_of c.index-members-at.result in
-    let here : slice_get subs c.loop-at.at ≡ Some m =
-    slice_get-map subscriber_of members c.loop-at.at ∙ ap (option_map subscriber_of) (slice_get_read members _ c.loop-at.at c.index-members-at.result refl c.loop-at-test.true c.index-members-at.is) in
-    let moved : c.take_turns.new.places ≡ counts_of topics (take (c.loop-at.at + 1) subs) = c.in_ok-set.ensures.moved in
-    let written : take c.loop-at.places.len (c.take_turns.new.places ++ drop (length c.take_turns.new.places) c.loop-at.places.items) ≡ c.take_turns.new.places =
-    written_over c.loop-at.places.len c.take_turns.new.places c.loop-at.places.items c.loop-at.places.ok.0
+    let moved : c.share_for.new.places ≡ counts_of topics (take (c.loop-at.at + 1) subs) = c.in_ok-share_for.ensures.moved in
+    let written : take c.loop-at.places.len (c.share_for.new.places ++ drop (length c.share_for.new.places) c.loop-at.places.items) ≡ c.share_for.new.places =
+    written_over c.loop-at.places.len c.share_for.new.places c.loop-at.places.items c.loop-at.places.ok.0
     (ap length moved ∙ length-map topics (λ t. length (subscribers_of (take (c.loop-at.at + 1) subs) (string_bytes t.name)))
     ∙ sym (ap length c.loop-at.invariant.placed ∙ length-map topics (λ t. length (subscribers_of (take c.loop-at.at subs) (string_bytes t.name))))) in
-    let share : Text × Partitions = (c.in_ok-id.id, c.in_ok-set.set) in
+    let share : Text × Partitions = share_in c.in_ok-share_for.field-0 in
     let pushed : shares_in c.push.new.self.items ≡ shares_in c.loop-at.shares.items ++ share ∷ [] = ap shares_in c.in_ok-push.ensures.items ∙ map-append share_in c.loop-at.shares.items _ in
-    let dealt : IsDealt topics subs c.loop-at.at share = record {
-      same_id = λ n there. c.in_ok-id.ensures ∙ ap (λ s. s.id) (same_Some m n (sym here ∙ there));
-      set = c.in_ok-set.ensures.share;
-    } in
-    subst (IsDealing topics subs (c.loop-at.at + 1) (take c.loop-at.places.len (c.take_turns.new.places ++ drop (length c.take_turns.new.places) c.loop-at.places.items))) (sym pushed)
-    (IsDealing-more topics subs c.loop-at.at c.loop-at.places.items _ (shares_in c.loop-at.shares.items) share c.loop-at.invariant (written ∙ moved) dealt)
+    subst (IsDealing topics subs (c.loop-at.at + 1) (take c.loop-at.places.len (c.share_for.new.places ++ drop (length c.share_for.new.places) c.loop-at.places.items))) (sym pushed)
+    (IsDealing-more topics subs c.loop-at.at c.loop-at.places.items _ (shares_in c.loop-at.shares.items) share c.loop-at.invariant (written ∙ moved) c.in_ok-share_for.ensures.share)
 
 pub of-requires : goal.of-requires
 of-requires c =

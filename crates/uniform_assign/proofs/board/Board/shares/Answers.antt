@@ -3,23 +3,28 @@ use Rattle.std.specs.List.{slice_get}
 use Rattle.std.specs.Global.{Vec as HeapVec}
 use Rattle.std.specs.Option.{option_map}
 use Rattle.std.proofs.lemmas.List.{length-map, map-set}
+use Rattle.std.proofs.lemmas.Result.{IfOk-weaker}
 use Rattle.std.proofs.lemmas.Option.{slice_get-map, slice_get_read}
 use Rattle.group_types.specs.declared.partition.Partition.{Partition}
 use Rattle.group_types.specs.Assignors.{Subscriber}
-use Rattle.group_types.specs.Sets.{nothing, with_one}
+use Rattle.group_types.specs.Sets.{nothing, of_list, with_one}
+use Rattle.group_types.proofs.Orders.{partition_cmp_total, partition_cmp-IsAntisymmetric}
+use Rattle.group_types.proofs.RisingLists.{of_list-push}
 use Rattle.group_types.specs.Text.{Text}
 use Rattle.group_types.specs.Uniform.{in_partition_order}
-use Rattle.range_assign.specs.declared.spread.Share.{Share}
-use Rattle.range_assign.specs.Shares.{share_in, shares_in}
+use Rattle.range_assign.specs.Shares.{AreShares, shares_in, spread_of}
+use Rattle.uniform_assign.specs.declared.shares.Hand.{Hand}
+use Rattle.uniform_assign.specs.Drafts.{drawn_on}
+use Rattle.uniform_assign.specs.Hands.{hand_in, hands_in}
 use Rattle.uniform_assign.proofs.Boards.{as_many_places, at_place, parts_are_apart, place_here}
 use Rattle.uniform_assign.proofs.Dealt.{AreDealtTo, AreDealtTo-none, AreDealtTo-skip, AreDealtTo-take, AreShares-dealt, spread_of-dealt}
 use Rattle.uniform_assign.proofs.board.Board.shares.Goals as goal
-use Rattle.uniform_assign.proofs.board.Board.shares.Goals.{in-Some+in_ok-insert, in_default}
+use Rattle.uniform_assign.proofs.board.Board.shares.Goals.{in-Some+in_ok-push, in_default}
 
 pub loop-at-init : goal.loop-at-init
 loop-at-init c =
-    AreDealtTo-none (in_partition_order c.args.self.now.view.now) c.args.self.now.subs.now c.args.draft.now.owners.items (shares_in c.in_ok-shares.shares.items)
-    (c.in_ok-shares.ensures ∙ ap (map (λ (m : Subscriber). (m.id, nothing))) c.members.ensures.all)
+    AreDealtTo-none (in_partition_order c.args.self.now.view.now) c.args.self.now.subs.now c.args.draft.now.owners.items (hands_in c.in_ok-hands.hands.items)
+    (c.in_ok-hands.ensures ∙ ap (map (λ (m : Subscriber). (m.id, nothing))) c.members.ensures.all)
 
 pub loop-at-preserved : goal.loop-at-preserved
 loop-at-preserved c =
@@ -34,25 +39,25 @@ loop-at-preserved c =
     let within : n < length owners = let places = ap length c.deref-place-items.ensures.value in let many = c.requires.draft.as_many_owners in omega arith in
     let owner : slice_get owners n ≡ Some c.index.result.now = slice_get_read owners (length owners) n c.index.result.now refl within c.index.ensures in
     let x : Text × Partition = (at.topic.0, place.partition) in
-    let shares = c.loop-at.shares.items in
+    let shares = c.loop-at.hands.items in
     elim c.match-index.branch [
-      | in-Some+in_ok-insert w ↦
+      | in-Some+in_ok-push w ↦
           let m = w.in-Some.owner in
-          let old : Share = w.index_mut.result.now in
-          let new : Share = record { id = old.id; set = w.insert.new.self } in
+          let old : Hand = w.index_mut.result.now in
+          let new : Hand = record { id = old.id; parts = w.push.new.self } in
           let is_owner = owner ∙ ap Some w.in-Some.is in
           let in_counts = c.requires.draft.counts.within n m is_owner in
           let many = c.requires.draft.as_many_counts in
           let as_many = c.loop-at.invariant.as_many in
-          let long = length-map shares share_in in
+          let long = length-map shares hand_in in
           let in_shares : m < length shares = omega arith in
-          let there = slice_get-map share_in shares m ∙ ap (option_map share_in) (slice_get_read shares (length shares) m old refl in_shares w.index_mut.ensures.value) in
-          let made : shares_in c.match-index.shares.items ≡ slice_set (shares_in shares) m (old.id, with_one old.set place.partition) =
-          ap (λ (v : HeapVec Share). shares_in v.items) w.shares-is ∙ map-set share_in shares m new ∙ ap (λ set. slice_set (shares_in shares) m (old.id, set)) w.in_ok-insert.ensures.added in
-          subst (AreDealtTo parts subs owners (n + 1)) (sym made) (AreDealtTo-take parts subs owners n m x (shares_in shares) old.id old.set at.is_part is_owner there c.loop-at.invariant)
+          let there = slice_get-map hand_in shares m ∙ ap (option_map hand_in) (slice_get_read shares (length shares) m old refl in_shares w.index_mut.ensures.value) in
+          let made : hands_in c.match-index.hands.items ≡ slice_set (hands_in shares) m (old.id, with_one (of_list old.parts.items) place.partition) =
+          ap (λ (v : HeapVec Hand). hands_in v.items) w.hands-is ∙ map-set hand_in shares m new ∙ ap (λ set. slice_set (hands_in shares) m (old.id, set)) (ap of_list w.in_ok-push.ensures.items ∙ of_list-push partition_cmp_total partition_cmp-IsAntisymmetric old.parts.items place.partition) in
+          subst (AreDealtTo parts subs owners (n + 1)) (sym made) (AreDealtTo-take parts subs owners n m x (hands_in shares) old.id (of_list old.parts.items) at.is_part is_owner there c.loop-at.invariant)
       | in_default w ↦
-          subst (λ (v : HeapVec Share). AreDealtTo parts subs owners (n + 1) (shares_in v.items)) (sym w.shares-is)
-          (AreDealtTo-skip parts subs owners n x (shares_in shares) at.is_part (owner ∙ ap Some w.in_default.is) c.loop-at.invariant)
+          subst (λ (v : HeapVec Hand). AreDealtTo parts subs owners (n + 1) (hands_in v.items)) (sym w.hands-is)
+          (AreDealtTo-skip parts subs owners n x (hands_in shares) at.is_part (owner ∙ ap Some w.in_default.is) c.loop-at.invariant)
     ]
 
 pub returns : goal.returns
@@ -60,11 +65,14 @@ returns c =
     let board = c.args.self.now in
     let parts = in_partition_order board.view.now in
     let owners = c.args.draft.now.owners.items in
+    let hands = hands_in c.loop-at.hands.items in
     let apart = parts_are_apart board c.requires.board in
     let places = ap length c.deref-place-items.ensures.value in
     let many = as_many_places board c.requires.board in
     let last = c.loop-at-test.false in
+    let dealt = AreShares-dealt parts board.subs.now owners apart c.requires.board.apart c.loop-at.at hands c.loop-at.invariant in
+    let drawn = spread_of-dealt parts board.subs.now owners apart c.requires.board.apart c.loop-at.at hands c.loop-at.invariant (omega arith) in
     record {
-      shares = AreShares-dealt parts board.subs.now owners apart c.requires.board.apart c.loop-at.at (shares_in c.loop-at.shares.items) c.loop-at.invariant;
-      drawn = spread_of-dealt parts board.subs.now owners apart c.requires.board.apart c.loop-at.at (shares_in c.loop-at.shares.items) c.loop-at.invariant (omega arith);
+      shares = IfOk-weaker c.shares_of.result (λ s. shares_in s.items ≡ hands) (λ s. AreShares (shares_in s.items)) (λ s is. subst AreShares (sym is) dealt) c.shares_of.ensures;
+      drawn = IfOk-weaker c.shares_of.result (λ s. shares_in s.items ≡ hands) (λ s. spread_of (shares_in s.items) ≡ drawn_on board owners) (λ s is. ap spread_of is ∙ drawn) c.shares_of.ensures;
     }

@@ -1,0 +1,13 @@
+-- What the members' hands show while the partitions are dealt.
+use Rattle.std.specs.Prelude.{List, map}
+use Rattle.group_types.specs.Partition.{Partitions}
+use Rattle.group_types.specs.Sets.{of_list}
+use Rattle.group_types.specs.Text.{Text}
+use Rattle.uniform_assign.specs.declared.shares.Hand.{Hand}
+
+-- a hand as the member's id and its partitions
+abbrev pub hand_in : Hand → Text × Partitions
+hand_in h = (h.id, of_list h.parts.items)
+
+abbrev pub hands_in : List Hand → List (Text × Partitions)
+hands_in hs = map hand_in hs
