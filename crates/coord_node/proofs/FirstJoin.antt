@@ -3,15 +3,16 @@ use Rattle.std.proofs.Common.{◌≡◌, ◌≢◌, ℕ, ℤ, Bool, true, false,
 use Rattle.kip_msgs.specs.Values.{RequestValue, HeartbeatRequestValue, RequestHeaderValue, heartbeat_request}
 use Rattle.kip_msgs.specs.Laws.{OneRequestABody}
 use Rattle.group_types.specs.declared.stamp.Stamp.{Stamp}
-use Rattle.group_types.specs.Request.{Heartbeat}
+use Rattle.group_types.specs.Checks.{Verdict, Accepted, Refused, Overtaken}
+use Rattle.group_types.specs.HeartbeatStep.{Arrival}
 use Rattle.group_types.specs.Group.{Group, new_group}
 use Rattle.group_types.specs.HeartbeatStep as group
 use Rattle.group_types.specs.Topics.{Topics, Names}
 use Rattle.group_core.specs.Checks.{MakesMember}
 use Rattle.group_core.specs.Laws.{IsAnsweredBy, FirstJoinsAreAnswered}
-use Rattle.group_core.specs.Request.{heartbeat_of}
+use Rattle.group_core.specs.Request.{arrival_of}
 use Rattle.coord_node.specs.Coordinator.{Coordinator, Answer, Replied, Closes, Done}
-use Rattle.coord_node.specs.Steps.{is_success, has_room, Makes, MakesBy, HeartbeatAt, Sends, RequestStep}
+use Rattle.coord_node.specs.Steps.{is_success, has_room, Makes, MakesBy, HeartbeatAt, Sends, message_of, RequestStep}
 use Rattle.coord_node.specs.Laws.{IsFirstJoin, AnswersFirstJoins}
 
 -- an answer that replies
@@ -23,15 +24,14 @@ replied : (a : group.Answer) (r : group.Reply) → a ≡ group.Replied r → Rep
 replied a r is = subst Replies (sym is) tt
 
 -- the first heartbeat of a new group is answered, as its checks say
-by_verdict : (verdict : group.Verdict) (salt epoch : ℕ) (image : Topics) (names : Names) (a : group.Answer) (n : Group) → IsAnsweredBy verdict salt epoch image names a n → Replies a
-by_verdict group.Accepted salt epoch image names a n is = replied a _ is.2
-by_verdict (group.Refused code) salt epoch image names a n is = replied a _ is.0
-by_verdict group.Overtaken salt epoch image names a n is = absurd is
+by_verdict : (verdict : Verdict) (salt epoch : ℕ) (image : Topics) (names : Names) (a : group.Answer) (n : Group) → IsAnsweredBy verdict salt epoch image names a n → Replies a
+by_verdict Accepted salt epoch image names a n is = replied a _ is.2
+by_verdict (Refused code) salt epoch image names a n is = replied a _ is.0
+by_verdict Overtaken salt epoch image names a n is = absurd is
 
-step_replies : FirstJoinsAreAnswered → (salt : ℕ) (q : Heartbeat) (stamp : Stamp) (moment : ℕ) (image : Topics) (a : group.Answer) (n : Group)
-    → MakesMember q → group.HeartbeatStep (new_group salt) q stamp moment image a n → Replies a
-step_replies answered salt q stamp moment image a n makes step =
-    by_verdict _ salt 0 image _ a n (answered salt 0 q stamp moment image a n makes step)
+step_replies : FirstJoinsAreAnswered → (salt : ℕ) (h : Arrival) (a : group.Answer) (n : Group)
+    → MakesMember h.heartbeat → group.HeartbeatStep (new_group salt) h a n → Replies a
+step_replies answered salt h a n makes step = by_verdict _ salt 0 h.image _ a n (answered salt 0 h a n makes step)
 
 made : (success room : Bool) (c : Coordinator) (name : List ℕ) (g : Group) (r : group.Reply) (a : group.Answer) (n : Coordinator)
     → Makes success room c name g r a n → Replies a
@@ -45,7 +45,7 @@ made_by (group.Replied r) c name g a n replies step = made (is_success r.code) (
 made_by group.Closes c name g a n replies step = absurd replies
 
 -- a reply is sent as bytes
-sent : (correlation : ℤ) (given : group.Answer) (answer : Answer) → Replies given → Sends correlation given answer → answer ≢ Closes
+sent : (correlation : ℤ) (given : group.Answer) (answer : Answer) → Replies given → Sends (message_of correlation given) answer → answer ≢ Closes
 sent correlation (group.Replied r) (Replied bytes) replies sends = λ is. cc
 sent correlation (group.Replied r) Closes replies sends = absurd sends
 sent correlation (group.Replied r) (Done k) replies sends = absurd sends
@@ -55,12 +55,12 @@ module _ (one_request : OneRequestABody) (answered : FirstJoinsAreAnswered) wher
   at_absent : (c : Coordinator) (header : RequestHeaderValue) (v : HeartbeatRequestValue) (stamp : Stamp) (moment : ℕ) (answer : Answer) (new : Coordinator)
       → IsFirstJoin c v → RequestStep c (heartbeat_request header v) stamp moment answer new → answer ≢ Closes
   at_absent c header v stamp moment answer new first step =
-      let q = heartbeat_of v in
-      let absent : HeartbeatAt None c q stamp moment step.0 new =
-      subst (λ (there : Option Group). HeartbeatAt there c q stamp moment step.0 new) first.absent step.1 in
-      let makes : MakesMember q = record { joins = first.epoch; has_no_id = first.member; has_no_instance = first.instance } in
-      let in_group : Replies absent.0 = step_replies answered c.salt q stamp moment c.image absent.0 absent.1 makes absent.2 in
-      let here : Replies step.0 = made_by absent.0 c q.group absent.1 step.0 new in_group absent.3 in
+      let h : Arrival = arrival_of v stamp moment c.image in
+      let absent : HeartbeatAt None c h step.0 new =
+      subst (λ (there : Option Group). HeartbeatAt there c h step.0 new) first.absent step.1 in
+      let makes : MakesMember h.heartbeat = record { joins = first.epoch; has_no_id = first.member; has_no_instance = first.instance } in
+      let in_group : Replies absent.0 = step_replies answered c.salt h absent.0 absent.1 makes absent.2 in
+      let here : Replies step.0 = made_by absent.0 c h.heartbeat.group absent.1 step.0 new in_group absent.3 in
       sent header.correlation_id step.0 answer here step.2
 
   pub answers_first_joins : AnswersFirstJoins

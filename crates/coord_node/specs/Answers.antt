@@ -1,17 +1,17 @@
 -- What a node's answer to a frame is to the coordinator's step.
 use Rattle.std.specs.Prelude.{◌≡◌, ◌⊎◌, ℕ, ◌<◌, ℤ, List, ◌++◌, length}
-use Rattle.std.specs.FinMap as finite
 use Rattle.kip_msgs.specs.Values.{RequestValue}
 use Rattle.kip_msgs.specs.Heads.{HasUnknownKey, HasUnknownVersion}
 use Rattle.group_types.specs.declared.limits.TheConstants.{SMALLEST_BODY, LARGEST_BODY}
 use Rattle.group_types.specs.declared.stamp.Stamp.{Stamp}
-use Rattle.group_types.specs.Request.{Heartbeat}
+use Rattle.group_types.specs.HeartbeatStep.{Arrival}
 use Rattle.group_types.specs.Group.{Group}
 use Rattle.group_types.specs.HeartbeatStep as group
 use Rattle.coord_node.specs.declared.event.Answered.{Answered}
 use Rattle.coord_node.specs.declared.event.Answered.TheVariants as answered
 use Rattle.coord_node.specs.Coordinator.{Coordinator, Event, Answer, Replied, Closes, Done, bytes_of}
-use Rattle.coord_node.specs.Steps.{Step, RequestStep, HeartbeatAt, MakesBy, Sends}
+use Rattle.coord_node.specs.Steps.{MakesBy, Sends, message_of}
+use Rattle.coord_node.specs.Today.{HeartbeatToday, RequestToday, StepToday}
 
 -- the kind of an answer to a frame
 abbrev pub IsAnswered : Answered → Answer → Type 0
@@ -22,31 +22,31 @@ IsAnswered answered.Closes (Replied bytes) = ⊥
 IsAnswered answered.Closes Closes = Unit {0}
 IsAnswered answered.Closes (Done removed) = ⊥
 
--- The node's step is the coordinator's, and the bytes of its answer were appended.
+-- The node's step is the coordinator's as far as it is built, and the bytes of its answer were appended.
 pub record Answers (old : Coordinator) (event : Event) (kind : Answered) (new : Coordinator) (before after : List ℕ) : Type 0 where
   pub answer : Answer
   pub is_answered : IsAnswered kind answer
-  pub step : Step old event answer new
+  pub step : StepToday old event answer new
   pub bytes : after ≡ before ++ bytes_of answer
 
 -- The same for the request that a frame is.
 pub record AnswersRequest (old : Coordinator) (v : RequestValue) (stamp : Stamp) (moment : ℕ) (kind : Answered) (new : Coordinator) (before after : List ℕ) : Type 0 where
   pub answer : Answer
   pub is_answered : IsAnswered kind answer
-  pub step : RequestStep old v stamp moment answer new
+  pub step : RequestToday old v stamp moment answer new
   pub bytes : after ≡ before ++ bytes_of answer
 
 -- A group's answer was sent, and its bytes were appended.
 pub record IsSent (correlation : ℤ) (given : group.Answer) (kind : Answered) (before after : List ℕ) : Type 0 where
   pub answer : Answer
   pub is_answered : IsAnswered kind answer
-  pub sends : Sends correlation given answer
+  pub sends : Sends (message_of correlation given) answer
   pub bytes : after ≡ before ++ bytes_of answer
 
 -- The same for the heartbeat that a request is.
-pub record AnswersHeartbeat (old : Coordinator) (correlation : ℤ) (q : Heartbeat) (stamp : Stamp) (moment : ℕ) (kind : Answered) (new : Coordinator) (before after : List ℕ) : Type 0 where
+pub record AnswersHeartbeat (old : Coordinator) (correlation : ℤ) (a : Arrival) (kind : Answered) (new : Coordinator) (before after : List ℕ) : Type 0 where
   pub given : group.Answer
-  pub step : HeartbeatAt (finite.get old.groups q.group) old q stamp moment given new
+  pub step : HeartbeatToday old a given new
   pub sent : IsSent correlation given kind before after
 
 -- The same for a new group that answers its first heartbeat with a reply.

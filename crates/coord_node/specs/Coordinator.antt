@@ -17,9 +17,10 @@ pub record Coordinator : Type 0 where
 abbrev pub opening : ℕ → Coordinator
 opening salt = record { salt = salt; groups = finite.empty; image = finite.empty }
 
--- what comes to a node: the body of a frame with its stamp and moment, or a new image
+-- what comes to a node: the body of a frame with its stamp and moment, a tick at a moment, or a new image
 pub data Event : Type 0 where
   Frame : List ℕ → Stamp → ℕ → Event
+  Tick : ℕ → Event
   Image : Topics → Event
 
 -- what comes of an event: the bytes of one frame, the end of the connection, or how many members it removed

@@ -4,7 +4,7 @@ use Rattle.std.specs.List.{flat_map}
 use Rattle.coord_node.specs.declared.event.NodeEvent.{NodeEvent}
 use Rattle.coord_node.specs.declared.event.NodeEvent.TheVariants as events
 use Rattle.coord_node.specs.Coordinator.{Coordinator, Event, Frame, Image, Answer, bytes_of}
-use Rattle.coord_node.specs.Steps.{Run}
+use Rattle.coord_node.specs.Today.{RunToday}
 
 abbrev pub event_value : NodeEvent → Event
 event_value (events.Frame body stamp moment) = Frame body.items stamp moment
@@ -16,5 +16,5 @@ pub record Runs (old : Coordinator) (events : List NodeEvent) (new : Coordinator
   pub answered : List Event
   pub answers : List Answer
   pub all : map event_value events ≡ answered ++ map event_value left
-  pub run : Run old answered answers new
+  pub run : RunToday old answered answers new
   pub bytes : after ≡ before ++ flat_map bytes_of answers

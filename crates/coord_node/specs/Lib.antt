@@ -3,6 +3,7 @@ pub mod Growth
 pub mod Replies
 pub mod Coordinator
 pub mod Steps
+pub mod Today
 pub mod Laws
 pub mod Stored
 pub mod NodeView

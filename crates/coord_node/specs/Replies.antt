@@ -1,13 +1,14 @@
 -- The bytes of a reply: the one frame that spells it.
-use Rattle.std.specs.Prelude.{◌≡◌, ℕ, ℤ, pos, List, [], ◌++◌, length, option_map, FitsSigned}
+use Rattle.std.specs.Prelude.{◌≡◌, ℕ, ℤ, pos, List, [], ◌++◌, length, map, option_map, FitsSigned}
 use Rattle.std.specs.Int.{w32}
 use Rattle.flex_wire.specs.Spelling.{int32}
-use Rattle.kip_msgs.specs.Values.{AssignmentValue, HeartbeatReplyValue, ReplyValue, heartbeat_reply}
+use Rattle.kip_msgs.specs.Values.{AssignmentValue, HeartbeatReplyValue, CommitReplyValue, ReplyValue, heartbeat_reply, commit_reply}
 use Rattle.kip_msgs.specs.Spelling.{SpellsReply}
 use Rattle.group_types.specs.Sets.{in_order}
 use Rattle.group_types.specs.Partition.{Partitions}
 use Rattle.group_types.specs.Code.{code_number, code_text}
 use Rattle.group_types.specs.HeartbeatStep.{Reply}
+use Rattle.group_types.specs.Commit.{CommitReply}
 use Rattle.coord_node.specs.Listing.{listed}
 
 abbrev pub assignment_value : Partitions → AssignmentValue
@@ -32,13 +33,26 @@ abbrev pub reply_value : ℤ → Reply → ReplyValue
 reply_value correlation r =
     heartbeat_reply (record { correlation_id = correlation; tags = [] }) (heartbeat_reply_value r)
 
+-- Kafka protocol guide, "OffsetCommit Response v9": the codes in the request's order
+abbrev pub commit_reply_value : CommitReply → CommitReplyValue
+commit_reply_value reply =
+    record {
+      throttle_time_ms = pos 0;
+      topics = map (λ t. record { name = t.0; partitions = map (λ p. record { partition_index = p.0; error_code = code_number p.1; tags = [] }) t.1; tags = [] }) reply;
+      tags = [];
+    }
+
+abbrev pub commit_value : ℤ → CommitReply → ReplyValue
+commit_value correlation reply =
+    commit_reply (record { correlation_id = correlation; tags = [] }) (commit_reply_value reply)
+
 -- A frame is an INT32 size and a body of that many bytes (Kafka protocol guide, "Protocol").
 pub record IsFrame (body frame : List ℕ) : Type 0 where
   pub size : FitsSigned w32 (pos (length body))
   pub bytes : frame ≡ int32 (pos (length body)) ++ body
 
 -- the frame spells the reply
-pub record IsReplyFrame (correlation : ℤ) (r : Reply) (frame : List ℕ) : Type 0 where
+pub record IsReplyFrame (v : ReplyValue) (frame : List ℕ) : Type 0 where
   pub body : List ℕ
-  pub spells : SpellsReply (reply_value correlation r) body
+  pub spells : SpellsReply v body
   pub framed : IsFrame body frame

@@ -24,7 +24,7 @@ pub(crate) fn put(
     reply: &Reply,
 ) -> Result<(), AllocError>
     requires { IfSome reply.now.assignment (λ set. size set ≤ MOST_PARTITIONS) }
-    ensures ok { OnOk result ((frame : List ℕ) × IsReplyFrame correlation (reply_of reply.now) frame
+    ensures ok { OnOk result ((frame : List ℕ) × IsReplyFrame (reply_value correlation (reply_of reply.now)) frame
         × (out.new.items ≡ out.old.items ++ frame)) }
     ensures err { OnErr result (out.new.items ≡ out.old.items) }
 {
@@ -54,11 +54,11 @@ fn body_of(alloc: Global, correlation: i32, reply: &Reply) -> Result<Vec<u8>, Al
     ensures spells { IfOk result (λ body. SpellsReply (reply_value correlation (reply_of reply.now)) body.items) }
     ensures short { IfOk result (λ body. length body.items < 2 ^ 31) }
 {
+    let message = message_of(alloc, reply)?;
     let header = ResponseHeader {
         correlation_id: correlation,
         tags: TaggedFields::new(alloc),
     };
-    let message = message_of(alloc, reply)?;
     let mut body = Vec::new(alloc);
     put_reply(&mut body, &Message::Heartbeat(header, message))?;
     Ok(body)

@@ -16,6 +16,3 @@ pub use event::{Answered, NodeEvent};
 pub use group_core::{Group, Image, Moment, Stamp};
 pub use laws::{one_answer, path_is_answered};
 pub use node::Node;
-
-#[cfg(test)]
-mod tests;

@@ -4,11 +4,12 @@ ghost use Rattle.std.specs.Option.{option_copied};
 ghost use Rattle.std.specs.FinMap as finite;
 ghost use Rattle.kip_msgs.specs.Views.{heartbeat_request_value, request_value};
 ghost use Rattle.group_types.specs.Sets.{size};
-ghost use Rattle.group_core.specs.Request.{heartbeat_of};
+ghost use Rattle.group_types.specs.HeartbeatStep.{Replied as ReplyWith};
+ghost use Rattle.group_core.specs.Request.{arrival_of};
 ghost use Rattle.group_core.specs.Outcome.{reply_of};
 ghost use Rattle.coord_node.specs.Coordinator.{opening, Frame};
 ghost use Rattle.coord_node.specs.Steps.{is_success};
-ghost use Rattle.coord_node.specs.Answers.{Answers, AnswersRequest, AnswersHeartbeat, AnswersAsNew, ClosesAtOnce};
+ghost use Rattle.coord_node.specs.Answers.{Answers, AnswersRequest, AnswersHeartbeat, AnswersAsNew, ClosesAtOnce, IsSent};
 
 use crate::event::Answered;
 use crate::frame;
@@ -128,7 +129,7 @@ impl Node {
         out: &mut Vec<u8>,
     ) -> Result<Answered, AllocError>
         ensures step { IfOk result (λ answered. AnswersHeartbeat self.old correlation
-            (heartbeat_of (heartbeat_request_value request.now)) stamp now answered self.new
+            (arrival_of (heartbeat_request_value request.now) stamp now self.old.image) answered self.new
             out.old.items out.new.items) }
         ensures err { OnErr result ((self.new ≡ self.old) × (out.new.items ≡ out.old.items)) }
     {
@@ -139,7 +140,7 @@ impl Node {
         match group.heartbeat(alloc, request, stamp, now, &self.image)? {
             Outcome::Closes => Ok(Answered::Closes),
             Outcome::Replied(reply) => {
-                self.reply_of_new(alloc, correlation, request.group_id, group, reply, out)
+                self.reply_of_new(alloc, correlation, request.group_id, group, &reply, out)
             }
         }
     }
@@ -151,32 +152,65 @@ impl Node {
         correlation: i32,
         name: &str,
         group: Group,
-        reply: Reply,
+        reply: &Reply,
         out: &mut Vec<u8>,
     ) -> Result<Answered, AllocError>
-        requires few { IfSome reply.assignment (λ set. size set ≤ MOST_PARTITIONS) }
+        requires few { IfSome reply.now.assignment (λ set. size set ≤ MOST_PARTITIONS) }
         requires absent { finite.get self.old.groups name.now ≡ None }
-        ensures step { IfOk result (λ answered. AnswersAsNew self.old correlation name.now group (reply_of reply)
+        ensures step { IfOk result (λ answered. AnswersAsNew self.old correlation name.now group (reply_of reply.now)
             answered self.new out.old.items out.new.items) }
         ensures err { OnErr result ((self.new ≡ self.old) × (out.new.items ≡ out.old.items)) }
     {
         if !is_success(reply.code) {
-            frame::put(alloc, out, correlation, &reply)?;
-            return Ok(Answered::Replied);
+            return send(alloc, correlation, reply, out);
         }
         if MOST_GROUPS <= self.groups.len() {
-            let reply = Reply::refusal(Code::CoordinatorNotAvailable);
-            frame::put(alloc, out, correlation, &reply)?;
-            return Ok(Answered::Replied);
+            let refusal = Reply::refusal(Code::CoordinatorNotAvailable);
+            return send(alloc, correlation, &refusal, out);
         }
+        self.keep(alloc, correlation, name, group, reply, out)
+    }
+
+    /// Keeps a new group under its name, and sends its reply. Where memory is short nothing has changed.
+    fn keep(
+        &mut self,
+        alloc: Global,
+        correlation: i32,
+        name: &str,
+        group: Group,
+        reply: &Reply,
+        out: &mut Vec<u8>,
+    ) -> Result<Answered, AllocError>
+        requires few { IfSome reply.now.assignment (λ set. size set ≤ MOST_PARTITIONS) }
+        requires absent { finite.get self.old.groups name.now ≡ None }
+        ensures step { IfOk result (λ answered. (self.new ≡ record self.old { groups = finite.insert self.old.groups name.now group })
+            × IsSent correlation (ReplyWith (reply_of reply.now)) answered out.old.items out.new.items) }
+        ensures err { OnErr result ((self.new ≡ self.old) × (out.new.items ≡ out.old.items)) }
+    {
         let name = String::from_str(alloc, name)?;
         self.groups.reserve(1)?;
-        frame::put(alloc, out, correlation, &reply)?;
+        let answered = send(alloc, correlation, reply, out)?;
         match self.groups.insert(name, group) {
-            Ok(_) => Ok(Answered::Replied),
+            Ok(_) => Ok(answered),
             Err(_) => unreachable!(),
         }
     }
+}
+
+/// Sends a reply. Where memory is short nothing is appended.
+fn send(
+    alloc: Global,
+    correlation: i32,
+    reply: &Reply,
+    out: &mut Vec<u8>,
+) -> Result<Answered, AllocError>
+    requires { IfSome reply.now.assignment (λ set. size set ≤ MOST_PARTITIONS) }
+    ensures sent { IfOk result (λ answered. IsSent correlation (ReplyWith (reply_of reply.now)) answered
+        out.old.items out.new.items) }
+    ensures err { OnErr result (out.new.items ≡ out.old.items) }
+{
+    frame::put(alloc, out, correlation, reply)?;
+    Ok(Answered::Replied)
 }
 
 /// Whether a code is that of success.

@@ -1,5 +1,5 @@
 //! Lists of events.
-ghost use Rattle.std.specs.Prelude.{◌≡◌, [], OnOk};
+ghost use Rattle.std.specs.Prelude.{◌≡◌, ◌<◌, [], length, OnOk, OnErr};
 ghost use Rattle.coord_node.specs.Events.{Runs};
 
 use crate::event::NodeEvent;
@@ -9,7 +9,7 @@ use std::collections::VecDeque;
 
 impl Node {
     /// Takes the events from the front, and appends the replies to the frames in their order. Where memory is short,
-    /// the events that have no answer yet are left, the first of them in front.
+    /// the events that have no answer yet are left, at least one, and the first of them in front.
     pub fn run(
         &mut self,
         alloc: Global,
@@ -18,6 +18,7 @@ impl Node {
     ) -> Result<(), AllocError>
         ensures run { Runs self.old events.old.items self.new events.new.items out.old.items out.new.items }
         ensures all { OnOk result (events.new.items ≡ []) }
+        ensures left { OnErr result (0 < length events.new.items) }
     {
         while let Some(event) = events.front() {
             match event {

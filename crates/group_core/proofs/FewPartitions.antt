@@ -21,7 +21,7 @@ use Rattle.group_types.proofs.Orders.{text_cmp_total, partition_cmp_total, parti
 use Rattle.group_types.proofs.SetLemmas.{has-nothing, has-without, size-nothing, size-without, same_set}
 use Rattle.group_types.proofs.SpreadLemmas.{has-share_of, owns-get}
 use Rattle.topic_meta.specs.Facts.{AreImageTopics}
-use Rattle.group_core.proofs.GrantLemmas.{both_equal}
+use Rattle.group_types.proofs.GrantLemmas.{both_equal}
 
 -- an index of a topic with so many partitions
 abbrev is_index : ℤ → ℕ → Bool

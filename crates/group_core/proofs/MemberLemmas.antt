@@ -17,7 +17,7 @@ use Rattle.group_types.proofs.SetLemmas.{has-nothing, has-with_one, has-in_order
 use Rattle.group_core.specs.declared.record.Member.{Member}
 use Rattle.group_core.specs.Members.{record_of, records_of, grants_of}
 use Rattle.group_core.specs.GroupView.{are_apart}
-use Rattle.group_core.proofs.GrantLemmas.{eq-grant, grant_cmp_total, has-held}
+use Rattle.group_types.proofs.GrantLemmas.{eq-grant, grant_cmp_total, has-held}
 
 abbrev pub ids_of : List Member → List Text
 ids_of ms = map (λ m. m.id) ms

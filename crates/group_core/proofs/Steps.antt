@@ -1,30 +1,35 @@
--- One heartbeat at a group that nobody has joined, by what the checks say.
-use Rattle.std.proofs.Common.{◌≡◌, ◌<◌, ℕ, zero, suc, length, ◌||◌, ◌==◌, true≢false, ℤ, pos, negsuc, Bool, true, false, nat_le, is_some, List, [], ◌∷◌, refl, sym, ap, subst, ◌∙◌, arith, lit<, Option, Some, None}
+-- One heartbeat at a group that nobody has joined, by what the checks say; and what isn't built yet.
+use Rattle.std.proofs.Common.{◌≡◌, ◌<◌, ℕ, zero, suc, length, ◌||◌, ◌&&◌, ◌==◌, true≢false, ℤ, pos, negsuc, Bool, true, false, nat_le, is_none, is_some, List, [], ◌∷◌, refl, sym, ap, subst, ◌∙◌, arith, lit<, Option, Some, None, cond}
 use Rattle.std.specs.List.{list_any}
-use Rattle.std.specs.Ordering.{eq_by_cmp}
+use Rattle.std.specs.Ordering.{eq_by_cmp, int_eq}
 use Rattle.std.specs.FinMap as finite
 use Rattle.group_types.specs.declared.code.Code.{Code}
-use Rattle.group_types.specs.declared.code.Code.TheVariants.{CoordinatorNotAvailable}
-use Rattle.group_types.specs.declared.limits.TheConstants.{GREATEST_EPOCH}
+use Rattle.group_types.specs.declared.code.Code.TheVariants as codes
+use Rattle.group_types.specs.declared.limits.TheConstants.{GREATEST_EPOCH, MOST_MEMBERS}
 use Rattle.group_types.specs.declared.stamp.Stamp.{Stamp}
 use Rattle.group_types.specs.Text.{Text, text_cmp}
-use Rattle.group_types.specs.Topics.{Topics}
 use Rattle.group_types.specs.MemberId.{made_id}
-use Rattle.group_types.specs.Request.{Heartbeat, Kind, Joins, Beats, Leaves, GoesAway, IsNone, kind_of, is_invalid, is_unsupported}
+use Rattle.group_types.specs.Request.{Heartbeat, Kind, Joins, kind_of, is_empty, is_invalid, is_unsupported}
 use Rattle.group_types.specs.Group.{Group, Record, starting_group}
-use Rattle.group_types.specs.Join.{IsNextSerial, is_remembered}
-use Rattle.group_types.specs.HeartbeatStep.{Answer, Replied, Closes, Verdict, Refused, Accepted, first_refusal, verdict_on_new, refusal, JoinsAsNew, ByVerdict, StepOf, HeartbeatStep}
-use Rattle.std.proofs.lemmas.Bool.{eq-eqb, eqb-true, lt-leb}
-use Rattle.group_types.proofs.BoolLemmas.{or_none}
+use Rattle.group_types.specs.Members.{members_of, is_remembered}
+use Rattle.group_types.specs.Renewal.{changed_if, view_for}
+use Rattle.group_types.specs.Join.{Name, IsNamed, IsNextSerial, name_of_serial}
+use Rattle.group_types.specs.Checks.{Verdict, Accepted, Refused, Overtaken, Member as Another, Sender, first_of, other_with, record_under, sender_of, verdict_on}
+use Rattle.group_types.specs.HeartbeatStep.{Answer, Replied, Closes, Arrival, Draft, refusal, verdict_on_change, ByVerdict, GoesOn, TakesIn, JoinsUnder, JoinsAs, StepOf, StepBy, HeartbeatStep}
+use Rattle.std.proofs.lemmas.Bool.{and_parts, eq-eqb, eqb-true, lt-leb}
+use Rattle.std.proofs.lemmas.Bool.Decides.{Decides-int_eq}
+use Rattle.std.proofs.lemmas.List.{nil_from_length}
 use Rattle.group_core.specs.declared.group.Group.TheInside.{Inside}
 use Rattle.group_core.specs.declared.record.Member.{Member}
-use Rattle.group_core.specs.Checks.{MakesMember}
+use Rattle.group_core.specs.Built.{StepIfBuilt, StepToday, is_built}
+use Rattle.group_core.specs.Checks.{MakesMember, verdict_on_first, verdict_on_request}
+use Rattle.group_core.specs.FirstMember.{JoinsFirst, first_draft, nobody}
 use Rattle.group_core.specs.GroupView.{group_view, IsGroup}
 use Rattle.group_core.specs.Members.{record_of, records_of}
 use Rattle.group_core.proofs.MemberLemmas.{len-members}
 use Rattle.group_core.proofs.Single.{entries-empty}
 
-none_remembered : (salt epoch : ℕ) (m : Text) → is_remembered (starting_group salt epoch) m ≡ false
+none_remembered : (salt epoch : ℕ) (m : Text) → is_remembered (members_of (starting_group salt epoch)) m ≡ false
 none_remembered salt epoch m = ap (λ o. is_some o || list_any (λ (e : Text × Stamp). eq_by_cmp text_cmp m e.0) []) (finite.get-empty text_cmp m)
 
 -- the first serial is 1
@@ -32,106 +37,150 @@ pub first_serial : (salt epoch : ℕ) → IsNextSerial (starting_group salt epoc
 first_serial salt epoch =
     record { from = omega arith; below = lit< tt; fresh = none_remembered salt epoch (made_id salt 1); first = λ k from below. absurd (omega arith) }
 
--- the verdict on a first join: a serial is left for its id
-pub verdict_on_first : (salt epoch : ℕ) (q : Heartbeat) → verdict_on_new (starting_group salt epoch) q (Some 1) ≡ first_refusal (is_invalid q) (is_unsupported q) (nat_le GREATEST_EPOCH epoch)
-verdict_on_first salt epoch q = ap (first_refusal (is_invalid q) (is_unsupported q)) (or_none (nat_le GREATEST_EPOCH epoch))
+-- the first id, and the serial after it
+abbrev pub first_name : ℕ → ℕ → Name
+first_name salt epoch = name_of_serial (starting_group salt epoch) 1
 
--- what the request is refused for, it is refused for whether or not the epoch can rise
-refused_anyway : (invalid unsupported unavailable : Bool) (code : Code) → first_refusal invalid unsupported false ≡ Refused code → first_refusal invalid unsupported unavailable ≡ Refused code
-refused_anyway true unsupported unavailable code is = is
-refused_anyway false true unavailable code is = is
-refused_anyway false false unavailable code is = absurd (cc)
+pub is_first_name : (salt epoch : ℕ) (m : Text) → m ≡ [] → IsNamed (starting_group salt epoch) m (Some (first_name salt epoch))
+is_first_name salt epoch m none =
+    let here : IsNamed (starting_group salt epoch) [] (Some (first_name salt epoch)) = (Some 1, first_serial salt epoch, refl) in
+    subst (λ x. IsNamed (starting_group salt epoch) x (Some (first_name salt epoch))) (sym none) here
 
-refused_then : (invalid unsupported : Bool) → first_refusal invalid unsupported false ≡ Accepted → first_refusal invalid unsupported true ≡ Refused CoordinatorNotAvailable
-refused_then true unsupported is = absurd (cc)
-refused_then false true is = absurd (cc)
-refused_then false false is = refl
+-- ---- the checks
 
-cannot_rise : (epoch : ℕ) → epoch ≡ GREATEST_EPOCH → nat_le GREATEST_EPOCH epoch ≡ true
+-- nobody's record is the sender's own, and no other has its instance
+pub sender_is_nobody : (salt epoch : ℕ) (q : Heartbeat) → MakesMember q → sender_of (starting_group salt epoch).records q ≡ nobody
+sender_is_nobody salt epoch q makes =
+    let own : record_under finite.empty q.member ≡ None = ap (record_under finite.empty) makes.has_no_id in
+    let other : other_with finite.empty q.member q.instance ≡ None = ap (other_with finite.empty q.member) makes.has_no_instance in
+    let senders : Option Record → Option Another → Sender = λ r m. record { own = r; other = m } in
+    λ i. senders (own i) (other i)
+
+pub is_joining : (q : Heartbeat) → q.epoch ≡ pos 0 → kind_of q.epoch ≡ Joins
+is_joining q joins = ap kind_of joins
+
+-- a group without members has room
+not_too_many : nat_le MOST_MEMBERS (finite.len (finite.empty {X = Record} {R = text_cmp})) ≡ false
+not_too_many = ap (nat_le MOST_MEMBERS) (finite.len-empty text_cmp Record)
+
+pub verdict_is : (salt epoch : ℕ) (q : Heartbeat) (stamp : Stamp) → verdict_on Joins nobody (starting_group salt epoch) q stamp ≡ verdict_on_request q
+verdict_is salt epoch q stamp =
+    ap (λ (full : Bool). first_of
+    ((is_invalid q, Refused codes.InvalidRequest)
+    ∷ (is_unsupported q, Refused codes.UnsupportedAssignor)
+    ∷ (false, Overtaken)
+    ∷ (false, Refused codes.UnreleasedInstanceId)
+    ∷ (full, Refused codes.GroupMaxSizeReached)
+    ∷ [])) not_too_many
+
+pub cannot_rise : (epoch : ℕ) → epoch ≡ GREATEST_EPOCH → nat_le GREATEST_EPOCH epoch ≡ true
 cannot_rise epoch is = ap (nat_le GREATEST_EPOCH) is
 
 -- an epoch below the greatest can rise
-can_rise : (epoch : ℕ) → epoch < GREATEST_EPOCH → nat_le GREATEST_EPOCH epoch ≡ false
+pub can_rise : (epoch : ℕ) → epoch < GREATEST_EPOCH → nat_le GREATEST_EPOCH epoch ≡ false
 can_rise epoch below = lt-leb GREATEST_EPOCH epoch below
 
-module _ (salt epoch : ℕ) (q : Heartbeat) (stamp : Stamp) (moment : ℕ) (image : Topics) where
-  abbrev Joining : Answer → Group → Type 0
-  Joining answer new = JoinsAsNew (starting_group salt epoch) (Some 1) q stamp moment image answer new
+-- ---- the step
 
-  step_joins : MakesMember q → (verdict : Verdict) → first_refusal (is_invalid q) (is_unsupported q) (nat_le GREATEST_EPOCH epoch) ≡ verdict → (answer : Answer) (new : Group)
-      → ByVerdict verdict Joining (starting_group salt epoch) answer new → HeartbeatStep (starting_group salt epoch) q stamp moment image answer new
+module _ (salt epoch : ℕ) (h : Arrival) where
+  abbrev pub TheStart : Group
+  TheStart = starting_group salt epoch
+
+  -- where the request is accepted: the last check, and then the join
+  abbrev pub JoinsIfItRises : Bool → Answer → Group → Type 0
+  JoinsIfItRises greatest answer new =
+      ByVerdict (cond greatest (Refused codes.CoordinatorNotAvailable) Accepted)
+      (GoesOn (changed_if true (first_draft TheStart h).group (view_for h.image (first_draft TheStart h).group.records)) (first_draft TheStart h) h.heartbeat) TheStart answer new
+
+  pub step_joins : MakesMember h.heartbeat → (verdict : Verdict) → verdict_on_request h.heartbeat ≡ verdict → (answer : Answer) (new : Group)
+      → ByVerdict verdict (StepOf Joins nobody TheStart h) TheStart answer new → HeartbeatStep TheStart h answer new
   step_joins makes verdict is answer new by =
-      let Step : ℤ → Text → Option Text → List (Text × Record) → Type 0 = λ e m i es. StepOf (kind_of e) m i es (starting_group salt epoch) q stamp moment image answer new in
-      let so : ByVerdict (verdict_on_new (starting_group salt epoch) q (Some 1)) Joining (starting_group salt epoch) answer new =
-      subst (λ v. ByVerdict v Joining (starting_group salt epoch) answer new) (sym (verdict_on_first salt epoch q ∙ is)) by in
-      let here : Step (pos 0) [] None [] = (Some 1, first_serial salt epoch, so) in
-      subst (λ es. Step q.epoch q.member q.instance es) (sym (entries-empty text_cmp Record))
-      (subst (λ i. Step q.epoch q.member i []) (sym makes.has_no_instance)
-      (subst (λ m. Step q.epoch m None []) (sym makes.has_no_id) (subst (λ e. Step e [] None []) (sym makes.joins) here)))
+      let so : ByVerdict (verdict_on Joins nobody TheStart h.heartbeat h.stamp) (StepOf Joins nobody TheStart h) TheStart answer new =
+      subst (λ v. ByVerdict v (StepOf Joins nobody TheStart h) TheStart answer new) (sym (verdict_is salt epoch h.heartbeat h.stamp ∙ is)) by in
+      let by_sender : StepBy Joins (sender_of TheStart.records h.heartbeat) TheStart h answer new =
+      subst (λ (s : Sender). StepBy Joins s TheStart h answer new) (sym (sender_is_nobody salt epoch h.heartbeat makes)) so in
+      subst (λ (k : Kind). StepBy k (sender_of TheStart.records h.heartbeat) TheStart h answer new) (sym (is_joining h.heartbeat makes.joins)) by_sender
 
   -- the request is refused
-  pub refuses : MakesMember q → (code : Code) → first_refusal (is_invalid q) (is_unsupported q) false ≡ Refused code
-      → HeartbeatStep (starting_group salt epoch) q stamp moment image (Replied (refusal code)) (starting_group salt epoch)
-  refuses makes code verdict =
-      step_joins makes (Refused code) (refused_anyway (is_invalid q) (is_unsupported q) (nat_le GREATEST_EPOCH epoch) code verdict) (Replied (refusal code)) (starting_group salt epoch) (refl, refl)
+  pub refuses : MakesMember h.heartbeat → (code : Code) → verdict_on_request h.heartbeat ≡ Refused code → HeartbeatStep TheStart h (Replied (refusal code)) TheStart
+  refuses makes code verdict = step_joins makes (Refused code) verdict (Replied (refusal code)) TheStart (refl, refl)
+
+  pub accepts_by : MakesMember h.heartbeat → verdict_on_request h.heartbeat ≡ Accepted → (greatest : Bool) → nat_le GREATEST_EPOCH epoch ≡ greatest → (answer : Answer) (new : Group)
+      → JoinsIfItRises greatest answer new → HeartbeatStep TheStart h answer new
+  accepts_by makes verdict greatest is answer new goes =
+      let step : JoinsIfItRises (nat_le GREATEST_EPOCH epoch) answer new = subst (λ b. JoinsIfItRises b answer new) (sym is) goes in
+      let taken : TakesIn TheStart (first_draft TheStart h) h.heartbeat h.image answer new = record { change = true; is_change = refl; step = step } in
+      let joins : JoinsAs nobody TheStart h answer new =
+      record { name = Some (first_name salt epoch); is_named = is_first_name salt epoch h.heartbeat.member makes.has_no_id; joins = taken } in
+      step_joins makes Accepted verdict answer new joins
 
   -- the epoch can't rise
-  pub refuses_at_last : MakesMember q → first_refusal (is_invalid q) (is_unsupported q) false ≡ Accepted → epoch ≡ GREATEST_EPOCH
-      → HeartbeatStep (starting_group salt epoch) q stamp moment image (Replied (refusal CoordinatorNotAvailable)) (starting_group salt epoch)
-  refuses_at_last makes verdict last =
-      step_joins makes (Refused CoordinatorNotAvailable)
-      (ap (first_refusal (is_invalid q) (is_unsupported q)) (cannot_rise epoch last) ∙ refused_then (is_invalid q) (is_unsupported q) verdict)
-      (Replied (refusal CoordinatorNotAvailable)) (starting_group salt epoch) (refl, refl)
+  pub refuses_at_last : MakesMember h.heartbeat → verdict_on_request h.heartbeat ≡ Accepted → epoch ≡ GREATEST_EPOCH → HeartbeatStep TheStart h (Replied (refusal codes.CoordinatorNotAvailable)) TheStart
+  refuses_at_last makes verdict is =
+      accepts_by makes verdict true (cannot_rise epoch is) (Replied (refusal codes.CoordinatorNotAvailable)) TheStart (refl, refl)
 
   -- the member joins
-  pub accepts : MakesMember q → first_refusal (is_invalid q) (is_unsupported q) (nat_le GREATEST_EPOCH epoch) ≡ Accepted → (answer : Answer) (new : Group)
-      → Joining answer new → HeartbeatStep (starting_group salt epoch) q stamp moment image answer new
-  accepts makes verdict answer new joins = step_joins makes Accepted verdict answer new joins
+  pub accepts_below : MakesMember h.heartbeat → verdict_on_request h.heartbeat ≡ Accepted → epoch < GREATEST_EPOCH → (answer : Answer) (new : Group)
+      → JoinsFirst TheStart h answer new → HeartbeatStep TheStart h answer new
+  accepts_below makes verdict below answer new joins = accepts_by makes verdict false (can_rise epoch below) answer new joins
 
-  pub accepts_below : MakesMember q → first_refusal (is_invalid q) (is_unsupported q) false ≡ Accepted → epoch < GREATEST_EPOCH → (answer : Answer) (new : Group)
-      → Joining answer new → HeartbeatStep (starting_group salt epoch) q stamp moment image answer new
-  accepts_below makes verdict below answer new joins =
-      accepts makes (ap (first_refusal (is_invalid q) (is_unsupported q)) (can_rise epoch below) ∙ verdict) answer new joins
+-- ---- what is built
 
--- ---- what is closed
+not_true : (b : Bool) → (b ≡ true → ⊥) → b ≡ false
+not_true true no_way = absurd (no_way refl)
+not_true false no_way = refl
 
-step_of_closes : (kind : Kind) (member : Text) (instance : Option Text) (members : List (Text × Record)) (g : Group) (q : Heartbeat) (stamp : Stamp) (moment : ℕ) (image : Topics)
-    → (kind ≡ Joins → member ≡ [] → instance ≡ None → members ≡ [] → ⊥) → StepOf kind member instance members g q stamp moment image Closes g
-step_of_closes Joins [] None [] g q stamp moment image other = absurd (other refl refl refl refl)
-step_of_closes Joins [] None (m ∷ ms) g q stamp moment image other = (refl, refl)
-step_of_closes Joins [] (Some instance) members g q stamp moment image other = (refl, refl)
-step_of_closes Joins (b ∷ member) instance members g q stamp moment image other = (refl, refl)
-step_of_closes (Beats e) member instance members g q stamp moment image other = (refl, refl)
-step_of_closes Leaves member instance members g q stamp moment image other = (refl, refl)
-step_of_closes GoesAway member instance members g q stamp moment image other = (refl, refl)
-step_of_closes IsNone member instance members g q stamp moment image other = (refl, refl)
+is_given_none : {X : Type 0} (o : Option X) → is_none o ≡ true → o ≡ None
+is_given_none None is = refl
+is_given_none (Some x) is = absurd (true≢false (sym is))
 
-joins_at_zero : (e : ℤ) → kind_of e ≡ Joins → e ≡ pos 0
-joins_at_zero (pos zero) is = refl
-joins_at_zero (pos (suc e)) is = absurd (cc)
-joins_at_zero (negsuc zero) is = absurd (cc)
-joins_at_zero (negsuc (suc zero)) is = absurd (cc)
-joins_at_zero (negsuc (suc (suc e))) is = absurd (cc)
+-- what is built makes a member, of a group without members
+pub built_makes : (g : Group) (q : Heartbeat) → is_built g q ≡ true → MakesMember q × (finite.len g.records ≡ 0)
+built_makes g q is =
+    let by_len = and_parts (int_eq q.epoch (pos 0) && is_empty q.member && is_none q.instance) (finite.len g.records == 0) is in
+    let by_instance = and_parts (int_eq q.epoch (pos 0) && is_empty q.member) (is_none q.instance) by_len.0 in
+    let by_member = and_parts (int_eq q.epoch (pos 0)) (is_empty q.member) by_instance.0 in
+    let makes : MakesMember q =
+    record {
+      joins = (Decides-int_eq q.epoch (pos 0)).0 by_member.0;
+      has_no_id = nil_from_length q.member (eqb-true (length q.member) 0 by_member.1);
+      has_no_instance = is_given_none q.instance by_instance.1;
+    } in
+    (makes, eqb-true (finite.len g.records) 0 by_len.1)
+
+pub is_built_first : (salt epoch : ℕ) (q : Heartbeat) → MakesMember q → is_built (starting_group salt epoch) q ≡ true
+is_built_first salt epoch q makes =
+    let joins : int_eq q.epoch (pos 0) ≡ true = (Decides-int_eq q.epoch (pos 0)).1 makes.joins in
+    let no_id : is_empty q.member ≡ true = ap is_empty makes.has_no_id in
+    let no_instance : is_none q.instance ≡ true = ap is_none makes.has_no_instance in
+    let none : (finite.len (starting_group salt epoch).records == 0) ≡ true = ap (λ n. n == 0) (finite.len-empty text_cmp Record) in
+    λ i. joins i && no_id i && no_instance i && none i
+
+-- a step that is built
+pub steps_today : (salt epoch : ℕ) (h : Arrival) (answer : Answer) (new : Group) → MakesMember h.heartbeat
+    → HeartbeatStep (starting_group salt epoch) h answer new → StepToday (starting_group salt epoch) h answer new
+steps_today salt epoch h answer new makes step =
+    subst (λ b. StepIfBuilt b (starting_group salt epoch) h answer new) (sym (is_built_first salt epoch h.heartbeat makes)) step
+
+closes_unless : (g : Group) (h : Arrival) → is_built g h.heartbeat ≡ false → StepToday g h Closes g
+closes_unless g h is = subst (λ b. StepIfBuilt b g h Closes g) (sym is) (refl, refl)
 
 -- what makes no member closes
-pub closes_others : (g : Group) (q : Heartbeat) (stamp : Stamp) (moment : ℕ) (image : Topics) → (MakesMember q → ⊥) → HeartbeatStep g q stamp moment image Closes g
-closes_others g q stamp moment image other =
-    step_of_closes (kind_of q.epoch) q.member q.instance (finite.entries g.records) g q stamp moment image
-    (λ joins no_id no_instance none. other (record { joins = joins_at_zero q.epoch joins; has_no_id = no_id; has_no_instance = no_instance }))
+pub closes_others : (g : Group) (h : Arrival) → (MakesMember h.heartbeat → ⊥) → StepToday g h Closes g
+closes_others g h other =
+    closes_unless g h (not_true (is_built g h.heartbeat) (λ is. other (built_makes g h.heartbeat is).0))
 
 no_members : (ms : List Member) → length ms ≡ 0 → ms ≡ []
 no_members [] none = refl
 no_members (m ∷ ms) none = absurd (omega arith)
 
 -- a group with members closes
-pub closes_joined : (a : Inside) (q : Heartbeat) (stamp : Stamp) (moment : ℕ) (image : Topics) → IsGroup a → (a.members.items ≡ [] → ⊥) → HeartbeatStep (group_view a) q stamp moment image Closes (group_view a)
-closes_joined a q stamp moment image is some =
-    step_of_closes (kind_of q.epoch) q.member q.instance (finite.entries (records_of a.members.items)) (group_view a) q stamp moment image
-    (λ joins no_id no_instance none.
+pub closes_joined : (a : Inside) (h : Arrival) → IsGroup a → (a.members.items ≡ [] → ⊥) → StepToday (group_view a) h Closes (group_view a)
+closes_joined a h is some =
     let counted = len-members (λ m. record_of m.record) a.members.items is.ids_apart in
-    let listed = finite.len-entries (records_of a.members.items) in
-    let long : length (finite.entries (records_of a.members.items)) ≡ 0 = ap length none in
-    some (no_members a.members.items (omega (arith, counted, listed, long))))
+    closes_unless (group_view a) h (not_true (is_built (group_view a) h.heartbeat) (λ built.
+    let none : finite.len (group_view a).records ≡ 0 = (built_makes (group_view a) h.heartbeat built).1 in
+    some (no_members a.members.items (omega (arith, counted, none)))))
 
 -- ---- whether there are members
 

@@ -1,24 +1,22 @@
 -- What the machine's definition comes to.
-use Rattle.std.specs.Prelude.{◌≡◌, ℕ, suc, nat_le}
-use Rattle.group_types.specs.declared.stamp.Stamp.{Stamp}
-use Rattle.group_types.specs.declared.limits.TheConstants.{GREATEST_EPOCH}
+use Rattle.std.specs.Prelude.{◌≡◌, ℕ, suc}
 use Rattle.group_types.specs.Sets.{nothing}
 use Rattle.group_types.specs.Partition.{Partitions}
 use Rattle.group_types.specs.Topics.{Topics, Names, view_of}
 use Rattle.group_types.specs.MemberId.{made_id}
-use Rattle.group_types.specs.Request.{Heartbeat, is_invalid, is_unsupported}
 use Rattle.group_types.specs.Group.{Group, starting_group}
 use Rattle.group_types.specs.Join.{names_after}
 use Rattle.group_types.specs.Owners.{IsAllSubscribed}
-use Rattle.group_types.specs.HeartbeatStep.{Answer, Replied, Verdict, Accepted, Refused, Overtaken, first_refusal, refusal, HeartbeatStep}
-use Rattle.group_core.specs.Checks.{MakesMember}
+use Rattle.group_types.specs.Checks.{Verdict, Accepted, Refused, Overtaken}
+use Rattle.group_types.specs.HeartbeatStep.{Answer, Replied, Arrival, refusal, HeartbeatStep}
+use Rattle.group_core.specs.Checks.{MakesMember, verdict_on_first}
 use Rattle.group_core.specs.Outcome.{accepted}
 
 -- a heartbeat has one answer in a group, and leaves one group
 abbrev pub HasOneAnswer : Type 0
 HasOneAnswer =
-    (g : Group) (q : Heartbeat) (stamp : Stamp) (moment : ℕ) (image : Topics) (a b : Answer) (n o : Group)
-    → HeartbeatStep g q stamp moment image a n → HeartbeatStep g q stamp moment image b o → (a ≡ b) × (n ≡ o)
+    (g : Group) (h : Arrival) (a b : Answer) (n o : Group)
+    → HeartbeatStep g h a n → HeartbeatStep g h b o → (a ≡ b) × (n ≡ o)
 
 -- KIP-848, "Target Assignment": the first member gets the first id and an epoch, and owns all that it subscribes
 abbrev pub IsFirstAcceptance : ℕ → ℕ → Topics → Names → Answer → Group → Type 0
@@ -36,6 +34,6 @@ IsAnsweredBy Overtaken salt epoch image names answer new = ⊥
 -- where these accept it, it is refused only where the epoch is the greatest.
 abbrev pub FirstJoinsAreAnswered : Type 0
 FirstJoinsAreAnswered =
-    (salt epoch : ℕ) (q : Heartbeat) (stamp : Stamp) (moment : ℕ) (image : Topics) (answer : Answer) (new : Group)
-    → MakesMember q → HeartbeatStep (starting_group salt epoch) q stamp moment image answer new
-    → IsAnsweredBy (first_refusal (is_invalid q) (is_unsupported q) (nat_le GREATEST_EPOCH epoch)) salt epoch image (names_after nothing q.names) answer new
+    (salt epoch : ℕ) (h : Arrival) (answer : Answer) (new : Group)
+    → MakesMember h.heartbeat → HeartbeatStep (starting_group salt epoch) h answer new
+    → IsAnsweredBy (verdict_on_first h.heartbeat epoch) salt epoch h.image (names_after nothing h.heartbeat.names) answer new

@@ -5,4 +5,5 @@ pub mod Members
 pub mod Group
 pub mod GroupView
 pub mod FirstMember
+pub mod Built
 pub mod Laws

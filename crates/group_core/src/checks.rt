@@ -1,12 +1,12 @@
 //! The checks of a heartbeat, which look at nothing but the request.
-ghost use Rattle.std.specs.Prelude.{◌≡◌, ◌↔◌, IsTrue, MatchOption, not, false};
+ghost use Rattle.std.specs.Prelude.{◌≡◌, ◌↔◌, IsTrue, MatchOption, not};
 ghost use Rattle.std.specs.List.{flat_map, list_any};
 ghost use Rattle.group_types.specs.Request.{is_empty, is_invalid, is_invalid_join, is_unsupported};
-ghost use Rattle.group_types.specs.HeartbeatStep.{first_refusal, Accepted, Refused};
+ghost use Rattle.group_types.specs.Checks.{Accepted, Refused};
 ghost use Rattle.kip_msgs.specs.Topics.{topic_partitions_values};
 ghost use Rattle.kip_msgs.specs.Views.{heartbeat_request_value};
 ghost use Rattle.group_core.specs.Request.{heartbeat_of, partitions_of};
-ghost use Rattle.group_core.specs.Checks.{MakesMember};
+ghost use Rattle.group_core.specs.Checks.{MakesMember, verdict_on_request};
 
 use group_types::{AssignorName, Code};
 use kip_msgs::{Array, HeartbeatRequest, TopicPartitions};
@@ -21,8 +21,7 @@ pub fn makes_member(request: &HeartbeatRequest<'_>) -> bool
 /// The code that the request is refused with, whatever the group (KIP-848, "ConsumerGroupHeartbeat API").
 pub fn refusal_of(request: &HeartbeatRequest<'_>) -> Option<Code>
     ensures { let q = heartbeat_of (heartbeat_request_value request.now) in
-        MatchOption result (first_refusal (is_invalid q) (is_unsupported q) false ≡ Accepted)
-        (λ code. first_refusal (is_invalid q) (is_unsupported q) false ≡ Refused code) }
+        MatchOption result (verdict_on_request q ≡ Accepted) (λ code. verdict_on_request q ≡ Refused code) }
 {
     if is_invalid(request) {
         return Some(Code::InvalidRequest);

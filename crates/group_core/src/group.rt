@@ -45,9 +45,9 @@ impl Model for Group {
 }
 
 impl Group {
-    ghost use Rattle.group_types.specs.HeartbeatStep.{HeartbeatStep};
     ghost use Rattle.kip_msgs.specs.Views.{heartbeat_request_value};
-    ghost use Rattle.group_core.specs.Request.{heartbeat_of};
+    ghost use Rattle.group_core.specs.Request.{arrival_of};
+    ghost use Rattle.group_core.specs.Built.{StepToday};
     ghost use Rattle.group_core.specs.Outcome.{answer_of, HasFewPartitions};
     ghost use Rattle.group_core.specs.FirstMember.{group_of_one};
     ghost use Rattle.group_core.specs.Members.{record_of};
@@ -155,8 +155,8 @@ impl Group {
         now: Moment,
         image: &Image,
     ) -> Result<Outcome, AllocError>
-        ensures step { IfOk result (λ outcome. HeartbeatStep self.old (heartbeat_of (heartbeat_request_value request.now))
-            stamp now image.now (answer_of outcome) self.new) }
+        ensures step { IfOk result (λ outcome. StepToday self.old
+            (arrival_of (heartbeat_request_value request.now) stamp now image.now) (answer_of outcome) self.new) }
         ensures few { IfOk result (λ outcome. HasFewPartitions (answer_of outcome)) }
         ensures err { OnErr result (self.new ≡ self.old) }
     {

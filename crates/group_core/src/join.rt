@@ -1,15 +1,17 @@
 //! The first join of a group.
-ghost use Rattle.std.specs.Prelude.{◌≡◌, ◌≤◌, ◌∷◌, [], suc, pos, IfOk, IfSome};
+ghost use Rattle.std.specs.Prelude.{◌≡◌, ◌≤◌, ◌∷◌, [], suc, pos, IfOk, IfSome, None};
 ghost use Rattle.group_types.specs.Sets.{size};
-ghost use Rattle.group_types.specs.Group.{starting_group};
-ghost use Rattle.group_types.specs.HeartbeatStep.{JoinsAsNew, Replied as ReplyOf};
+ghost use Rattle.group_types.specs.Group.{starting_group, wanted};
+ghost use Rattle.group_types.specs.Join.{record_of_join};
+ghost use Rattle.group_types.specs.MemberId.{made_id};
+ghost use Rattle.group_types.specs.HeartbeatStep.{Replied as ReplyOf};
 ghost use Rattle.group_types.specs.Owners.{IsLawful};
 ghost use Rattle.group_types.specs.Renewal.{IsTarget, subscriber_of};
 ghost use Rattle.kip_msgs.specs.Views.{heartbeat_request_value};
-ghost use Rattle.group_core.specs.FirstMember.{one_record};
+ghost use Rattle.group_core.specs.FirstMember.{JoinsFirst, at_epoch, group_of_one, one_record};
 ghost use Rattle.group_core.specs.Members.{record_of};
-ghost use Rattle.group_core.specs.Outcome.{reply_of};
-ghost use Rattle.group_core.specs.Request.{heartbeat_of};
+ghost use Rattle.group_core.specs.Outcome.{accepted, reply_of};
+ghost use Rattle.group_core.specs.Request.{arrival_of, heartbeat_of};
 
 use crate::group::Group;
 use crate::outcome::Reply;
@@ -35,25 +37,85 @@ pub fn first_join(
     requires joins { request.now.member_epoch ≡ pos 0 }
     requires nobody { group.now ≡ starting_group group.now.salt group.now.epoch }
     requires rises { next ≡ suc group.now.epoch }
-    ensures joins { IfOk result (λ r. JoinsAsNew group.now (Some 1)
-        (heartbeat_of (heartbeat_request_value request.now)) stamp now image.now (ReplyOf (reply_of r.1)) r.0) }
+    ensures joins { IfOk result (λ r. JoinsFirst group.now
+        (arrival_of (heartbeat_request_value request.now) stamp now image.now) (ReplyOf (reply_of r.1)) r.0) }
     ensures few { IfOk result (λ r. IfSome r.1.assignment (λ set. size set ≤ MOST_PARTITIONS)) }
 {
+    let draft = draft_of(alloc, group.salt(), request, stamp, now)?;
+    let view = image.view(alloc, &draft.record.names)?;
+    let target = target_of_one(alloc, group.target(), &draft.id, &draft.record, &view, next)?;
+    settled(alloc, group.salt(), draft, target, view, now)
+}
+
+/// A member before it is sent anything.
+#[derive(Drop)]
+struct Draft {
+    id: MemberId,
+    record: Record,
+}
+
+/// The draft of a group's first member. Fails where memory is short.
+fn draft_of(
+    alloc: Global,
+    salt: u64,
+    request: &HeartbeatRequest<'_>,
+    stamp: Stamp,
+    now: Moment,
+) -> Result<Draft, AllocError>
+    ensures id { IfOk result (λ draft. draft.id ≡ made_id salt 1) }
+    ensures recorded { IfOk result (λ draft. record_of draft.record
+        ≡ record_of_join None (heartbeat_of (heartbeat_request_value request.now)) stamp now) }
+{
+    let id = MemberId::made(alloc, salt, 1)?;
     let record = Record::joining(alloc, request, stamp, now)?;
-    let view = image.view(alloc, &record.names)?;
-    let id = MemberId::made(alloc, group.salt(), 1)?;
-    let target = target_of_one(alloc, group.target(), &id, &record, &view, next)?;
-    let granted = target.of(id.as_str()).copy_set(alloc)?;
-    let sent = target.of(id.as_str()).copy_set(alloc)?;
-    let shown = target.of(id.as_str()).copy_set(alloc)?;
-    let reply = Reply::acceptance(id.copy(alloc)?, next, shown);
-    let member = Member {
-        id,
-        record: record.started(next, sent),
-        granted,
-    };
-    let group = Group::of_one(alloc, group.salt(), member, target, view, now)?;
+    Ok(Draft { id, record })
+}
+
+/// The group whose one member has all that is its own in the target, and what that member is answered. Fails where memory
+/// is short.
+fn settled(
+    alloc: Global,
+    salt: u64,
+    draft: Draft,
+    target: Target,
+    view: View,
+    now: Moment,
+) -> Result<(Group, Reply), AllocError>
+    ensures { let set = wanted target.owners draft.id in IfOk result (λ r.
+        (r.0 ≡ group_of_one salt draft.id (at_epoch (record_of draft.record) target.epoch set) target view now)
+        × (reply_of r.1 ≡ accepted draft.id target.epoch set)) }
+{
+    let member = started(alloc, draft, &target)?;
+    let reply = acceptance_of(alloc, &member.id, &target)?;
+    let group = Group::of_one(alloc, salt, member, target, view, now)?;
     Ok((group, reply))
+}
+
+/// What the member is answered: at the epoch of the target it may read all that is its own there. Fails where memory is
+/// short.
+fn acceptance_of(alloc: Global, id: &MemberId, target: &Target) -> Result<Reply, AllocError>
+    ensures { IfOk result (λ reply. reply_of reply ≡ accepted id.now target.now.epoch (wanted target.now.owners id.now)) }
+{
+    let shown = target.of(id.as_str()).copy_set(alloc)?;
+    let member = id.copy(alloc)?;
+    Ok(Reply::acceptance(member, target.epoch(), shown))
+}
+
+/// The member at the epoch of the target, once it was sent and granted all that is its own there. Fails where memory is
+/// short.
+fn started(alloc: Global, draft: Draft, target: &Target) -> Result<Member, AllocError>
+    ensures id { IfOk result (λ member. member.id ≡ draft.id) }
+    ensures recorded { IfOk result (λ member. record_of member.record
+        ≡ at_epoch (record_of draft.record) target.now.epoch (wanted target.now.owners draft.id)) }
+    ensures granted { IfOk result (λ member. member.granted ≡ wanted target.now.owners draft.id) }
+{
+    let granted = target.of(draft.id.as_str()).copy_set(alloc)?;
+    let sent = target.of(draft.id.as_str()).copy_set(alloc)?;
+    Ok(Member {
+        id: draft.id,
+        record: draft.record.started(target.epoch(), sent),
+        granted,
+    })
 }
 
 /// The target of a group of one member at an epoch, where the former target is known. Fails where memory is short.

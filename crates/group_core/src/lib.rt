@@ -20,6 +20,3 @@ pub use kip_msgs::HeartbeatRequest;
 pub use laws::{first_joins_are_answered, heartbeats_have_one_answer};
 pub use outcome::{Outcome, Reply};
 pub use topic_meta::Image;
-
-#[cfg(test)]
-mod tests;

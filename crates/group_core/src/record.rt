@@ -33,7 +33,7 @@ pub struct Record {
 impl Record {
     ghost use Rattle.std.specs.Prelude.{◌≡◌, IfOk, string_bytes};
     ghost use Rattle.std.specs.Option.{option_map, option_copied};
-    ghost use Rattle.group_types.specs.Join.{new_record};
+    ghost use Rattle.group_types.specs.Join.{record_of_join};
     ghost use Rattle.kip_msgs.specs.Views.{heartbeat_request_value};
     ghost use Rattle.group_core.specs.FirstMember.{at_epoch};
     ghost use Rattle.group_core.specs.Members.{record_of};
@@ -47,7 +47,7 @@ impl Record {
         stamp: Stamp,
         now: Moment,
     ) -> Result<Record, AllocError>
-        ensures { IfOk result (λ r. record_of r ≡ new_record (heartbeat_of (heartbeat_request_value request.now)) stamp now) }
+        ensures { IfOk result (λ r. record_of r ≡ record_of_join None (heartbeat_of (heartbeat_request_value request.now)) stamp now) }
     {
         Ok(Record {
             instance: given::text_of(alloc, request.instance_id)?,

@@ -1,4 +1,5 @@
 use Rattle.std.proofs.Common.{◌≡◌, ◌++◌, List}
+use Rattle.std.specs.Slice.Iter.{iter_rest}
 use Rattle.group_types.specs.declared.partition.Partition.{Partition}
 use Rattle.group_types.specs.Sets.{in_order}
 use Rattle.kip_msgs.specs.Topics.{topic_partitions_values}
@@ -7,5 +8,5 @@ use Rattle.coord_node.proofs.listing.topics_of.Given as goal
 
 abbrev pub invariant-loop-partition : goal.invariant-loop-partition
 invariant-loop-partition l =
-    (done : List Partition) × (in_order l.set ≡ done ++ l.partition-iterator)
+    (done : List Partition) × (in_order l.set ≡ done ++ iter_rest l.partition-iterator)
     × (topic_partitions_values l.topics.items ≡ listed done)
