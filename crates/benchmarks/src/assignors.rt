@@ -1,8 +1,10 @@
 //! The assignors, over 100,000 partitions.
 
+ghost use Rattle.std.specs.Prelude.{◌≤◌, length};
+
 use crate::command_line::Mode;
 use crate::fault::Fault;
-use crate::group::{Wish, seats_of, subs_of, view_of};
+use crate::group::{Seat, Wish, seats_of, subs_of, view_of};
 use crate::print::{print_growth_of, print_work};
 use crate::table::head_line;
 use crate::work::Work;
@@ -67,20 +69,38 @@ fn owned_in(spread: &Spread, subs: &Subs<'_>) -> usize {
 
 /// Prints what the assignors do, or how long they take.
 pub fn print_assignors(rt: &(impl AllocGlobal + Clock + Print), mode: Mode) -> Result<(), Fault> {
-    let alloc = rt.alloc();
-    rt.println(head_line(alloc, mode, "assignor", "members", "partitions")?)?;
-    let one = view_of(alloc, 1, 100_000)?;
+    rt.println(head_line(rt.alloc(), mode, "assignor", "members", "partitions")?)?;
+    print_over_one(rt, mode)?;
+    print_over_many(rt, mode)
+}
+
+/// Prints the groups that subscribe one topic.
+fn print_over_one(rt: &(impl AllocGlobal + Clock + Print), mode: Mode) -> Result<(), Fault> {
+    let view = view_of(rt.alloc(), 1, 100_000)?;
     for members in SIZES {
-        print_one_topic(rt, mode, &one, members)?;
-    }
-    let many = view_of(alloc, 100, 1_000)?;
-    for members in SIZES {
-        print_many_topics(rt, mode, &many, members)?;
+        print_one_topic(rt, mode, &view, members)?;
     }
     match mode {
         Mode::Counts => Ok(()),
-        Mode::Times => print_growth(rt, &one),
+        Mode::Times => print_growth(rt, &view),
     }
+}
+
+/// Prints the groups that subscribe most of 100 topics.
+fn print_over_many(rt: &(impl AllocGlobal + Clock + Print), mode: Mode) -> Result<(), Fault> {
+    let view = view_of(rt.alloc(), 100, 1_000)?;
+    for members in SIZES {
+        print_many_topics(rt, mode, &view, members)?;
+    }
+    Ok(())
+}
+
+/// What is assigned: a view to some of the members that have these seats, after former owners.
+#[derive(Clone, Copy)]
+struct Setting<'a> {
+    seats: &'a [Seat],
+    view: &'a View,
+    former: &'a Spread,
 }
 
 /// Prints the groups of so many members, of one more and of one fewer, that subscribe one topic.
@@ -90,22 +110,48 @@ fn print_one_topic(
     view: &View,
     members: u16,
 ) -> Result<(), Fault> {
-    let alloc = rt.alloc();
-    let (fewer, more) = (members.saturating_sub(1), members.saturating_add(1));
-    let seats = seats_of(alloc, more, 1, Wish::All)?;
-    let subs = subs_of(alloc, &seats, members)?;
-    let nothing = Spread::empty(alloc);
-    let range = over(alloc, Range, &nothing, &subs, view);
-    print_assigned(rt, mode, "range, 1 topic", &range)?;
-    let uniform = over(alloc, Uniform, &nothing, &subs, view);
-    print_assigned(rt, mode, "uniform, 1 topic", &uniform)?;
-    let former = Uniform.assign(alloc, &nothing, &subs, view)?;
-    let subs = subs_of(alloc, &seats, more)?;
-    let joined = over(alloc, Uniform, &former, &subs, view);
-    print_assigned(rt, mode, "uniform, 1 topic, a member more", &joined)?;
-    let subs = subs_of(alloc, &seats, fewer)?;
-    let left = over(alloc, Uniform, &former, &subs, view);
-    print_assigned(rt, mode, "uniform, 1 topic, a member fewer", &left)
+    let more = members.saturating_add(1);
+    let seats = seats_of(rt.alloc(), more, 1, Wish::All)?;
+    let setting = Setting {
+        seats: seats.as_slice(),
+        view,
+        former: &Spread::empty(rt.alloc()),
+    };
+    print_assigned(rt, mode, "range, 1 topic", Range, setting, members)?;
+    print_assigned(rt, mode, "uniform, 1 topic", Uniform, setting, members)?;
+    print_changes(rt, mode, setting, members, more)
+}
+
+/// Prints the groups of more members and of one member fewer, after the owners under uniform.
+fn print_changes(
+    rt: &(impl AllocGlobal + Clock + Print),
+    mode: Mode,
+    setting: Setting<'_>,
+    members: u16,
+    more: u16,
+) -> Result<(), Fault>
+    requires members { members ≤ length setting.seats.now }
+    requires more { more ≤ length setting.seats.now }
+{
+    let former = &spread_of(rt.alloc(), Uniform, setting, members)?;
+    let setting = Setting { former, ..setting };
+    let fewer = members.saturating_sub(1);
+    print_assigned(
+        rt,
+        mode,
+        "uniform, 1 topic, a member more",
+        Uniform,
+        setting,
+        more,
+    )?;
+    print_assigned(
+        rt,
+        mode,
+        "uniform, 1 topic, a member fewer",
+        Uniform,
+        setting,
+        fewer,
+    )
 }
 
 /// Prints a group of so many members, each of which subscribes three of four topics.
@@ -115,18 +161,55 @@ fn print_many_topics(
     view: &View,
     members: u16,
 ) -> Result<(), Fault> {
-    let alloc = rt.alloc();
-    let seats = seats_of(alloc, members, 100, Wish::ThreeOfFour)?;
-    let subs = subs_of(alloc, &seats, members)?;
-    let nothing = Spread::empty(alloc);
-    let range = over(alloc, Range, &nothing, &subs, view);
-    print_assigned(rt, mode, "range, 100 topics", &range)?;
-    let uniform = over(alloc, Uniform, &nothing, &subs, view);
-    print_assigned(rt, mode, "uniform, 100 topics", &uniform)
+    let seats = seats_of(rt.alloc(), members, 100, Wish::ThreeOfFour)?;
+    let setting = Setting {
+        seats: seats.as_slice(),
+        view,
+        former: &Spread::empty(rt.alloc()),
+    };
+    print_assigned(rt, mode, "range, 100 topics", Range, setting, members)?;
+    print_assigned(rt, mode, "uniform, 100 topics", Uniform, setting, members)
+}
+
+/// The owners under an assignor of the first members, so many of them.
+fn spread_of<A: Assignor + Copy>(
+    alloc: Global,
+    assignor: A,
+    setting: Setting<'_>,
+    members: u16,
+) -> Result<Spread, Fault>
+    requires { members ≤ length setting.seats.now }
+{
+    let subs = subs_of(alloc, setting.seats, members)?;
+    Ok(assignor.assign(alloc, setting.former, &subs, setting.view)?)
+}
+
+/// Prints the line of an assignor that is given the first members, so many of them.
+fn print_assigned<A: Assignor + Copy>(
+    rt: &(impl AllocGlobal + Clock + Print),
+    mode: Mode,
+    name: &str,
+    assignor: A,
+    setting: Setting<'_>,
+    members: u16,
+) -> Result<(), Fault>
+    requires { members ≤ length setting.seats.now }
+{
+    let subs = &subs_of(rt.alloc(), setting.seats, members)?;
+    let work = over(rt.alloc(), assignor, setting.former, subs, setting.view);
+    print_work(rt, mode, name, subs.members().len(), &work)
 }
 
 /// Prints how many times as long 1,000 members take as 10: for range, and to look up one member's partitions.
 fn print_growth(rt: &(impl AllocGlobal + Clock + Print), view: &View) -> Result<(), Fault> {
+    print_growth_of_range(rt, view)?;
+    print_growth_of_looking(rt, view)
+}
+
+fn print_growth_of_range(
+    rt: &(impl AllocGlobal + Clock + Print),
+    view: &View,
+) -> Result<(), Fault> {
     let alloc = rt.alloc();
     let seats = seats_of(alloc, 1_000, 1, Wish::All)?;
     let (few, many) = (subs_of(alloc, &seats, 10)?, subs_of(alloc, &seats, 1_000)?);
@@ -136,14 +219,26 @@ fn print_growth(rt: &(impl AllocGlobal + Clock + Print), view: &View) -> Result<
         "range, 1 topic, 1000 members against 10",
         &over(alloc, Range, &nothing, &few, view),
         &over(alloc, Range, &nothing, &many, view),
-    )?;
-    let few_spread = Range.assign(alloc, &nothing, &few, view)?;
-    let many_spread = Range.assign(alloc, &nothing, &many, view)?;
+    )
+}
+
+fn print_growth_of_looking(
+    rt: &(impl AllocGlobal + Clock + Print),
+    view: &View,
+) -> Result<(), Fault> {
+    let seats = seats_of(rt.alloc(), 1_000, 1, Wish::All)?;
+    let setting = Setting {
+        seats: seats.as_slice(),
+        view,
+        former: &Spread::empty(rt.alloc()),
+    };
+    let few = spread_of(rt.alloc(), Range, setting, 10)?;
+    let many = spread_of(rt.alloc(), Range, setting, 1_000)?;
     print_growth_of(
         rt,
         "a member's partitions, 1000 members against 10",
-        &last_looked_up(&few_spread, &few),
-        &last_looked_up(&many_spread, &many),
+        &looked_up(&few, &seats[9]),
+        &looked_up(&many, &seats[999]),
     )
 }
 
@@ -163,24 +258,8 @@ fn over<'a, 'm, A: Assignor + Copy>(
     }
 }
 
-/// The look-up of the last member's partitions.
-fn last_looked_up<'a>(spread: &'a Spread, subs: &'a Subs<'_>) -> Looked<'a> {
-    let members = subs.members();
-    let last = members.last();
-    let id = match last {
-        Some(member) => member.id.as_str(),
-        None => "",
-    };
+/// The look-up of a member's partitions.
+fn looked_up<'a>(spread: &'a Spread, seat: &'a Seat) -> Looked<'a> {
+    let id = seat.id();
     Looked { spread, id }
-}
-
-/// Prints the line of an assignor's work.
-fn print_assigned<A: Assignor + Copy>(
-    rt: &(impl AllocGlobal + Clock + Print),
-    mode: Mode,
-    name: &str,
-    assigned: &Assigned<'_, '_, A>,
-) -> Result<(), Fault> {
-    let members = assigned.subs.members().len();
-    print_work(rt, mode, name, members, assigned)
 }

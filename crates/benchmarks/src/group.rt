@@ -38,6 +38,13 @@ pub struct Seat {
     names: NameSet,
 }
 
+impl Seat {
+    /// The member's id.
+    pub fn id(&self) -> &str {
+        self.id.as_str()
+    }
+}
+
 /// The topic's name.
 fn topic_name(alloc: Global, topic: u16) -> Result<String, AllocError> {
     format!(in alloc; "topic-{topic:05}")

@@ -4,7 +4,7 @@
 //! `times` it prints how long each measured work takes. What is measured is a [`Work`](work::Work), and how
 //! is [`pace_of`](timing::pace_of). Each part of the coordinator has a file of its works, which prints
 //! their lines: [`print_messages`](wire::print_messages), [`print_assignors`](assignors::print_assignors) and
-//! [`print_topics`](topics::print_topics).
+//! [`print_topics`](topics::print_topics). With the counts, [`print_samples`](samples::print_samples) shows what times look like.
 #![tactic(auto)]
 
 mod assignors;
@@ -15,6 +15,7 @@ mod messages;
 mod pace;
 mod partitions;
 mod print;
+mod samples;
 mod table;
 mod timing;
 mod topics;
@@ -25,9 +26,6 @@ use command_line::Mode;
 use fault::Fault;
 use std::process::ExitCode;
 use std::rt::{Clock, Env};
-
-#[cfg(test)]
-mod tests;
 
 fn main(rt: HostRuntime) -> ExitCode {
     match run(&rt) {
@@ -44,5 +42,9 @@ fn run(rt: &(impl AllocGlobal + Clock + Env + Print)) -> Result<(), Fault> {
     let mode = command_line::read(rt)?;
     wire::print_messages(rt, mode)?;
     assignors::print_assignors(rt, mode)?;
-    topics::print_topics(rt, mode)
+    topics::print_topics(rt, mode)?;
+    match mode {
+        Mode::Counts => samples::print_samples(rt),
+        Mode::Times => Ok(()),
+    }
 }

@@ -58,20 +58,22 @@ impl Work for Viewed<'_> {
 
 /// Prints what looking up and viewing the topics of a full image gives, or how long it takes.
 pub fn print_topics(rt: &(impl AllocGlobal + Clock + Print), mode: Mode) -> Result<(), Fault> {
-    let alloc = rt.alloc();
-    rt.println(head_line(alloc, mode, "image", "topics", "partitions")?)?;
-    let image = image_of(alloc, TOPICS, 100)?;
-    let names = names_of(alloc, TOPICS, Wish::All, 0)?;
-    let (image, names) = (&image, &names);
-    print_work(
-        rt,
-        mode,
-        "find, each topic",
-        image.len(),
-        &Found { image, names },
-    )?;
+    rt.println(head_line(rt.alloc(), mode, "image", "topics", "partitions")?)?;
+    let image = image_of(rt.alloc(), TOPICS, 100)?;
+    let names = names_of(rt.alloc(), TOPICS, Wish::All, 0)?;
+    print_image(rt, mode, &image, &names)
+}
+
+fn print_image(
+    rt: &(impl AllocGlobal + Clock + Print),
+    mode: Mode,
+    image: &Image,
+    names: &NameSet,
+) -> Result<(), Fault> {
+    let found = Found { image, names };
+    print_work(rt, mode, "find, each topic", image.len(), &found)?;
     let viewed = Viewed {
-        alloc,
+        alloc: rt.alloc(),
         image,
         names,
     };

@@ -6,9 +6,8 @@ use crate::command_line::Mode;
 use crate::fault::Fault;
 use crate::messages::{commit_reply, commit_request, heartbeat_reply, heartbeat_request};
 use crate::partitions::{of_reply, of_request};
-use crate::print::print_growth_of;
-use crate::table::{counts_line, head_line, pace_line};
-use crate::timing::pace_of;
+use crate::print::{print_counts, print_growth_of, print_pace};
+use crate::table::head_line;
 use crate::work::Work;
 use kip_msgs::{Api, Reply, Request, put_reply, put_request, read_reply, read_request};
 use std::alloc::{AllocError, Global};
@@ -92,77 +91,122 @@ pub fn print_messages(rt: &(impl AllocGlobal + Clock + Print), mode: Mode) -> Re
 
 /// Prints the heartbeats: one without arrays and tags, and some of few and of many partitions.
 fn print_heartbeats(rt: &(impl AllocGlobal + Clock + Print), mode: Mode) -> Result<(), Fault> {
-    let alloc = rt.alloc();
-    let requests = [
+    for (name, owned) in [
         ("heartbeat request, no arrays", None),
         ("heartbeat request, 1 partition", Some(1)),
         ("heartbeat request, 10 partitions", Some(10)),
         ("heartbeat request, 1000 partitions", Some(1_000)),
-    ];
-    for (name, owned) in requests {
-        print_request(rt, mode, name, &heartbeat_request(alloc, owned)?)?;
+    ] {
+        print_heartbeat_request(rt, mode, name, owned)?;
     }
-    let replies = [
+    for (name, assigned) in [
         ("heartbeat reply, no arrays", None),
         ("heartbeat reply, 1 partition", Some(1)),
         ("heartbeat reply, 10 partitions", Some(10)),
         ("heartbeat reply, 1000 partitions", Some(1_000)),
-    ];
-    for (name, assigned) in replies {
-        print_reply(
-            rt,
-            mode,
-            name,
-            Api::Heartbeat,
-            &heartbeat_reply(alloc, assigned)?,
-        )?;
+    ] {
+        print_heartbeat_reply(rt, mode, name, assigned)?;
     }
     Ok(())
+}
+
+fn print_heartbeat_request(
+    rt: &(impl AllocGlobal + Clock + Print),
+    mode: Mode,
+    name: &str,
+    owned: Option<u16>,
+) -> Result<(), Fault> {
+    let request = heartbeat_request(rt.alloc(), owned)?;
+    print_request(rt, mode, name, &request)
+}
+
+fn print_heartbeat_reply(
+    rt: &(impl AllocGlobal + Clock + Print),
+    mode: Mode,
+    name: &str,
+    assigned: Option<u16>,
+) -> Result<(), Fault> {
+    let reply = heartbeat_reply(rt.alloc(), assigned)?;
+    print_reply(rt, mode, name, Api::Heartbeat, &reply)
 }
 
 /// Prints the commits of one partition and of many.
 fn print_commits(rt: &(impl AllocGlobal + Clock + Print), mode: Mode) -> Result<(), Fault> {
-    let alloc = rt.alloc();
-    let requests = [
-        ("commit request, 1 partition", 1),
-        ("commit request, 1000 partitions", 1_000),
-    ];
-    for (name, partitions) in requests {
-        print_request(rt, mode, name, &commit_request(alloc, partitions)?)?;
-    }
-    let replies = [
-        ("commit reply, 1 partition", 1),
-        ("commit reply, 1000 partitions", 1_000),
-    ];
-    for (name, partitions) in replies {
-        print_reply(
-            rt,
-            mode,
-            name,
-            Api::Commit,
-            &commit_reply(alloc, partitions)?,
-        )?;
-    }
-    Ok(())
+    print_commit_request(rt, mode, "commit request, 1 partition", 1)?;
+    print_commit_request(rt, mode, "commit request, 1000 partitions", 1_000)?;
+    print_commit_reply(rt, mode, "commit reply, 1 partition", 1)?;
+    print_commit_reply(rt, mode, "commit reply, 1000 partitions", 1_000)
+}
+
+fn print_commit_request(
+    rt: &(impl AllocGlobal + Clock + Print),
+    mode: Mode,
+    name: &str,
+    partitions: u16,
+) -> Result<(), Fault> {
+    let request = commit_request(rt.alloc(), partitions)?;
+    print_request(rt, mode, name, &request)
+}
+
+fn print_commit_reply(
+    rt: &(impl AllocGlobal + Clock + Print),
+    mode: Mode,
+    name: &str,
+    partitions: u16,
+) -> Result<(), Fault> {
+    let reply = commit_reply(rt.alloc(), partitions)?;
+    print_reply(rt, mode, name, Api::Commit, &reply)
 }
 
 /// Prints how many times as long 1,000 partitions take as 10, in a heartbeat request.
 fn print_growth(rt: &(impl AllocGlobal + Clock + Print)) -> Result<(), Fault> {
-    let alloc = rt.alloc();
-    let few = heartbeat_request(alloc, Some(10))?;
-    let many = heartbeat_request(alloc, Some(1_000))?;
-    let (few_body, many_body) = (body_of(alloc, &few)?, body_of(alloc, &many)?);
+    let few = heartbeat_request(rt.alloc(), Some(10))?;
+    print_growth_from(rt, &few)
+}
+
+fn print_growth_from(
+    rt: &(impl AllocGlobal + Clock + Print),
+    few: &Request<'_>,
+) -> Result<(), Fault>
+    requires { IsWritableRequest (request_value few.now) }
+{
+    let many = heartbeat_request(rt.alloc(), Some(1_000))?;
+    print_growth_between(rt, few, &many)
+}
+
+fn print_growth_between(
+    rt: &(impl AllocGlobal + Clock + Print),
+    few: &Request<'_>,
+    many: &Request<'_>,
+) -> Result<(), Fault>
+    requires few { IsWritableRequest (request_value few.now) }
+    requires many { IsWritableRequest (request_value many.now) }
+{
     print_growth_of(
         rt,
         "heartbeat request written, 1000 partitions against 10",
-        &RequestWritten { request: &few },
-        &RequestWritten { request: &many },
+        &RequestWritten { request: few },
+        &RequestWritten { request: many },
     )?;
+    print_growth_of_reading(rt, few, many)
+}
+
+fn print_growth_of_reading(
+    rt: &(impl AllocGlobal + Clock + Print),
+    few: &Request<'_>,
+    many: &Request<'_>,
+) -> Result<(), Fault>
+    requires few { IsWritableRequest (request_value few.now) }
+    requires many { IsWritableRequest (request_value many.now) }
+{
+    let alloc = rt.alloc();
+    let few = body_of(alloc, few)?;
+    let many = body_of(alloc, many)?;
     print_growth_of(
         rt,
         "heartbeat request read, 1000 partitions against 10",
-        &read_of(alloc, few_body.as_slice()),
-        &read_of(alloc, many_body.as_slice()),
+        &read_of(alloc, few.as_slice()),
+        &read_of(alloc, many.as_slice()),
     )
 }
 
@@ -233,18 +277,11 @@ fn print_message<W: Work, R: Work>(
     requires written { W.can_be_done written.now }
     requires read { R.can_be_done read.now }
 {
-    let alloc = rt.alloc();
     match mode {
-        Mode::Counts => {
-            let partitions = read.once(&mut Vec::new(alloc))?;
-            rt.println(counts_line(alloc, name, bytes, partitions)?)?;
-        }
+        Mode::Counts => print_counts(rt, name, bytes, read),
         Mode::Times => {
-            let pace = pace_of(rt, written)?;
-            rt.println(pace_line(alloc, name, "written", bytes, pace)?)?;
-            let pace = pace_of(rt, read)?;
-            rt.println(pace_line(alloc, name, "read", bytes, pace)?)?;
+            print_pace(rt, name, "written", bytes, written)?;
+            print_pace(rt, name, "read", bytes, read)
         }
     }
-    Ok(())
 }

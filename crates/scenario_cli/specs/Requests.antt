@@ -5,7 +5,7 @@ use Rattle.group_types.specs.declared.limits.TheConstants.{SMALLEST_BODY, LARGES
 use Rattle.group_types.specs.declared.stamp.Stamp.{Stamp}
 use Rattle.coord_node.specs.Replies.{IsFrame}
 use Rattle.coord_node.specs.Coordinator.{Coordinator, Frame, Answer, Replied, Closes, Done}
-use Rattle.coord_node.specs.Steps.{Step}
+use Rattle.coord_node.specs.Today.{StepToday}
 
 -- A frame is an INT32 size and a body of that many bytes (Kafka protocol guide, "Protocol"), within the limits.
 pub record IsRequestFrame (body frame : List ℕ) : Type 0 where
@@ -16,7 +16,7 @@ pub record IsRequestFrame (body frame : List ℕ) : Type 0 where
 -- the coordinator answers the body of a frame, and other bytes close
 abbrev pub BytesStep : Coordinator → List ℕ → Stamp → ℕ → Answer → Coordinator → Type 0
 BytesStep c bytes stamp moment answer new =
-    ((body : List ℕ) × IsRequestFrame body bytes × Step c (Frame body stamp moment) answer new)
+    ((body : List ℕ) × IsRequestFrame body bytes × StepToday c (Frame body stamp moment) answer new)
     ⊎ (((body : List ℕ) → ¬ IsRequestFrame body bytes) × (answer ≡ Closes) × (new ≡ c))
 
 -- the frame of a reply in hex, else `close`
