@@ -3,7 +3,7 @@ use Rattle.std.proofs.Common.{le-ltb, inl, ◌≡◌, ℕ, ◌≤◌, ◌<◌, �
 use Rattle.std.specs.FinMap as finite
 use Rattle.std.proofs.lemmas.Bool.Decides.{Decides-ltb}
 use Rattle.group_types.specs.declared.code.Code.TheVariants.{CoordinatorNotAvailable}
-use Rattle.group_types.specs.declared.limits.TheConstants.{MOST_GROUPS}
+use Rattle.group_types.specs.Limits.{MOST_GROUPS}
 use Rattle.group_types.specs.declared.stamp.Stamp.{Stamp}
 use Rattle.group_types.specs.HeartbeatStep.{Arrival}
 use Rattle.group_types.specs.Group.{Group, new_group}

@@ -2,6 +2,7 @@
 use Rattle.std.proofs.Common.{◌≡◌, ℕ, zero, suc, ◌+◌, ◌*◌, ◌≤◌, ◌<◌, ◌^◌, ℤ, Bool, true, false, cond, List, [], ◌∷◌, ◌++◌, length, Option, Some, None, All, IfSome, refl, arith, nat_lt, ◌%◌, ◌/◌, length-append}
 use Rattle.std.specs.List.{AllByRecursion, flat_map}
 use Rattle.group_types.specs.declared.partition.Partition.{Partition}
+use Rattle.group_types.specs.Limits.{MOST_PARTITIONS}
 use Rattle.flex_wire.specs.Spelling.{signed, int16, int32, varint, varint_groups, compact_string, compact_nullable_string, FitsNullableText, tagged_fields, array_count, mark}
 use Rattle.flex_wire.specs.Composed.{array}
 use Rattle.kip_msgs.specs.Values.{TopicPartitionsValue, AssignmentValue, HeartbeatReplyValue, ResponseHeaderValue, heartbeat_reply}
@@ -91,8 +92,8 @@ length-assignment a fits each none =
 
 -- an assignment of a million partitions at most, without tagged fields
 pub record IsSmall (a : AssignmentValue) : Type 0 where
-  pub topics : length a.topic_partitions ≤ 1000000
-  pub indexes : indexes_in a.topic_partitions ≤ 1000000
+  pub topics : length a.topic_partitions ≤ MOST_PARTITIONS
+  pub indexes : indexes_in a.topic_partitions ≤ MOST_PARTITIONS
   pub each : HaveNoTags a.topic_partitions
   pub tags : a.tags ≡ []
 

@@ -1,5 +1,5 @@
 -- An event has one answer in a node, and leaves one node.
-use Rattle.std.proofs.Common.{◌≡◌, ℕ, ℤ, Bool, true, false, List, ◌++◌, length, Option, Some, None, inl, inr, pos, refl, sym, ap, subst, ◌∙◌}
+use Rattle.std.proofs.Common.{◌≡◌, ℕ, Bool, true, false, List, ◌++◌, length, Option, Some, None, inl, inr, pos, refl, sym, ap, subst, ◌∙◌}
 use Rattle.std.specs.FinMap as finite
 use Rattle.flex_wire.specs.Spelling.{int32}
 use Rattle.kip_msgs.specs.Values.{RequestValue, ReplyValue, heartbeat_request, commit_request}

@@ -3,6 +3,7 @@ use Rattle.std.proofs.Common.{ℕ, suc, zero, ◌≤◌, ◌<◌, ◌^◌, ℤ, 
 use Rattle.group_types.specs.declared.code.Code.{Code}
 use Rattle.group_types.specs.declared.code.Code.TheVariants.{NoError, UnknownTopicOrPartition, OffsetMetadataTooLarge, CoordinatorNotAvailable, UnknownMemberId, InvalidRequest, GroupIdNotFound, GroupMaxSizeReached, FencedMemberEpoch, UnreleasedInstanceId, UnsupportedAssignor, StaleMemberEpoch}
 use Rattle.group_types.specs.Code.{code_text}
+use Rattle.group_types.specs.Limits.{LONGEST_STRING, MOST_PARTITIONS}
 use Rattle.group_types.specs.Sets.{in_order}
 use Rattle.group_types.specs.Partition.{Partitions}
 use Rattle.group_types.specs.HeartbeatStep.{Reply}
@@ -17,14 +18,14 @@ use Rattle.coord_node.proofs.LengthLemmas.{HaveNoTags, HaveNoTags-listed, IsSmal
 
 -- what a reply of a group keeps to: its id's length, and how many partitions it assigns
 pub record IsLimited (r : Reply) : Type 0 where
-  pub member : IfSome r.member (λ id. length id ≤ 32767)
-  pub assignment : IfSome r.assignment (λ set. length (in_order set) ≤ 1000000)
+  pub member : IfSome r.member (λ id. length id ≤ LONGEST_STRING)
+  pub assignment : IfSome r.assignment (λ set. length (in_order set) ≤ MOST_PARTITIONS)
 
 pub FitsTaggedFields-nil : FitsTaggedFields []
 FitsTaggedFields-nil = record { count = omega arith; each = λ k d h. absurd (omega arith); rising = λ k h. omega arith }
 
 -- an entry has no more indexes than its listing
-writable_topics : (ts : List TopicPartitionsValue) (most : ℕ) → indexes_in ts ≤ most → most ≤ 1000000 → HaveNoTags ts → All IsWritableTopic ts
+writable_topics : (ts : List TopicPartitionsValue) (most : ℕ) → indexes_in ts ≤ most → most ≤ MOST_PARTITIONS → HaveNoTags ts → All IsWritableTopic ts
 writable_topics [] most few small none k d h = absurd (omega arith)
 writable_topics (t ∷ ts) most few small none zero d h =
     record { partitions = omega arith; tags = rw (none.0) FitsTaggedFields-nil }
@@ -45,7 +46,7 @@ IsShort-text UnreleasedInstanceId = omega arith
 IsShort-text UnsupportedAssignor = omega arith
 IsShort-text StaleMemberEpoch = tt
 
-IsSmall-assignment : (set : Partitions) → length (in_order set) ≤ 1000000 → IsSmall (assignment_value set)
+IsSmall-assignment : (set : Partitions) → length (in_order set) ≤ MOST_PARTITIONS → IsSmall (assignment_value set)
 IsSmall-assignment set few =
     record {
       topics = omega (arith, length-listed (in_order set));
@@ -54,21 +55,21 @@ IsSmall-assignment set few =
       tags = refl;
     }
 
-IsWritableAssignment-set : (set : Partitions) → length (in_order set) ≤ 1000000 → IsWritableAssignment (assignment_value set)
+IsWritableAssignment-set : (set : Partitions) → length (in_order set) ≤ MOST_PARTITIONS → IsWritableAssignment (assignment_value set)
 IsWritableAssignment-set set few =
     record {
       topic_partitions = record {
         count = omega (arith, length-listed (in_order set));
-        each = writable_topics (listed (in_order set)) 1000000 (omega (arith, indexes_in-listed (in_order set))) (omega arith) (HaveNoTags-listed (in_order set));
+        each = writable_topics (listed (in_order set)) MOST_PARTITIONS (omega (arith, indexes_in-listed (in_order set))) (omega arith) (HaveNoTags-listed (in_order set));
       };
       tags = FitsTaggedFields-nil;
     }
 
-small_assignment : (a : Option Partitions) → IfSome a (λ set. length (in_order set) ≤ 1000000) → IfSome (option_map assignment_value a) IsSmall
+small_assignment : (a : Option Partitions) → IfSome a (λ set. length (in_order set) ≤ MOST_PARTITIONS) → IfSome (option_map assignment_value a) IsSmall
 small_assignment None few = tt
 small_assignment (Some set) few = IsSmall-assignment set few
 
-writable_assignment : (a : Option Partitions) → IfSome a (λ set. length (in_order set) ≤ 1000000) → IfSome (option_map assignment_value a) IsWritableAssignment
+writable_assignment : (a : Option Partitions) → IfSome a (λ set. length (in_order set) ≤ MOST_PARTITIONS) → IfSome (option_map assignment_value a) IsWritableAssignment
 writable_assignment None few = tt
 writable_assignment (Some set) few = IsWritableAssignment-set set few
 

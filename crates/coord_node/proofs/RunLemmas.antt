@@ -3,7 +3,6 @@ use Rattle.std.proofs.Common.{◌<◌, length, drop, slice_index_or, arith, ◌�
 use Rattle.std.specs.List.{flat_map}
 use Rattle.coord_node.specs.declared.event.NodeEvent.{NodeEvent}
 use Rattle.coord_node.specs.Coordinator.{Coordinator, Event, Answer, bytes_of}
-use Rattle.coord_node.specs.Steps.{RunBy}
 use Rattle.coord_node.specs.Today.{StepToday, RunToday}
 use Rattle.coord_node.specs.Events.{event_value, Runs}
 

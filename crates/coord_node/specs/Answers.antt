@@ -2,7 +2,7 @@
 use Rattle.std.specs.Prelude.{◌≡◌, ◌⊎◌, ℕ, ◌<◌, ℤ, List, ◌++◌, length}
 use Rattle.kip_msgs.specs.Values.{RequestValue}
 use Rattle.kip_msgs.specs.Heads.{HasUnknownKey, HasUnknownVersion}
-use Rattle.group_types.specs.declared.limits.TheConstants.{SMALLEST_BODY, LARGEST_BODY}
+use Rattle.group_types.specs.Limits.{SMALLEST_BODY, LARGEST_BODY}
 use Rattle.group_types.specs.declared.stamp.Stamp.{Stamp}
 use Rattle.group_types.specs.HeartbeatStep.{Arrival}
 use Rattle.group_types.specs.Group.{Group}

@@ -3,7 +3,7 @@ use Rattle.std.specs.Prelude.{◌≡◌, ◌⊎◌, ℕ, ◌≤◌, ℤ, Bool, t
 use Rattle.std.specs.FinMap as finite
 use Rattle.kip_msgs.specs.Values.{RequestValue, ReplyValue, heartbeat_request, commit_request}
 use Rattle.kip_msgs.specs.Spelling.{SpellsRequest}
-use Rattle.group_types.specs.declared.limits.TheConstants.{SMALLEST_BODY, LARGEST_BODY, MOST_GROUPS}
+use Rattle.group_types.specs.Limits.{SMALLEST_BODY, LARGEST_BODY, MOST_GROUPS}
 use Rattle.group_types.specs.declared.code.Code.{Code}
 use Rattle.group_types.specs.declared.code.Code.TheVariants.{NoError, UnknownTopicOrPartition, OffsetMetadataTooLarge, CoordinatorNotAvailable, UnknownMemberId, InvalidRequest, GroupIdNotFound, GroupMaxSizeReached, FencedMemberEpoch, UnreleasedInstanceId, UnsupportedAssignor, StaleMemberEpoch}
 use Rattle.group_types.specs.declared.stamp.Stamp.{Stamp}

@@ -7,6 +7,7 @@ use Rattle.std.proofs.lemmas.Bool.{cases_eq, eq-eqb, ne_eqb, leb-true, le-leb, f
 use Rattle.std.proofs.lemmas.Int.{ints}
 use Rattle.std.proofs.lemmas.Str.{IsUtf8-from_is_utf8, is_utf8-from_IsUtf8}
 use Rattle.flex_wire.specs.declared.fault.WireFault.TheVariants.{BadCount, TooLong, NotUtf8}
+use Rattle.flex_wire.specs.Limits.{LONGEST_STRING}
 use Rattle.flex_wire.specs.Spelling.{varint, signed, compact_string, compact_nullable_string, nullable_string, FitsText, FitsNullableText}
 use Rattle.flex_wire.specs.Reading.{◌>>=◌, demand, bytes_at, varint_at, signed_at, text_at, compact_text_at, compact_string_at, compact_nullable_string_at, nullable_text_at, nullable_string_at}
 use Rattle.flex_wire.specs.Laws.{AreBytes, IsField}
@@ -43,21 +44,21 @@ text_is_none size bytes front rest cut none =
     let no_text : is_utf8 front ≡ false = false_from_ne_true (is_utf8 front) (λ yes. none (IsUtf8-from_is_utf8 front yes)) in
     rw (cut, no_text) refl
 
-compact_text_taken : (code : ℕ) (bytes : List ℕ) (p : List ℕ × List ℕ) → compact_text_at code bytes ≡ Ok p → (code - 1 ≤ 32767) × IsTextOf (code - 1) bytes p
+compact_text_taken : (code : ℕ) (bytes : List ℕ) (p : List ℕ × List ℕ) → compact_text_at code bytes ≡ Ok p → (code - 1 ≤ LONGEST_STRING) × IsTextOf (code - 1) bytes p
 unfolding compact_text_at
 compact_text_taken code bytes p e =
-    let d = demand_ok (nat_le (code - 1) 32767) TooLong (text_at (code - 1) bytes) p e in
+    let d = demand_ok (nat_le (code - 1) LONGEST_STRING) TooLong (text_at (code - 1) bytes) p e in
     (leb-true _ _ d.0, text_taken (code - 1) bytes p d.1)
 
 compact_text_again : (text rest : List ℕ) → FitsText text → compact_text_at (length text + 1) (text ++ rest) ≡ Ok (text, rest)
 unfolding compact_text_at
 compact_text_again text rest fits =
     let size : length text + 1 - 1 ≡ length text = omega arith in
-    let short : nat_le (length text) 32767 ≡ true = le-leb _ _ fits.length in
+    let short : nat_le (length text) LONGEST_STRING ≡ true = le-leb _ _ fits.length in
     rw (size, short, text_again text rest fits.utf8) refl
 
 -- a varint and the text behind it
-compact_string_joined : (bytes after : List ℕ) (code : ℕ) (p : List ℕ × List ℕ) → 0 < code → bytes ≡ varint code ++ after → (code - 1 ≤ 32767) × IsTextOf (code - 1) after p → FitsText p.0 × (bytes ≡ compact_string p.0 ++ p.1)
+compact_string_joined : (bytes after : List ℕ) (code : ℕ) (p : List ℕ × List ℕ) → 0 < code → bytes ≡ varint code ++ after → (code - 1 ≤ LONGEST_STRING) × IsTextOf (code - 1) after p → FitsText p.0 × (bytes ≡ compact_string p.0 ++ p.1)
 unfolding compact_string
 compact_string_joined bytes after code p some head text =
     let size : code ≡ length p.0 + 1 = omega (arith, text.1.len) in
@@ -110,10 +111,10 @@ compact_nullable_string_is_field = record {
   again = compact_nullable_string_again;
 }
 
-size_fits : (size : ℕ) → FitsSigned w16 (pos size) → size ≤ 32767
+size_fits : (size : ℕ) → FitsSigned w16 (pos size) → size ≤ LONGEST_STRING
 size_fits size fits = omega (arith, ints)
 
-fits_size : (size : ℕ) → size ≤ 32767 → FitsSigned w16 (pos size)
+fits_size : (size : ℕ) → size ≤ LONGEST_STRING → FitsSigned w16 (pos size)
 fits_size size le = omega (arith, ints)
 
 old_text_joined : (size : ℕ) (bytes : List ℕ) (p : List ℕ × List ℕ) → IsTextOf size bytes p → signed w16 (pos size) ++ bytes ≡ (signed w16 (pos (length p.0)) ++ p.0) ++ p.1

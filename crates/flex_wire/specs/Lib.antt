@@ -1,3 +1,4 @@
+pub mod Limits
 pub mod Spelling
 pub mod Reading
 pub mod Writing

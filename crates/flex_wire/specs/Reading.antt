@@ -7,6 +7,7 @@ use Rattle.std.specs.Int.{Width, w16, byte_len, from_be_bytes, cast_signed}
 use Rattle.std.specs.Str.{is_utf8}
 use Rattle.flex_wire.specs.declared.fault.WireFault.{WireFault}
 use Rattle.flex_wire.specs.declared.fault.WireFault.TheVariants.{Short, NotShortest, TooLong, NotUtf8, TagOrder, BadCount, BadMark, NoMemory}
+use Rattle.flex_wire.specs.Limits.{LONGEST_STRING}
 use Rattle.flex_wire.specs.Spelling.{Tagged}
 
 -- What reading gives: a value and the bytes after it, or the first fault.
@@ -83,7 +84,7 @@ text_at size bytes = do
 -- COMPACT_STRING: the text behind the UNSIGNED_VARINT that is its length and one.
 unfoldable pub compact_text_at : ℕ → List ℕ → Read (List ℕ)
 compact_text_at code bytes = do
-  _ ← demand (nat_le (code - 1) 32767) TooLong
+  _ ← demand (nat_le (code - 1) LONGEST_STRING) TooLong
   text_at (code - 1) bytes
 
 -- COMPACT_STRING: 0 is no length of one.

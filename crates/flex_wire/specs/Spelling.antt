@@ -5,6 +5,7 @@ use Rattle.std.specs.Prelude.{◌≡◌, ℤ, pos, negsuc, ℕ, zero, suc, ◌+�
 use Rattle.std.specs.Int.{Width, w16, w32, w64, to_be_bytes, cast_unsigned}
 use Rattle.std.specs.List.{flat_map}
 use Rattle.std.specs.List.Sorted.{IsStrictlyIncreasing}
+use Rattle.flex_wire.specs.Limits.{LONGEST_STRING}
 
 -- A signed number in two's complement, its highest byte first ("network byte order").
 unfoldable pub signed : Width → ℤ → List ℕ
@@ -44,9 +45,9 @@ varint n = varint_groups 4 n
 abbrev pub FitsVarint : ℕ → Type 0
 FitsVarint n = n < 2 ^ 32
 
--- COMPACT_STRING and its kin: UTF-8, of at most 32,767 bytes.
+-- COMPACT_STRING and its kin: UTF-8, not longer than the greatest INT16.
 pub record FitsText (text : List ℕ) : Type 0 where
-  pub length : length text ≤ 32767
+  pub length : length text ≤ LONGEST_STRING
   pub utf8 : IsUtf8 text
 
 -- COMPACT_STRING: the length and one as an UNSIGNED_VARINT, then the bytes.

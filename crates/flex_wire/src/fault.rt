@@ -10,7 +10,7 @@ use thiserror::Error;
 ///
 /// - `Short`: the bytes end inside the field.
 /// - `NotShortest`: a varint of several bytes ends in 00.
-/// - `TooLong`: a varint is 2^32 or more, or a text has over 32,767 bytes.
+/// - `TooLong`: a varint is 2^32 or more, or a text has over `LONGEST_STRING` bytes.
 /// - `NotUtf8`: a text isn't UTF-8.
 /// - `TagOrder`: a tag isn't above the one before it.
 /// - `BadCount`: a length or a count is null where null isn't allowed, or negative and not null.

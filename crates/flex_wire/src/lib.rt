@@ -27,7 +27,7 @@ pub use mark::{put_mark, take_mark};
 pub use tagged::{TaggedField, TaggedFields};
 pub use tags::{put_tags, take_tags};
 pub use text::{
-    put_compact_str, put_nullable_str, put_old_str, take_compact_str, take_nullable_str,
-    take_old_str,
+    LONGEST_STRING, put_compact_str, put_nullable_str, put_old_str, take_compact_str,
+    take_nullable_str, take_old_str,
 };
 pub use varint::{put_varint, take_varint};

@@ -13,8 +13,8 @@ use crate::varint::{put_varint, take_varint};
 use std::alloc::AllocError;
 use std::str::from_utf8;
 
-/// The greatest number of bytes that a text may have.
-const LONGEST: u32 = 32_767;
+/// The greatest number of bytes that a text may have (Kafka protocol guide, "Protocol Primitive Types").
+pub const LONGEST_STRING: usize = 32_767;
 
 #[tactic(auto, unfolding(crate::specs::Reading::text_at))]
 fn text_of(bytes: &[u8], size: usize) -> Result<(&str, &[u8]), WireFault>
@@ -33,11 +33,11 @@ fn compact_text_of(bytes: &[u8], code: u32) -> Result<(&str, &[u8]), WireFault>
     requires { 1 ≤ code }
     ensures { Reads (λ x. (x.0.now, x.1.now)) result (compact_text_at code bytes.now) }
 {
-    let size = code - 1;
-    if size > LONGEST {
+    let size = code as usize - 1;
+    if size > LONGEST_STRING {
         return Err(WireFault::TooLong);
     }
-    text_of(bytes, size as usize)
+    text_of(bytes, size)
 }
 
 #[tactic(auto, unfolding(crate::specs::Reading::compact_string_at))]
@@ -54,7 +54,7 @@ fn compact_str_of(bytes: &[u8]) -> Result<(&str, &[u8]), WireFault>
 /// Takes a COMPACT_STRING (protocol guide; KIP-482): a varint of the length in bytes and one, and
 /// that many bytes of UTF-8. The text is lent from `bytes`.
 ///
-/// Faults, in this order: those of the varint; `BadCount` at the varint 0; `TooLong` over 32,767
+/// Faults, in this order: those of the varint; `BadCount` at the varint 0; `TooLong` over [`LONGEST_STRING`]
 /// bytes; `Short`; `NotUtf8`.
 pub fn take_compact_str(bytes: &[u8]) -> Result<(&str, &[u8]), WireFault>
     ensures found { IfOk result (λ x. FitsText x.0.now × (bytes.now ≡ compact_string x.0.now ++ x.1.now)) }
@@ -122,18 +122,18 @@ pub fn take_old_str(bytes: &[u8]) -> Result<(Option<&str>, &[u8]), WireFault>
 
 #[tactic(auto, unfolding(crate::specs::Spelling::compact_string))]
 fn compact_str_up_to(out: &mut Vec<u8>, text: &str) -> Result<(), AllocError>
-    requires { length text.now ≤ 32767 }
+    requires { length text.now ≤ LONGEST_STRING }
     ensures { AppendsUpTo result out.old out.new (compact_string text.now) }
 {
     put_varint(out, text.len() as u32 + 1)?;
     out.extend_from_slice(text.as_bytes())
 }
 
-/// Appends a COMPACT_STRING (protocol guide; KIP-482) of at most 32,767 bytes.
+/// Appends a COMPACT_STRING (protocol guide; KIP-482) of at most [`LONGEST_STRING`] bytes.
 ///
 /// Fails only by want of memory, and then no byte has changed.
 pub fn put_compact_str(out: &mut Vec<u8>, text: &str) -> Result<(), AllocError>
-    requires { length text.now ≤ 32767 }
+    requires { length text.now ≤ LONGEST_STRING }
     ensures { Appends result out.old out.new (compact_string text.now) }
 {
     let before = out.len();
@@ -144,13 +144,13 @@ pub fn put_compact_str(out: &mut Vec<u8>, text: &str) -> Result<(), AllocError>
     done
 }
 
-/// Appends a COMPACT_NULLABLE_STRING (protocol guide; KIP-482), a text of at most 32,767 bytes or
+/// Appends a COMPACT_NULLABLE_STRING (protocol guide; KIP-482), a text of at most [`LONGEST_STRING`] bytes or
 /// null.
 ///
 /// Fails only by want of memory, and then no byte has changed.
 #[tactic(auto, unfolding(crate::specs::Spelling::compact_nullable_string))]
 pub fn put_nullable_str(out: &mut Vec<u8>, text: Option<&str>) -> Result<(), AllocError>
-    requires { ForSome text (λ t. length t.now ≤ 32767) }
+    requires { ForSome text (λ t. length t.now ≤ LONGEST_STRING) }
     ensures { Appends result out.old out.new (compact_nullable_string (option_copied text.entry)) }
 {
     match text {
@@ -161,19 +161,19 @@ pub fn put_nullable_str(out: &mut Vec<u8>, text: Option<&str>) -> Result<(), All
 
 #[tactic(auto, unfolding(crate::specs::Spelling::nullable_string))]
 fn old_str_up_to(out: &mut Vec<u8>, text: &str) -> Result<(), AllocError>
-    requires { length text.now ≤ 32767 }
+    requires { length text.now ≤ LONGEST_STRING }
     ensures { AppendsUpTo result out.old out.new (nullable_string (Some text.now)) }
 {
     put_i16(out, text.len() as i16)?;
     out.extend_from_slice(text.as_bytes())
 }
 
-/// Appends a NULLABLE_STRING (protocol guide), a text of at most 32,767 bytes or null.
+/// Appends a NULLABLE_STRING (protocol guide), a text of at most [`LONGEST_STRING`] bytes or null.
 ///
 /// Fails only by want of memory, and then no byte has changed.
 #[tactic(auto, unfolding(crate::specs::Spelling::nullable_string))]
 pub fn put_old_str(out: &mut Vec<u8>, text: Option<&str>) -> Result<(), AllocError>
-    requires { ForSome text (λ t. length t.now ≤ 32767) }
+    requires { ForSome text (λ t. length t.now ≤ LONGEST_STRING) }
     ensures { Appends result out.old out.new (nullable_string (option_copied text.entry)) }
 {
     let Some(text) = text else {

@@ -1,19 +1,19 @@
 -- The first join's answer, by its checks.
-use Rattle.std.proofs.Common.{◌≡◌, ℕ, suc, max, Bool, true, false, nat_le, refl, ap, subst, sym, ◌∙◌, List, [], ◌∷◌, Option, Some, None}
+use Rattle.std.proofs.Common.{◌≡◌, ℕ, suc, max, Bool, true, false, nat_le, refl, ap, subst, [], ◌∷◌, Option, Some, None}
 use Rattle.std.specs.FinMap as finite
 use Rattle.group_types.specs.declared.code.Code.TheVariants as codes
-use Rattle.group_types.specs.declared.limits.TheConstants.{GREATEST_EPOCH}
+use Rattle.group_types.specs.Limits.{GREATEST_EPOCH}
 use Rattle.group_types.specs.Text.{Text}
 use Rattle.group_types.specs.Sets.{nothing}
 use Rattle.group_types.specs.Topics.{Topics, view_of}
 use Rattle.group_types.specs.MemberId.{made_id}
 use Rattle.group_types.specs.Request.{Joins, Kind, is_invalid, is_unsupported}
 use Rattle.group_types.specs.Group.{Group, Record, Target, starting_group, wanted}
-use Rattle.group_types.specs.Join.{IsNamed, Name, names_after, record_of_join}
-use Rattle.group_types.specs.Renewal.{IsTarget, Renews, RenewsWhere, changed_if, view_for}
-use Rattle.group_types.specs.Checks.{Verdict, Accepted, Refused, Sender, first_of, sender_of, verdict_on}
-use Rattle.group_types.specs.HeartbeatStep.{Answer, Arrival, GoesOn, TakesIn, JoinsUnder, JoinsAs, StepOf, StepBy, HeartbeatStep, ByVerdict, verdict_on_change}
-use Rattle.group_core.specs.Checks.{MakesMember, verdict_on_first, verdict_on_request}
+use Rattle.group_types.specs.Join.{Name, names_after, record_of_join}
+use Rattle.group_types.specs.Renewal.{IsTarget, RenewsWhere, changed_if, view_for}
+use Rattle.group_types.specs.Checks.{Accepted, Refused, Sender, first_of, sender_of}
+use Rattle.group_types.specs.HeartbeatStep.{Answer, Arrival, GoesOn, JoinsUnder, StepOf, StepBy, HeartbeatStep, ByVerdict, verdict_on_change}
+use Rattle.group_core.specs.Checks.{MakesMember, verdict_on_request}
 use Rattle.group_core.specs.FirstMember.{JoinsFirst, first_draft, nobody, one_record}
 use Rattle.group_core.specs.Laws.{IsAnsweredBy, IsFirstAcceptance, FirstJoinsAreAnswered}
 use Rattle.group_core.proofs.FirstJoin.{joins_first, rises, view_for-single}

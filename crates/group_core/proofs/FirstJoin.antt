@@ -4,7 +4,6 @@ use Rattle.std.specs.List.{list_any}
 use Rattle.std.specs.FinMap as finite
 use lib.Dec.{eqb-zero-suc}
 use Rattle.group_types.specs.declared.epoch.Epoch.TheVariants.{At}
-use Rattle.group_types.specs.declared.stamp.Stamp.{Stamp}
 use Rattle.std.specs.Ordering.{int_eq}
 use Rattle.group_types.specs.Text.{Text, text_cmp}
 use Rattle.group_types.specs.Sets.{nothing, has, in_order, is_nothing, minus, common}
@@ -16,7 +15,7 @@ use Rattle.group_types.specs.Group.{Record, Target, Group, starting_group, wante
 use Rattle.group_types.specs.Settle.{granting, moved, settled, settled_by, arrived, may_settle, may_move}
 use Rattle.group_types.specs.Renewal.{view_for, changed_if, IsTarget, Renews, RenewsWhere}
 use Rattle.group_types.specs.Join.{record_of_join}
-use Rattle.group_types.specs.HeartbeatStep.{Answer, Replied, Arrival, Draft, RepliesTo, RepliesWith, SettlesAndReplies, GoesOn, shown, acceptance}
+use Rattle.group_types.specs.HeartbeatStep.{Answer, Replied, Arrival, Draft, RepliesTo, RepliesWith, GoesOn, shown, acceptance}
 use Rattle.group_types.proofs.BoolLemmas.{or_none}
 use Rattle.group_types.proofs.Orders.{text_cmp_total, text_cmp-IsAntisymmetric, partition_cmp_total, partition_cmp-IsAntisymmetric}
 use Rattle.group_types.proofs.SetLemmas.{is_nothing-Decides}

@@ -7,10 +7,10 @@ use Rattle.group_types.specs.declared.partition.Partition.{Partition}
 use Rattle.group_types.specs.Text.{Text, text_cmp}
 use Rattle.group_types.specs.Sets.{nothing, has, common, in_order, of_list}
 use Rattle.group_types.specs.Partition.{partition_cmp, Partitions}
-use Rattle.group_types.specs.Group.{Grant, Grants, grant_cmp, held}
+use Rattle.group_types.specs.Group.{Grants, grant_cmp, held}
 use Rattle.group_types.specs.Settle.{granting, moved, is_free_for}
-use Rattle.group_types.proofs.Orders.{text_cmp_total, text_cmp-IsAntisymmetric, partition_cmp_total, partition_cmp-IsAntisymmetric}
-use Rattle.group_types.proofs.SetLemmas.{has-nothing, has-with_one, has-of_list, has-common, has-in_order, same_set}
+use Rattle.group_types.proofs.Orders.{partition_cmp_total, partition_cmp-IsAntisymmetric}
+use Rattle.group_types.proofs.SetLemmas.{has-nothing, has-common, has-in_order, same_set}
 use Rattle.group_types.proofs.BoolLemmas.{or_none}
 use Rattle.group_types.proofs.GrantLemmas.{grant_cmp_total, grant_cmp-IsAntisymmetric, has-granting, has-held}
 use Rattle.group_types.proofs.Lookups.{text_ties}

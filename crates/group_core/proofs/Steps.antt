@@ -1,11 +1,11 @@
 -- One heartbeat at a group that nobody has joined, by what the checks say; and what isn't built yet.
-use Rattle.std.proofs.Common.{◌≡◌, ◌<◌, ℕ, zero, suc, length, ◌||◌, ◌&&◌, ◌==◌, true≢false, ℤ, pos, negsuc, Bool, true, false, nat_le, is_none, is_some, List, [], ◌∷◌, refl, sym, ap, subst, ◌∙◌, arith, lit<, Option, Some, None, cond}
+use Rattle.std.proofs.Common.{◌≡◌, ◌<◌, ℕ, length, ◌||◌, ◌&&◌, ◌==◌, true≢false, pos, Bool, true, false, nat_le, is_none, is_some, List, [], ◌∷◌, refl, sym, ap, subst, ◌∙◌, arith, lit<, Option, Some, None, cond}
 use Rattle.std.specs.List.{list_any}
 use Rattle.std.specs.Ordering.{eq_by_cmp, int_eq}
 use Rattle.std.specs.FinMap as finite
 use Rattle.group_types.specs.declared.code.Code.{Code}
 use Rattle.group_types.specs.declared.code.Code.TheVariants as codes
-use Rattle.group_types.specs.declared.limits.TheConstants.{GREATEST_EPOCH, MOST_MEMBERS}
+use Rattle.group_types.specs.Limits.{GREATEST_EPOCH, MOST_MEMBERS}
 use Rattle.group_types.specs.declared.stamp.Stamp.{Stamp}
 use Rattle.group_types.specs.Text.{Text, text_cmp}
 use Rattle.group_types.specs.MemberId.{made_id}
@@ -15,19 +15,18 @@ use Rattle.group_types.specs.Members.{members_of, is_remembered}
 use Rattle.group_types.specs.Renewal.{changed_if, view_for}
 use Rattle.group_types.specs.Join.{Name, IsNamed, IsNextSerial, name_of_serial}
 use Rattle.group_types.specs.Checks.{Verdict, Accepted, Refused, Overtaken, Member as Another, Sender, first_of, other_with, record_under, sender_of, verdict_on}
-use Rattle.group_types.specs.HeartbeatStep.{Answer, Replied, Closes, Arrival, Draft, refusal, verdict_on_change, ByVerdict, GoesOn, TakesIn, JoinsUnder, JoinsAs, StepOf, StepBy, HeartbeatStep}
+use Rattle.group_types.specs.HeartbeatStep.{Answer, Replied, Closes, Arrival, refusal, ByVerdict, GoesOn, TakesIn, JoinsAs, StepOf, StepBy, HeartbeatStep}
 use Rattle.std.proofs.lemmas.Bool.{and_parts, eq-eqb, eqb-true, lt-leb}
 use Rattle.std.proofs.lemmas.Bool.Decides.{Decides-int_eq}
 use Rattle.std.proofs.lemmas.List.{nil_from_length}
 use Rattle.group_core.specs.declared.group.Group.TheInside.{Inside}
 use Rattle.group_core.specs.declared.record.Member.{Member}
 use Rattle.group_core.specs.Built.{StepIfBuilt, StepToday, is_built}
-use Rattle.group_core.specs.Checks.{MakesMember, verdict_on_first, verdict_on_request}
+use Rattle.group_core.specs.Checks.{MakesMember, verdict_on_request}
 use Rattle.group_core.specs.FirstMember.{JoinsFirst, first_draft, nobody}
 use Rattle.group_core.specs.GroupView.{group_view, IsGroup}
-use Rattle.group_core.specs.Members.{record_of, records_of}
+use Rattle.group_core.specs.Members.{record_of}
 use Rattle.group_core.proofs.MemberLemmas.{len-members}
-use Rattle.group_core.proofs.Single.{entries-empty}
 
 none_remembered : (salt epoch : ℕ) (m : Text) → is_remembered (members_of (starting_group salt epoch)) m ≡ false
 none_remembered salt epoch m = ap (λ o. is_some o || list_any (λ (e : Text × Stamp). eq_by_cmp text_cmp m e.0) []) (finite.get-empty text_cmp m)

@@ -1,7 +1,7 @@
 -- What the checks of a heartbeat come to (KIP-848, "Consumer Group Heartbeat").
 use Rattle.std.specs.Prelude.{◌≡◌, ℕ, nat_le, pos, [], ◌∷◌, None}
 use Rattle.group_types.specs.declared.code.Code.TheVariants as codes
-use Rattle.group_types.specs.declared.limits.TheConstants.{GREATEST_EPOCH}
+use Rattle.group_types.specs.Limits.{GREATEST_EPOCH}
 use Rattle.group_types.specs.Request.{Heartbeat, is_invalid, is_unsupported}
 use Rattle.group_types.specs.Checks.{Verdict, Refused, first_of}
 

@@ -4,7 +4,7 @@ use Rattle.group_core.specs.declared.outcome.Outcome.{Outcome}
 use Rattle.group_core.specs.declared.outcome.Outcome.TheVariants.{Replied, Closes}
 use Rattle.std.specs.Prelude.{ℕ, ◌≤◌, pos, Some, IfSome}
 use Rattle.group_types.specs.declared.code.Code.TheVariants.{NoError}
-use Rattle.group_types.specs.declared.limits.TheConstants.{HEARTBEAT_INTERVAL, MOST_PARTITIONS}
+use Rattle.group_types.specs.Limits.{HEARTBEAT_INTERVAL, MOST_PARTITIONS}
 use Rattle.group_types.specs.Text.{Text}
 use Rattle.group_types.specs.Sets.{size}
 use Rattle.group_types.specs.Partition.{Partitions}

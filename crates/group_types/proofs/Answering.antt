@@ -1,11 +1,10 @@
 -- What an answer says of the step: a refusal changed nothing, and the connection closes only where the heartbeat was
 -- overtaken.
-use Rattle.std.proofs.Common.{◌≡◌, ◌≢◌, ◌⊎◌, inl, inr, ℕ, Bool, true, false, ◌||◌, ◌&&◌, nat_le, Option, Some, None, max, refl, sym, ap, subst, ◌∙◌, cond}
-use Rattle.std.specs.FinMap as finite
+use Rattle.std.proofs.Common.{◌≡◌, ◌≢◌, ◌⊎◌, inl, inr, Bool, true, false, ◌||◌, ◌&&◌, nat_le, Option, Some, None, max, refl, sym, subst, ◌∙◌, cond}
 use Rattle.group_types.specs.declared.code.Code.TheVariants as codes
-use Rattle.group_types.specs.declared.limits.TheConstants.{GREATEST_EPOCH}
+use Rattle.group_types.specs.Limits.{GREATEST_EPOCH}
 use Rattle.group_types.specs.Topics.{Topics}
-use Rattle.group_types.specs.Request.{Heartbeat, Kind, Joins, Beats, Leaves, GoesAway, IsNone, LEAVES_AT, GOES_AWAY_AT, kind_of, is_full}
+use Rattle.group_types.specs.Request.{Heartbeat, Kind, Joins, Beats, Leaves, GoesAway, IsNone, LEAVES_AT, GOES_AWAY_AT, kind_of}
 use Rattle.group_types.specs.Group.{Group, Record}
 use Rattle.group_types.specs.Join.{Name}
 use Rattle.group_types.specs.Renewal.{changed_if, view_for}

@@ -1,5 +1,5 @@
 -- Which commits are taken.
-use Rattle.std.proofs.Common.{◌≡◌, ℕ, ℤ, pos, negsuc, Bool, true, false, cond, ◌&&◌, ◌==◌, int_lt, le-ltb, arith, Option, Some, None, is_some, refl, sym, ap, subst, ◌∙◌, true≢false}
+use Rattle.std.proofs.Common.{◌≡◌, ℕ, ℤ, pos, negsuc, true, false, cond, ◌&&◌, ◌==◌, int_lt, le-ltb, arith, Option, Some, None, is_some, refl, sym, ap, ◌∙◌, true≢false}
 use Rattle.std.specs.Ordering.{int_eq}
 use Rattle.std.specs.FinMap as finite
 use Rattle.std.proofs.lemmas.Bool.Decides.{Decides-int_eq}
@@ -8,8 +8,8 @@ use Rattle.group_types.specs.declared.code.Code.TheVariants as codes
 use Rattle.group_types.specs.declared.epoch.Epoch.{Epoch}
 use Rattle.group_types.specs.declared.epoch.Epoch.TheVariants.{At, Away}
 use Rattle.group_types.specs.Epoch.{is_at}
-use Rattle.group_types.specs.Group.{Record, Group}
-use Rattle.group_types.specs.Commit.{Commit, refusal_of_commit, refusal_of_member}
+use Rattle.group_types.specs.Group.{Record}
+use Rattle.group_types.specs.Commit.{refusal_of_commit, refusal_of_member}
 use Rattle.group_types.specs.Laws.{CommitsAreAtEpoch, IsMember}
 
 refused_not : (code : Code) → Some code ≡ None → ⊥

@@ -1,9 +1,8 @@
 -- What members hold, by the pairs of the grants.
-use Rattle.std.proofs.Common.{◌≡◌, Bool, true, false, cond, not, ◌&&◌, ◌||◌, List, [], ◌∷◌, map, refl, sym, ap, ◌∙◌, Option, Some, None, is_some}
+use Rattle.std.proofs.Common.{◌≡◌, Bool, true, false, cond, not, ◌&&◌, ◌||◌, List, [], ◌∷◌, map, refl, sym, ap, ◌∙◌, Option, None, is_some}
 use Rattle.std.specs.declared.cmp.Ordering.{Ordering}
 use Rattle.std.specs.declared.cmp.Ordering.TheVariants.{Less, Equal, Greater}
 use Rattle.std.specs.List.{list_any, filter}
-use Rattle.std.specs.Set.{is_member}
 use Rattle.std.specs.Ordering.{eq_by_cmp, is_eq, ordering_then}
 use Rattle.std.specs.Cmp.{IsTotalOrder, Equal-is, eq_by_cmp_equiv, on_total, then_total}
 use Rattle.std.specs.FinMap.{IsAntisymmetric}
@@ -12,12 +11,12 @@ use Rattle.std.proofs.lemmas.Map.Lookups.{exact_pairs}
 use Rattle.std.proofs.lemmas.Map.Made.{is_member-filter}
 use Rattle.group_types.specs.declared.partition.Partition.{Partition}
 use Rattle.group_types.specs.Text.{Text, text_cmp}
-use Rattle.group_types.specs.Sets.{nothing, has, common, in_order, of_list}
+use Rattle.group_types.specs.Sets.{has, in_order}
 use Rattle.group_types.specs.Partition.{partition_cmp, Partitions}
 use Rattle.group_types.specs.Group.{Grant, Grants, grant_cmp, held}
 use Rattle.group_types.specs.Settle.{granting, grants_of_others, moved, is_free_for}
 use Rattle.group_types.proofs.Orders.{text_cmp_total, text_cmp-IsAntisymmetric, partition_cmp_total, partition_cmp-IsAntisymmetric}
-use Rattle.group_types.proofs.SetLemmas.{has-nothing, has-with_one, has-of_list, has-common, has-in_order, same_set}
+use Rattle.group_types.proofs.SetLemmas.{has-with_one, has-of_list, has-in_order}
 
 pub grant_cmp_total : IsTotalOrder grant_cmp
 grant_cmp_total = then_total (on_total (λ g. g.0) text_cmp_total) (on_total (λ g. g.1) partition_cmp_total)

@@ -1,5 +1,5 @@
 -- What a map of texts answers after a change, and what texts that tie are.
-use Rattle.std.proofs.Common.{◌≡◌, ◌≢◌, Bool, true, false, cond, Option, Some, None, is_some, IsTrue, refl, sym, ap, ◌∙◌, true≢false}
+use Rattle.std.proofs.Common.{◌≡◌, ◌≢◌, true, false, cond, Some, None, is_some, IsTrue, refl, sym, ap, ◌∙◌, true≢false}
 use Rattle.std.specs.Option.{unwrap_or}
 use Rattle.std.specs.Ordering.{eq_by_cmp}
 use Rattle.std.specs.Cmp.{Equal-is, eq_by_cmp_equiv}

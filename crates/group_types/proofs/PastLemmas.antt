@@ -1,15 +1,15 @@
 -- The ids of former members: what remembering one more keeps.
-use Rattle.std.proofs.Common.{◌≡◌, ◌≢◌, ℕ, zero, suc, ◌-◌, ◌≤◌, Bool, true, false, cond, List, [], ◌∷◌, ◌++◌, length, drop, Option, Some, None, refl, sym, ap, ◌∙◌, arith}
+use Rattle.std.proofs.Common.{◌≡◌, ◌≢◌, ℕ, zero, suc, ◌-◌, ◌≤◌, true, false, cond, [], ◌∷◌, ◌++◌, length, drop, Some, None, refl, sym, ap, ◌∙◌, arith}
 use Rattle.std.specs.Ordering.{eq_by_cmp}
 use Rattle.std.specs.FinMap as finite
 use Rattle.std.proofs.lemmas.List.{length-drop}
-use Rattle.group_types.specs.declared.limits.TheConstants.{MOST_PAST_MEMBERS}
+use Rattle.group_types.specs.Limits.{MOST_PAST_MEMBERS}
 use Rattle.group_types.specs.declared.stamp.Stamp.{Stamp}
 use Rattle.group_types.specs.Text.{Text, text_cmp}
 use Rattle.group_types.specs.Group.{Record, Records, Past}
 use Rattle.group_types.specs.Members.{past_stamp, remembering}
 use Rattle.group_types.specs.Sound.{IsPast}
-use Rattle.group_types.proofs.Lookups.{Tie, ties, differs, tie, not_none, text_ties}
+use Rattle.group_types.proofs.Lookups.{Tie, ties, differs, tie, not_none}
 
 -- the first one is another, and the rest hasn't it
 first_differs : (past : Past) (e : Text × Stamp) (m : Text) → past_stamp (e ∷ past) m ≡ None → (eq_by_cmp text_cmp m e.0 ≡ false) × (past_stamp past m ≡ None)

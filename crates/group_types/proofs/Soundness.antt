@@ -9,21 +9,17 @@ use Rattle.std.specs.FinMap.Entries.{below_all, find, is_sorted}
 use lib.Dec.{T}
 use Rattle.std.proofs.lemmas.Bool.Decides.{Decides-ltb}
 use Rattle.std.proofs.lemmas.Slice.Eq.{bytes_eq-Decides}
-use Rattle.group_types.specs.declared.epoch.Epoch.{Epoch}
-use Rattle.group_types.specs.declared.epoch.Epoch.TheVariants.{At, Away}
-use Rattle.group_types.specs.declared.limits.TheConstants.{GREATEST_EPOCH, MOST_MEMBERS}
+use Rattle.group_types.specs.Limits.{GREATEST_EPOCH, MOST_MEMBERS}
 use Rattle.group_types.specs.declared.partition.Partition.{Partition}
 use Rattle.group_types.specs.declared.stamp.Stamp.{Stamp}
 use Rattle.group_types.specs.Text.{Text, text_cmp}
 use Rattle.group_types.specs.Sets.{has}
-use Rattle.group_types.specs.Topics.{Topics}
 use Rattle.group_types.specs.Owners.{Spread, owns, without_owner}
 use Rattle.group_types.specs.Group.{Record, Records, Grants, Offsets, Group}
 use Rattle.group_types.specs.Settle.{grants_of_others}
-use Rattle.group_types.specs.Leave.{risen, last_epoch, last_epoch_at, without_member, left, away, gone_away}
+use Rattle.group_types.specs.Leave.{risen, last_epoch, without_member, left, away, gone_away}
 use Rattle.group_types.specs.Tick.{at_moment, due, expired, is_due, ticked, without_members}
-use Rattle.group_types.specs.Commit.{Commit, CommitReply, CommitStep, offsets_after, refusal_of_commit}
-use Rattle.group_types.specs.Sound.{IsOfView, IsPast, IsSound}
+use Rattle.group_types.specs.Sound.{IsSound}
 use Rattle.group_types.proofs.Orders.{partition_cmp_total, text_cmp_total, text_cmp-itself}
 use Rattle.group_types.proofs.GrantLemmas.{has-others}
 use Rattle.group_types.proofs.Lookups.{Tie, ties, differs, tie, text_ties, some_is, not_none, found_without, none_without, removed_is_none, has_other, Found, this, another, found, get-inserted, get-insert_other}

@@ -12,7 +12,7 @@ use Rattle.group_types.specs.declared.epoch.Epoch.{Epoch}
 use Rattle.group_types.specs.declared.epoch.Epoch.TheVariants.{At, Away}
 use Rattle.group_types.specs.declared.partition.Partition.{Partition}
 use Rattle.group_types.specs.declared.stamp.Stamp.{Stamp}
-use Rattle.group_types.specs.declared.limits.TheConstants.{MOST_MEMBERS}
+use Rattle.group_types.specs.Limits.{MOST_MEMBERS}
 use Rattle.group_types.specs.Text.{Text, text_cmp}
 use Rattle.group_types.specs.Sets.{has}
 use Rattle.group_types.specs.Stamp.{stamp_cmp}

@@ -10,7 +10,7 @@ use Rattle.group_types.specs.Text.{Text}
 use Rattle.group_types.specs.Sets.{common, are_same, in_order}
 use Rattle.group_types.specs.Partition.{Partitions}
 use Rattle.group_types.specs.Topics.{Topics}
-use Rattle.group_types.specs.declared.limits.TheConstants.{GREATEST_EPOCH, HEARTBEAT_INTERVAL}
+use Rattle.group_types.specs.Limits.{GREATEST_EPOCH, HEARTBEAT_INTERVAL}
 use Rattle.group_types.specs.Request.{Heartbeat, Kind, Joins, Beats, Leaves, GoesAway, IsNone, LEAVES_AT, GOES_AWAY_AT, kind_of, is_full, reported}
 use Rattle.group_types.specs.Owners.{renamed}
 use Rattle.group_types.specs.Group.{Record, Group, wanted, held}

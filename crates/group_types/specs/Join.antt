@@ -1,6 +1,6 @@
 -- KIP-848, "Consumer Group Heartbeat", at member epochs of 0 or more: the record that a member has then, and the id
 -- under which it joins.
-use Rattle.std.specs.Prelude.{◌≡◌, ℕ, suc, ◌<◌, ◌≤◌, ◌^◌, ℤ, pos, negsuc, Bool, true, false, List, [], ◌∷◌, Option, Some, None}
+use Rattle.std.specs.Prelude.{◌≡◌, ℕ, suc, ◌<◌, ◌≤◌, ◌^◌, ℤ, pos, negsuc, true, false, List, [], ◌∷◌, Option, Some, None}
 use Rattle.std.specs.Option.{option_or, option_and_then, option_map}
 use Rattle.group_types.specs.declared.epoch.Epoch.{Epoch}
 use Rattle.group_types.specs.declared.epoch.Epoch.TheVariants.{At, Away}
@@ -9,7 +9,7 @@ use Rattle.group_types.specs.Text.{Text}
 use Rattle.group_types.specs.Sets.{nothing, of_list}
 use Rattle.group_types.specs.Topics.{Names}
 use Rattle.group_types.specs.AssignorName.{assignor_named}
-use Rattle.group_types.specs.declared.limits.TheConstants.{SESSION_TIMEOUT}
+use Rattle.group_types.specs.Limits.{SESSION_TIMEOUT}
 use Rattle.group_types.specs.Moment.{saturated_sum}
 use Rattle.group_types.specs.MemberId.{made_id}
 use Rattle.group_types.specs.Request.{Heartbeat}

@@ -13,7 +13,7 @@ use Rattle.group_types.specs.Commit.{Commit, CommitReply, CommitStep, refusal_of
 use Rattle.group_types.specs.Sound.{IsSound}
 use Rattle.group_types.specs.Request.{kind_of}
 use Rattle.group_types.specs.Checks.{Verdict, Overtaken, sender_of, verdict_on}
-use Rattle.group_types.specs.HeartbeatStep.{Answer, Replied, Closes, Reply, Arrival, HeartbeatStep}
+use Rattle.group_types.specs.HeartbeatStep.{Replied, Closes, Reply, Arrival, HeartbeatStep}
 
 -- what the checks of a heartbeat come to in a group
 abbrev pub verdict_in : Group → Arrival → Verdict

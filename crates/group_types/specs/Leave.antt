@@ -5,7 +5,7 @@ use Rattle.group_types.specs.declared.epoch.Epoch.{Epoch}
 use Rattle.group_types.specs.declared.epoch.Epoch.TheVariants.{At, Away}
 use Rattle.group_types.specs.declared.stamp.Stamp.{Stamp}
 use Rattle.group_types.specs.Text.{Text}
-use Rattle.group_types.specs.declared.limits.TheConstants.{GREATEST_EPOCH, SESSION_TIMEOUT}
+use Rattle.group_types.specs.Limits.{GREATEST_EPOCH, SESSION_TIMEOUT}
 use Rattle.group_types.specs.Moment.{saturated_sum}
 use Rattle.group_types.specs.Owners.{without_owner}
 use Rattle.group_types.specs.Group.{Record, Group}

@@ -1,10 +1,10 @@
 -- The members of a group, and the ids of former members that it remembers: the part of a group that joins, leaves and
 -- the checks of a heartbeat look at.
-use Rattle.std.specs.Prelude.{◌≡◌, Bool, not, ◌||◌, ◌-◌, if◌then◌else◌, List, [], ◌∷◌, ◌++◌, length, drop, filter, Option, Some, None}
+use Rattle.std.specs.Prelude.{◌≡◌, Bool, not, ◌||◌, ◌-◌, if◌then◌else◌, [], ◌∷◌, ◌++◌, length, drop, filter, Option, Some, None}
 use Rattle.std.specs.List.{list_any}
 use Rattle.std.specs.Ordering.{eq_by_cmp}
 use Rattle.std.specs.FinMap as finite
-use Rattle.group_types.specs.declared.limits.TheConstants.{MOST_PAST_MEMBERS}
+use Rattle.group_types.specs.Limits.{MOST_PAST_MEMBERS}
 use Rattle.group_types.specs.declared.stamp.Stamp.{Stamp}
 use Rattle.group_types.specs.Text.{Text, text_cmp}
 use Rattle.group_types.specs.Group.{Record, Records, Past, Group}

@@ -1,8 +1,8 @@
 -- What holds of every group, after whatever came to it.
-use Rattle.std.specs.Prelude.{◌≡◌, ◌≢◌, ℕ, ◌≤◌, [], ◌∷◌, length, Some, None, IsTrue}
+use Rattle.std.specs.Prelude.{◌≡◌, ◌≢◌, ◌≤◌, [], ◌∷◌, length, Some, None, IsTrue}
 use Rattle.std.specs.FinMap as finite
 use Rattle.group_types.specs.declared.partition.Partition.{Partition}
-use Rattle.group_types.specs.declared.limits.TheConstants.{GREATEST_EPOCH, MOST_MEMBERS, MOST_PAST_MEMBERS}
+use Rattle.group_types.specs.Limits.{GREATEST_EPOCH, MOST_MEMBERS, MOST_PAST_MEMBERS}
 use Rattle.group_types.specs.Text.{Text}
 use Rattle.group_types.specs.Sets.{has}
 use Rattle.group_types.specs.Topics.{Topic, Topics}

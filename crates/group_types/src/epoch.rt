@@ -13,7 +13,7 @@ pub struct EpochNumber {
 
 impl Model for EpochNumber {
     ghost use Rattle.std.specs.Prelude.{ℕ, ◌≤◌};
-    ghost use Rattle.group_types.specs.declared.limits.TheConstants.{GREATEST_EPOCH};
+    ghost use Rattle.group_types.specs.Limits.{GREATEST_EPOCH};
 
     ghost Value = { ℕ };
 

@@ -1,5 +1,11 @@
 //! Laws of the machine's definitions, proved where nothing runs.
 ghost use Rattle.group_types.specs.Laws.{ClosesOnlyOvertaken, CommitsAreAtEpoch, CommitsAreSound, LeavesAreSound, RefusalsChangeNothing, TicksAreSound};
+ghost use Rattle.group_types.specs.Limits.{ConstantsAreTheLimits};
+
+/// Each constant of the code is the literal that the definitions cite.
+pub fn constants_are_the_limits()
+    ensures { ConstantsAreTheLimits }
+{}
 
 /// A heartbeat closes its connection only where a later one of its member was accepted before.
 pub fn closes_only_overtaken()

@@ -1,13 +1,13 @@
-//! The limits of the coordinator, each in one place.
+//! The limits and times of the coordinator, each in one place. `specs/Limits.antt` has the same numbers as literals,
+//! which all definitions cite, and [`constants_are_the_limits`](crate::laws::constants_are_the_limits) says that they are the same.
+
+pub use flex_wire::LONGEST_STRING;
 
 /// The fewest bytes that the body of a frame may have.
 pub const SMALLEST_BODY: usize = 1;
 
 /// The most bytes that the body of a frame may have.
 pub const LARGEST_BODY: usize = 8_388_608;
-
-/// The most bytes of a string on the wire, as in the Kafka protocol guide: the greatest INT16.
-pub const LONGEST_STRING: usize = 32_767;
 
 /// The most topics of an image.
 pub const MOST_TOPICS: usize = 10_000;

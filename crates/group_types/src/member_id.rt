@@ -21,7 +21,7 @@ impl Model for MemberId {
     ghost use Rattle.std.specs.String.{string_bytes, string_len};
     ghost use Rattle.std.specs.Str.{bytes_eq};
     ghost use Rattle.group_types.specs.Text.{Text};
-    ghost use Rattle.group_types.specs.declared.limits.TheConstants.{LONGEST_STRING};
+    ghost use Rattle.group_types.specs.Limits.{LONGEST_STRING};
 
     ghost Value = { Text };
 

@@ -58,7 +58,7 @@ impl<'a> Wanted<'a> {
         self.epoch
     }
 
-    /// The member's set in the target, or none where the target has none for it.
+    /// The member's set in the target. Where the target has no partition for it, that is no set or an empty one.
     pub fn set(&self) -> Option<&'a PartSet>
         ensures { unwrap_or (option_copied result) nothing ≡ self.now.partitions }
     {

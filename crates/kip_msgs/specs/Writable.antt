@@ -1,11 +1,12 @@
 -- What a writer asks of a value: only the lengths, counts and tags, since its types keep the rest.
 use Rattle.std.specs.Prelude.{◌≤◌, List, ℕ, Option, length, IfSome, All}
+use Rattle.flex_wire.specs.Limits.{LONGEST_STRING}
 use Rattle.flex_wire.specs.Spelling.{FitsCount, FitsTaggedFields}
 use Rattle.kip_msgs.specs.Values.{RequestHeaderValue, TopicPartitionsValue, HeartbeatRequestValue, AssignmentValue, HeartbeatReplyValue, CommitRequestPartitionValue, CommitRequestTopicValue, CommitRequestValue, CommitReplyPartitionValue, CommitReplyTopicValue, CommitReplyValue, RequestValue, heartbeat_request, commit_request, ReplyValue, heartbeat_reply, commit_reply}
 
--- A text of at most 32,767 bytes (Kafka protocol guide, "Protocol Primitive Types").
+-- A text not longer than the greatest INT16 (Kafka protocol guide, "Protocol Primitive Types").
 abbrev pub IsShort : List ℕ → Type 0
-IsShort text = length text ≤ 32767
+IsShort text = length text ≤ LONGEST_STRING
 
 -- Such a text, or null.
 abbrev pub IsShortIfAny : Option (List ℕ) → Type 0

@@ -58,7 +58,7 @@ impl Spread {
         Spread { shares }
     }
 
-    /// The partitions of the member with this id, or none where it owns none. Takes no memory.
+    /// The partitions of the member with this id. A member that owns none has no set or an empty one. Takes no memory.
     pub fn share_of(&self, id: &str) -> Option<&PartSet>
         ensures { MatchOption result ((p : Key) → ¬ (finite.get self.now p ≡ Some id.now))
             (λ set. IsShare self.now id.now set.now) }

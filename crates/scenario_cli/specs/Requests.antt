@@ -1,7 +1,7 @@
 -- What the bytes of a request line ask, and what the line prints.
 use Rattle.std.specs.Prelude.{◌≡◌, ◌⊎◌, ℕ, ◌≤◌, List, [], ◌∷◌, ◌++◌, length, codes, Ok}
 use Rattle.hex.specs.Hex.{decode_of, encode_lower}
-use Rattle.group_types.specs.declared.limits.TheConstants.{SMALLEST_BODY, LARGEST_BODY}
+use Rattle.group_types.specs.Limits.{SMALLEST_BODY, LARGEST_BODY}
 use Rattle.group_types.specs.declared.stamp.Stamp.{Stamp}
 use Rattle.coord_node.specs.Replies.{IsFrame}
 use Rattle.coord_node.specs.Coordinator.{Coordinator, Frame, Answer, Replied, Closes, Done}

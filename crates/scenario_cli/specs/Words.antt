@@ -1,7 +1,7 @@
 -- The words of an input line. The forms are this program's own.
 use Rattle.std.specs.Prelude.{◌≢◌, ℕ, ◌≤◌, Bool, ◌==◌, List, [], length, All, IsUtf8, codes}
 use Rattle.std.specs.List.{slice_split}
-use Rattle.group_types.specs.declared.limits.TheConstants.{LONGEST_STRING}
+use Rattle.group_types.specs.Limits.{LONGEST_STRING}
 
 abbrev pub is_space : ℕ → Bool
 is_space byte = byte == 32

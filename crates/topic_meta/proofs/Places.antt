@@ -10,7 +10,7 @@ use Rattle.std.proofs.Math.ListN.{length-map}
 use Rattle.std.specs.FinMap as finite
 use Rattle.std.specs.FinMap.{entries, get, find, is_sorted}
 use Rattle.std.specs.FinMap.Entries.{below_all}
-use Rattle.group_types.specs.declared.limits.TheConstants.{MOST_TOPIC_PARTITIONS}
+use Rattle.group_types.specs.Limits.{MOST_TOPIC_PARTITIONS}
 use Rattle.group_types.specs.Text.{Text, text_cmp}
 use Rattle.group_types.specs.Topics.{Topic, Topics}
 use Rattle.group_types.proofs.Orders.{text_cmp_total}

@@ -5,7 +5,7 @@ use Rattle.std.specs.Option.{option_or}
 use Rattle.std.proofs.lemmas.List.{map-append, append-nil}
 use Rattle.std.proofs.lemmas.Bool.{ltb-false}
 use Rattle.std.proofs.Math.ListN.{length-append}
-use Rattle.group_types.specs.declared.limits.TheConstants.{MOST_TOPICS, MOST_PARTITIONS}
+use Rattle.group_types.specs.Limits.{MOST_TOPICS, MOST_PARTITIONS}
 use Rattle.topic_meta.specs.declared.draft.Draft.{Draft}
 use Rattle.topic_meta.specs.declared.image_fault.ImageFault.{ImageFault}
 use Rattle.topic_meta.specs.declared.topic.TopicEntry.{TopicEntry}

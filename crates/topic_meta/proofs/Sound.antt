@@ -10,7 +10,7 @@ use Rattle.std.proofs.lemmas.Bool.{ltb-true, leb-true}
 use Rattle.std.proofs.lemmas.List.{map-append}
 use Rattle.std.proofs.lemmas.List.Sums.{sum_by-cons}
 use Rattle.std.proofs.lemmas.Slice.Eq.{bytes_eq-Decides}
-use Rattle.group_types.specs.declared.limits.TheConstants.{MOST_TOPICS, MOST_PARTITIONS, MOST_TOPIC_PARTITIONS}
+use Rattle.group_types.specs.Limits.{MOST_TOPICS, MOST_PARTITIONS, MOST_TOPIC_PARTITIONS}
 use Rattle.group_types.specs.Text.{Text, text_cmp}
 use Rattle.group_types.specs.Topics.{Topic}
 use Rattle.group_types.proofs.Orders.{text_cmp_total}

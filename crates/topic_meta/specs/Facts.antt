@@ -3,7 +3,7 @@ use Rattle.std.specs.Prelude.{◌≡◌, ℕ, ◌≤◌, sum_by, Some}
 use Rattle.std.specs.FinMap.{entries, get, len}
 use Rattle.group_types.specs.Text.{Text}
 use Rattle.group_types.specs.Topics.{Topic, Topics}
-use Rattle.group_types.specs.declared.limits.TheConstants.{MOST_TOPICS, MOST_PARTITIONS, MOST_TOPIC_PARTITIONS}
+use Rattle.group_types.specs.Limits.{MOST_TOPICS, MOST_PARTITIONS, MOST_TOPIC_PARTITIONS}
 
 -- two names with one id are one name
 abbrev pub IdsAreApart : Topics → Type 0

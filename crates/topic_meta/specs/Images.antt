@@ -9,7 +9,7 @@ use Rattle.group_types.specs.Topics.{Topic, Topics}
 use Rattle.topic_meta.specs.declared.image_fault.ImageFault.{ImageFault}
 use Rattle.topic_meta.specs.declared.image_fault.ImageFault.TheVariants.{DuplicateName, DuplicateId, TooMany, BadCount}
 use Rattle.topic_meta.specs.declared.topic.TopicEntry.{TopicEntry}
-use Rattle.group_types.specs.declared.limits.TheConstants.{MOST_TOPICS, MOST_PARTITIONS, MOST_TOPIC_PARTITIONS}
+use Rattle.group_types.specs.Limits.{MOST_TOPICS, MOST_PARTITIONS, MOST_TOPIC_PARTITIONS}
 
 -- one topic of a list as it comes in
 pub record Entry : Type 0 where

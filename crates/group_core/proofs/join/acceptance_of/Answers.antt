@@ -1,6 +1,6 @@
 use Rattle.std.proofs.Common.{◌≡◌, ap, ◌∙◌}
 use Rattle.group_types.specs.Group.{wanted}
-use Rattle.group_core.specs.Outcome.{accepted, reply_of}
+use Rattle.group_core.specs.Outcome.{accepted}
 use Rattle.group_core.proofs.join.acceptance_of.Goals as goal
 
 pub returns : goal.returns

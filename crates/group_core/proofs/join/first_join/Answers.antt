@@ -1,11 +1,11 @@
-use Rattle.std.proofs.Common.{◌≡◌, ◌≤◌, ◌∷◌, [], ℕ, suc, sym, ap, subst, ◌∙◌, Option, Some}
+use Rattle.std.proofs.Common.{◌≡◌, ◌≤◌, ◌∷◌, [], ℕ, suc, sym, ap, subst, ◌∙◌, Option}
 use Rattle.std.specs.FinMap as finite
 use Rattle.std.proofs.lemmas.Result.{IfOk-weaker}
 use Rattle.std.specs.Option.{IfSome}
 use Rattle.group_types.specs.Partition.{Partitions}
 use Rattle.group_types.specs.Sets.{size}
 use Rattle.group_types.specs.Text.{Text}
-use Rattle.group_types.specs.declared.limits.TheConstants.{MOST_PARTITIONS}
+use Rattle.group_types.specs.Limits.{MOST_PARTITIONS}
 use Rattle.group_types.specs.Group.{Group, Target, wanted}
 use Rattle.group_types.specs.MemberId.{made_id}
 use Rattle.group_types.specs.Renewal.{IsTarget, subscriber_of}

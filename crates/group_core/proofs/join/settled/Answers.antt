@@ -1,4 +1,4 @@
-use Rattle.std.proofs.Common.{◌≡◌, ap, sym, ◌∙◌}
+use Rattle.std.proofs.Common.{ap, sym, ◌∙◌}
 use Rattle.group_types.specs.Group.{wanted}
 use Rattle.group_core.specs.Outcome.{accepted}
 use Rattle.group_core.specs.FirstMember.{group_of_one}

@@ -1,4 +1,3 @@
-use Rattle.std.proofs.Common.{refl}
 use Rattle.group_types.proofs.Soundness.{left_is_sound, gone_away_is_sound}
 use Rattle.group_types.proofs.laws.leaves_are_sound.Goals as goal
 

@@ -1,4 +1,4 @@
-use Rattle.std.proofs.Common.{◌≡◌, [], Some, sym, subst, refl, ◌∙◌, true≢false}
+use Rattle.std.proofs.Common.{◌≡◌, [], sym, subst, refl, ◌∙◌, true≢false}
 use Rattle.group_types.specs.Group.{Group as State, starting_group}
 use Rattle.group_types.specs.HeartbeatStep.{Replied, Closes, Reply, Arrival, refusal}
 use Rattle.group_types.specs.declared.code.Code.TheVariants.{CoordinatorNotAvailable}
