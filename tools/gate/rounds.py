@@ -61,7 +61,7 @@ class Bench:
         words = [*self.tree.check_words(self.crate), "--incremental", "kept"]
         for name in sorted(only):
             words += ["--only", name.partition("::")[2]]
-        ran = self.run(words, self.lanes.jobs(), what)
+        ran = self.run(words, self.lanes.jobs(len(only) or None), what)
         if ran.status == -signal.SIGKILL:
             ran = self.run(words, 1, f"{what}, once more since it was killed, most likely for memory")
         return verdicts.Verdict(ran)

@@ -14,8 +14,8 @@ import time
 CHECK_MEMORY, LINE_MEMORY = 3_000_000_000, 1_000_000
 # How much of the free memory is used, and by how much a further job of a check adds to what the first one takes.
 USED_MEMORY, JOB_MEMORY = 0.85, 0.6
-# More jobs than this seldom make a check faster.
-MOST_JOBS = 4
+# More jobs than this seldom make a check faster, nor do more than one for so many functions: each reads all libraries.
+MOST_JOBS, FUNCTIONS_A_JOB = 4, 20
 # How long a round that was begun in time may run on, in seconds.
 GRACE = 600
 # Where a control group says how much processor time (quota and period) and memory (limit and use) there is.
@@ -75,13 +75,17 @@ class Lanes:
                 self.left -= 1
                 self.changed.notify_all()
 
-    def jobs(self):
-        """How many jobs a check that begins now gets: its share of the processors and of the memory."""
+    def jobs(self, functions=None):
+        """How many jobs a check that begins now gets: its share of the processors and of the memory.
+
+        `functions` is given where so many of the crate's are looked at.
+        """
         with self.changed:
             sharers = max(min(self.left, self.processors), 1)
             most, need = self.memory / sharers, max(self.used, default=CHECK_MEMORY)
         fitting = 1 + int(max(most / need - 1, 0) / JOB_MEMORY)
-        return max(1, min(self.processors // sharers, fitting, MOST_JOBS))
+        wanted = MOST_JOBS if functions is None else -(-functions // FUNCTIONS_A_JOB)
+        return max(1, min(self.processors // sharers, fitting, wanted, MOST_JOBS))
 
 
 def need_of(tree, crate):

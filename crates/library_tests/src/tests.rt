@@ -7,7 +7,6 @@ mod messages;
 mod nodes;
 mod range_owners;
 mod spreads;
-mod table;
 mod tables;
 mod targets;
 mod topics;

@@ -149,21 +149,16 @@ fn image_of(alloc: Global, list: Vec<TopicEntry>) -> Result<Image, AllocError> {
     Image::of(alloc, list).map_err(|_| AllocError)
 }
 
-/// The owner of each partition of the topics that the words say, topic by topic and index by index: its id, or `-` where
+/// Appends the owner of each partition of the topics that the words say, topic by topic and index by index: its id, or `-` where
 /// there is none.
-pub fn owners_text<O: Owners>(
-    alloc: Global,
-    owners: &O,
-    words: &str,
-) -> Result<String, AllocError> {
-    let mut text = String::new(alloc);
+pub fn put_owners<O: Owners>(owners: &O, words: &str, out: &mut String) -> Result<(), AllocError> {
     for topic in words.split(' ').filter_map(topic_of) {
         for index in 0..topic.count {
             let topic = topic.id;
-            text.push_str(owner_of(owners, &Partition { topic, index }))?;
+            out.push_str(owner_of(owners, &Partition { topic, index }))?;
         }
     }
-    Ok(text)
+    Ok(())
 }
 
 fn owner_of<O: Owners>(owners: &O, partition: &Partition) -> &'static str {

@@ -1,8 +1,8 @@
 //! Spreads under range, and changes of spreads, worked out by hand.
 
 use crate::tests::members::Group;
-use crate::tests::spreads::owners_after;
-use crate::tests::table::differing;
+use crate::tests::spreads::OwnersAfter;
+use crate::tests::tables::{Answers, wrong_rows};
 use group_types::PartSet;
 use range_assign::{Assignor, Range, Spread, Subs};
 use std::alloc::{AllocError, Global};
@@ -35,36 +35,48 @@ const VOTES: &str = "\
 1 2 3 = uniform
 ";
 
-/// The name of the assignor for which the members vote.
-fn winner(alloc: Global, words: &str) -> Result<String, AllocError> {
-    let group = Group::of(alloc, words)?;
-    match group.subs(alloc)? {
-        Some(subs) => String::from_str(alloc, subs.assignor().as_str()),
-        None => String::from_str(alloc, "two members have one id"),
+/// Tells the name of the assignor for which the members vote.
+struct Winner;
+
+impl Answers for Winner {
+    fn answer(alloc: Global, words: &str, out: &mut String) -> Result<(), AllocError> {
+        let group = Group::of(alloc, words)?;
+        match group.subs(alloc)? {
+            Some(subs) => out.push_str(subs.assignor().as_str()),
+            None => out.push_str("two members have one id"),
+        }
     }
 }
 
-/// The runs of the members under range, in member order.
-fn runs(alloc: Global, words: &str) -> Result<String, AllocError> {
-    let group = Group::of(alloc, words)?;
-    match group.subs(alloc)? {
-        Some(subs) => runs_of(alloc, &subs, &group.view),
-        None => String::from_str(alloc, "two members have one id"),
+/// Tells the runs of the members under range, in member order.
+struct Runs;
+
+impl Answers for Runs {
+    fn answer(alloc: Global, words: &str, out: &mut String) -> Result<(), AllocError> {
+        let group = Group::of(alloc, words)?;
+        match group.subs(alloc)? {
+            Some(subs) => put_runs(alloc, &subs, &group.view, out),
+            None => out.push_str("two members have one id"),
+        }
     }
 }
 
-fn runs_of(alloc: Global, subs: &Subs<'_>, view: &View) -> Result<String, AllocError> {
+fn put_runs(
+    alloc: Global,
+    subs: &Subs<'_>,
+    view: &View,
+    out: &mut String,
+) -> Result<(), AllocError> {
     let spread = Range.assign(alloc, &Spread::empty(alloc), subs, view)?;
-    let mut text = String::new(alloc);
     for member in subs.members() {
-        put_run(&mut text, spread.share_of(member.id.as_str()))?;
+        put_run(out, spread.share_of(member.id.as_str()))?;
     }
-    Ok(text)
+    Ok(())
 }
 
-fn put_run(text: &mut String, set: Option<&PartSet>) -> Result<(), AllocError> {
+fn put_run(out: &mut String, set: Option<&PartSet>) -> Result<(), AllocError> {
     let Some(set) = set else {
-        return text.push_str("nothing;");
+        return out.push_str("nothing; ");
     };
     let (mut first, mut last) = (i32::MAX, i32::MIN);
     for partition in set.iter() {
@@ -72,24 +84,26 @@ fn put_run(text: &mut String, set: Option<&PartSet>) -> Result<(), AllocError> {
         last = last.max(partition.index);
     }
     let count = set.len();
-    let space = if text.is_empty() { "" } else { " " };
-    write!(text, "{space}{first} to {last}: {count};")
+    write!(out, "{first} to {last}: {count}; ")
 }
 
 #[test]
 fn owners_are_as_worked_out(rt: HostRuntime) -> Result<(), Fail> {
-    assert_eq!(rt; differing(rt.alloc(), OWNERS, owners_after)?.as_str(), "");
+    let wrong = wrong_rows::<OwnersAfter>(rt.alloc(), OWNERS)?;
+    assert_eq!(rt; wrong.as_str(), "");
     Ok(())
 }
 
 #[test]
 fn most_votes_win(rt: HostRuntime) -> Result<(), Fail> {
-    assert_eq!(rt; differing(rt.alloc(), VOTES, winner)?.as_str(), "");
+    let wrong = wrong_rows::<Winner>(rt.alloc(), VOTES)?;
+    assert_eq!(rt; wrong.as_str(), "");
     Ok(())
 }
 
 #[test]
 fn runs_of_a_long_topic(rt: HostRuntime) -> Result<(), Fail> {
-    assert_eq!(rt; differing(rt.alloc(), RUNS, runs)?.as_str(), "");
+    let wrong = wrong_rows::<Runs>(rt.alloc(), RUNS)?;
+    assert_eq!(rt; wrong.as_str(), "");
     Ok(())
 }

@@ -8,7 +8,8 @@
 //! - `drop ID`, `rename OLD NEW`: a member that is taken out, or has another id.
 //! - `show WORDS`: nothing.
 
-use crate::tests::members::{Group, Owners, cut, id_of, owners_text};
+use crate::tests::members::{Group, Owners, cut, id_of, put_owners};
+use crate::tests::tables::Answers;
 use group_types::{PartSet, Partition};
 use range_assign::{Assignor, Range, Share, Spread};
 use std::alloc::{AllocError, Global};
@@ -22,13 +23,23 @@ impl Owners for Spread {
     }
 }
 
-/// The owners after the steps.
-pub fn owners_after(alloc: Global, steps: &str) -> Result<String, AllocError> {
+/// Tells the owners after the steps.
+pub struct OwnersAfter;
+
+impl Answers for OwnersAfter {
+    fn answer(alloc: Global, steps: &str, out: &mut String) -> Result<(), AllocError> {
+        let spread = spread_after(alloc, steps)?;
+        put_owners(&spread, last_step(steps), out)
+    }
+}
+
+/// The spread after the steps.
+fn spread_after(alloc: Global, steps: &str) -> Result<Spread, AllocError> {
     let mut spread = Spread::empty(alloc);
     for step in steps.split("; ") {
         take_step(alloc, &mut spread, step)?;
     }
-    owners_text(alloc, &spread, last_step(steps))
+    Ok(spread)
 }
 
 /// The last of the steps.

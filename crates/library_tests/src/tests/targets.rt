@@ -1,8 +1,8 @@
 //! Targets that are renewed, worked out by hand.
 
-use crate::tests::members::{Group, Owners, cut, id_of, owners_text};
+use crate::tests::members::{Group, Owners, cut, id_of, put_owners};
 use crate::tests::spreads::last_step;
-use crate::tests::table::differing;
+use crate::tests::tables::{Answers, wrong_rows};
 use group_target::Target;
 use group_types::{EpochNumber, MemberId, Partition};
 use std::alloc::{AllocError, Global};
@@ -27,17 +27,27 @@ impl Owners for Target {
     }
 }
 
-/// The owners after the steps, the target's epoch, and that of what it wants of member 1. Each renewal is of the next
+/// Tells the owners after the steps, the target's epoch, and that of what it wants of member 1. Each renewal is of the next
 /// epoch.
-fn target_after(alloc: Global, steps: &str) -> Result<String, AllocError> {
+struct TargetAfter;
+
+impl Answers for TargetAfter {
+    fn answer(alloc: Global, steps: &str, out: &mut String) -> Result<(), AllocError> {
+        let target = target_after(alloc, steps)?;
+        put_owners(&target, last_step(steps), out)?;
+        let epoch = target.epoch().as_u32();
+        let wanted = target.of("1").epoch().as_u32();
+        write!(out, " at {epoch}, wanted at {wanted}")
+    }
+}
+
+/// The target after the steps.
+fn target_after(alloc: Global, steps: &str) -> Result<Target, AllocError> {
     let mut target = Target::new(alloc, EpochNumber::zero());
     for step in steps.split("; ") {
         take_step(alloc, &mut target, step)?;
     }
-    let owners = owners_text(alloc, &target, last_step(steps))?;
-    let epoch = target.epoch().as_u32();
-    let wanted = target.of("1").epoch().as_u32();
-    format!(in alloc; "{owners} at {epoch}, wanted at {wanted}")
+    Ok(target)
 }
 
 fn take_step(alloc: Global, target: &mut Target, step: &str) -> Result<(), AllocError> {
@@ -86,6 +96,7 @@ fn rename_to_new(target: &mut Target, old: &str, new: MemberId) {
 
 #[test]
 fn targets_are_as_worked_out(rt: HostRuntime) -> Result<(), Fail> {
-    assert_eq!(rt; differing(rt.alloc(), TARGETS, target_after)?.as_str(), "");
+    let wrong = wrong_rows::<TargetAfter>(rt.alloc(), TARGETS)?;
+    assert_eq!(rt; wrong.as_str(), "");
     Ok(())
 }

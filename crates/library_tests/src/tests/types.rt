@@ -108,8 +108,7 @@ impl Answers for Types {
             "plus" | "later" | "before" => tell_moment(call, first, second, out),
             "codes" => tell_codes(out),
             "assignor" => tell_assignor(first, out),
-            "made" | "copy" => out.push_str(id_of(alloc, call, first, second)?.as_str()),
-            "id" => tell_id(&id_of(alloc, call, first, second)?, second, out),
+            "made" | "copy" | "id" => tell_id(alloc, call, first, second, out),
             "above" | "partition" => out.push_str(order(call, first, second)),
             _ => tell_sets(alloc, call, words, out),
         }
@@ -225,8 +224,18 @@ fn id_of(alloc: Global, call: &str, first: &str, second: &str) -> Result<MemberI
     }
 }
 
-fn tell_id(id: &MemberId, text: &str, out: &mut String) -> Result<(), AllocError> {
-    write!(out, "{} {:?}", id.is(text), id.compare(text))
+fn tell_id(
+    alloc: Global,
+    call: &str,
+    first: &str,
+    second: &str,
+    out: &mut String,
+) -> Result<(), AllocError> {
+    let id = id_of(alloc, call, first, second)?;
+    if call == "id" {
+        return write!(out, "{} {:?}", id.is(second), id.compare(second));
+    }
+    out.push_str(id.as_str())
 }
 
 /// A text that isn't too long for an id.

@@ -1,7 +1,7 @@
 //! Spreads under uniform, worked out by hand.
 
-use crate::tests::spreads::owners_after;
-use crate::tests::table::differing;
+use crate::tests::spreads::OwnersAfter;
+use crate::tests::tables::wrong_rows;
 use std::test::Fail;
 
 /// Without former owners: members with an instance come first; topics are filled in the order of their names; an even spread;
@@ -30,18 +30,14 @@ range 1:t,u t#1*5 u#2*2; uniform 1:t,u 2:u t#1*5 u#2*2 = 1111122
 
 #[test]
 fn owners_from_nothing_are_as_worked_out(rt: HostRuntime) -> Result<(), Fail> {
-    assert_eq!(rt;
-        differing(rt.alloc(), FROM_NOTHING, owners_after)?.as_str(),
-        ""
-    );
+    let wrong = wrong_rows::<OwnersAfter>(rt.alloc(), FROM_NOTHING)?;
+    assert_eq!(rt; wrong.as_str(), "");
     Ok(())
 }
 
 #[test]
 fn owners_after_others_are_as_worked_out(rt: HostRuntime) -> Result<(), Fail> {
-    assert_eq!(rt;
-        differing(rt.alloc(), AFTER_OTHERS, owners_after)?.as_str(),
-        ""
-    );
+    let wrong = wrong_rows::<OwnersAfter>(rt.alloc(), AFTER_OTHERS)?;
+    assert_eq!(rt; wrong.as_str(), "");
     Ok(())
 }

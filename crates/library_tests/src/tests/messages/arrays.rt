@@ -9,18 +9,20 @@ use uuid::Uuid;
 /// Tells an array of names as it grows, and as a `Vec` of its elements makes it again.
 pub(super) fn tell_names(alloc: Global, out: &mut String) -> Result<(), AllocError> {
     let mut names = Array::new(alloc);
+    put_empty(&names, out)?;
+    push_name(&mut names, "b")?;
+    push_name(&mut names, "a")?;
+    put_names(&names, out)?;
+    out.push_str(", out and in again")?;
+    put_names(&Array::of_vec(names.into_vec()), out)
+}
+
+fn put_empty(names: &Array<&str>, out: &mut String) -> Result<(), AllocError> {
     out.push_str(if names.is_empty() {
         "empty,"
     } else {
         "not empty,"
-    })?;
-    for name in ["b", "a"] {
-        push_name(&mut names, name)?;
-    }
-    put_names(&names, out)?;
-    out.push_str(", out and in again")?;
-    let again = Array::of_vec(names.into_vec());
-    put_names(&again, out)
+    })
 }
 
 /// Adds a name, and once more where a growth is refused, when the array is as it was and the name comes back.

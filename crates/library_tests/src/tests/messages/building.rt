@@ -29,18 +29,24 @@ pub(super) fn build(alloc: Global, name: &str, out: &mut String) -> Result<(), A
 fn put_built(alloc: Global, name: &str, bytes: &mut Vec<u8>) -> Result<(), AllocError> {
     match name {
         "granted" => put_granted(alloc, bytes),
-        "granted_nothing" => {
-            let reply = granted(
-                alloc,
-                "00000000-0000-0000-0000-000000000002",
-                2,
-                Array::new(alloc),
-            );
-            super::put_whole_reply(bytes, &reply)
-        }
-        "unknown_member" => super::put_whole_reply(bytes, &refused(alloc)),
-        _ => super::put_whole_request(bytes, &steady(alloc)),
+        "granted_nothing" => put_granted_nothing(alloc, bytes),
+        "unknown_member" => put_refused(alloc, bytes),
+        _ => put_steady(alloc, bytes),
     }
+}
+
+fn put_granted_nothing(alloc: Global, bytes: &mut Vec<u8>) -> Result<(), AllocError> {
+    let topics = Array::new(alloc);
+    let reply = granted(alloc, "00000000-0000-0000-0000-000000000002", 2, topics);
+    super::put_whole_reply(bytes, &reply)
+}
+
+fn put_refused(alloc: Global, bytes: &mut Vec<u8>) -> Result<(), AllocError> {
+    super::put_whole_reply(bytes, &refused(alloc))
+}
+
+fn put_steady(alloc: Global, bytes: &mut Vec<u8>) -> Result<(), AllocError> {
+    super::put_whole_request(bytes, &steady(alloc))
 }
 
 fn put_granted(alloc: Global, bytes: &mut Vec<u8>) -> Result<(), AllocError> {
