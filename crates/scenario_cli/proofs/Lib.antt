@@ -8,3 +8,5 @@ pub mod Growth
 pub mod Prints
 pub mod Pages
 pub mod Reported
+pub mod DigitTable
+pub mod FirstBytes

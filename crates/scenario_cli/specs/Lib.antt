@@ -7,3 +7,4 @@ pub mod Writing
 pub mod Requests
 pub mod Printing
 pub mod Reports
+pub mod Digits

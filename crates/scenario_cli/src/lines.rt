@@ -3,6 +3,8 @@ ghost use Rattle.std.specs.Prelude.{◌≡◌, ◌<◌, ◌∷◌, length, posit
 ghost use Rattle.std.specs.Iterator.{YieldsFirstRef, item_count};
 ghost use Rattle.scenario_cli.specs.Lines.{lines_of, is_line_feed};
 
+use memchr::memchr;
+
 /// The lines of an input that are left: each ends at a line feed, which the last may lack.
 #[derive(Drop)]
 pub struct Lines<'a> {
@@ -50,5 +52,5 @@ fn first_line(input: &[u8]) -> (&[u8], &[u8])
 fn line_feed_in(input: &[u8]) -> Option<usize>
     ensures { result ≡ position is_line_feed input.now }
 {
-    input.iter().position(|byte| *byte == b'\n')
+    memchr(b'\n', input)
 }

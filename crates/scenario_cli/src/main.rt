@@ -7,6 +7,7 @@
 #![tactic(auto)]
 
 mod command_line;
+mod digits;
 mod driver;
 mod fault;
 mod frame;

@@ -3,9 +3,9 @@ ghost use Rattle.std.specs.Prelude.{◌≡◌, ◌≢◌, ℕ, [], pos, All, ◌
 ghost use Rattle.hex.specs.Hex.{decode_of};
 ghost use Rattle.scenario_cli.specs.Words.{words_of, IsLine, IsName};
 
+use crate::digits::decode_into;
 use crate::fault::LineFault;
 use group_types::limits::LONGEST_STRING;
-use hex::FromHexError;
 use itoa::Buffer;
 use std::alloc::{AllocError, Global};
 
@@ -76,8 +76,11 @@ pub fn bytes_of(alloc: Global, word: &str) -> Result<Vec<u8>, LineFault>
     ensures bytes { IfOk result (λ bytes. decode_of word.now ≡ Ok bytes.items) }
     ensures refused { result ≡ Err LineFault.BadLine → IsErr (decode_of word.now) }
 {
-    hex::decode(alloc, word).map_err(|fault| match fault {
-        FromHexError::OutOfMemory => LineFault::NoMemory,
-        _ => LineFault::BadLine,
-    })
+    let digits = word.as_bytes();
+    if digits.len() % 2 == 1 {
+        return Err(LineFault::BadLine);
+    }
+    let mut bytes = vec![in alloc; 0u8; digits.len() / 2]?;
+    decode_into(digits, bytes.as_mut_slice())?;
+    Ok(bytes)
 }
