@@ -239,30 +239,40 @@ fn put_field(
     bytes: &mut Vec<u8>,
 ) -> Result<(), AllocError> {
     match field {
-        "varint" => put_varint(bytes, tables::number(value)),
         "compact_string" => put_compact_str(bytes, short(value)),
         "nullable_string" => put_nullable_str(bytes, text(value)),
         "old_string" => put_old_str(bytes, text(value)),
-        "count" => put_count(bytes, u32::from(count(value))),
-        "nullable_count" => put_nullable_count(bytes, count_or_null(value)),
         "mark" => put_mark(bytes, value == "true"),
         "uuid" => put_uuid(bytes, &Uuid::parse_str(value).unwrap_or(Uuid::nil())),
+        "tags" => put_some_tags(alloc, value, bytes),
+        _ => put_number(field, value, bytes),
+    }
+}
+
+fn put_number(field: &str, value: &str, bytes: &mut Vec<u8>) -> Result<(), AllocError> {
+    match field {
+        "varint" => put_varint(bytes, tables::number(value)),
+        "count" => put_count(bytes, u32::from(count(value))),
+        "nullable_count" => put_nullable_count(bytes, count_or_null(value)),
         "i16" => put_i16(bytes, tables::number(value)),
         "i32" => put_i32(bytes, tables::number(value)),
-        "i64" => put_i64(bytes, tables::number(value)),
-        _ => put_some_tags(alloc, value, bytes),
+        _ => put_i64(bytes, tables::number(value)),
     }
 }
 
 /// A text that isn't too long.
 fn short(value: &str) -> &str
-    ensures { length result.now ≤ 32767 }
+    ensures { length result.now ≤ LONGEST_STRING }
 {
-    if value.len() <= 32_767 { value } else { "" }
+    if value.len() <= LONGEST_STRING {
+        value
+    } else {
+        ""
+    }
 }
 
 fn text(value: &str) -> Option<&str>
-    ensures { ForSome result (λ t. length t.now ≤ 32767) }
+    ensures { ForSome result (λ t. length t.now ≤ LONGEST_STRING) }
 {
     if value == "null" {
         return None;

@@ -405,9 +405,14 @@ fn put_answer(
     text: &mut String,
 ) -> Result<(), AllocError> {
     let request = request_of(alloc, beat)?;
-    match answer(alloc, group, &request, image, text)? {
+    let outcome = answer(alloc, group, &request, image, text)?;
+    put_outcome(text, &outcome)
+}
+
+fn put_outcome(text: &mut String, outcome: &Outcome) -> Result<(), AllocError> {
+    match outcome {
         Outcome::Closes => text.push_str("closes\n"),
-        Outcome::Replied(reply) => put_reply(text, &reply),
+        Outcome::Replied(reply) => put_reply(text, reply),
     }
 }
 

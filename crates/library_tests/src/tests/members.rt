@@ -129,15 +129,25 @@ fn topic_of(word: &str) -> Option<Topic<'_>> {
 }
 
 fn view_in(alloc: Global, words: &str) -> Result<View, AllocError> {
+    let image = image_of(alloc, topics_in(alloc, words)?)?;
+    image.view(alloc, &names_in(alloc, words)?)
+}
+
+fn topics_in(alloc: Global, words: &str) -> Result<Vec<TopicEntry>, AllocError> {
     let mut list = Vec::new(alloc);
-    let mut names = NameSet::new(alloc);
     for topic in words.split(' ').filter_map(topic_of) {
         let Topic { name, id, count } = topic;
         list.push(entry_of(alloc, name, id, count)?)?;
-        names.insert(alloc, name)?;
     }
-    let image = image_of(alloc, list)?;
-    image.view(alloc, &names)
+    Ok(list)
+}
+
+fn names_in(alloc: Global, words: &str) -> Result<NameSet, AllocError> {
+    let mut names = NameSet::new(alloc);
+    for topic in words.split(' ').filter_map(topic_of) {
+        names.insert(alloc, topic.name)?;
+    }
+    Ok(names)
 }
 
 fn entry_of(alloc: Global, name: &str, id: Uuid, count: i32) -> Result<TopicEntry, AllocError> {

@@ -285,15 +285,12 @@ fn put_whole_request(out: &mut Vec<u8>, request: &Request<'_>) -> Result<(), All
 
 fn tell_reply(alloc: Global, api: Api, body: &[u8], out: &mut String) -> Result<(), AllocError> {
     match read_reply(alloc, api, body) {
-        Ok(reply) => {
-            write!(out, "{reply:?}")?;
-            reply_again(alloc, &reply, body, out)
-        }
+        Ok(reply) => reply_again(alloc, &reply, body, out),
         Err(fault) => tell_fault(fault, out),
     }
 }
 
-/// Writes the reply again, and tells where that gives another body.
+/// Tells a reply, writes it again, and tells where that gives another body.
 fn reply_again(
     alloc: Global,
     reply: &Reply<'_>,
@@ -302,6 +299,7 @@ fn reply_again(
 ) -> Result<(), AllocError>
     requires { IsWritableReply (reply_value reply.now) }
 {
+    write!(out, "{reply:?}")?;
     let mut again = Vec::new(alloc);
     put_whole_reply(&mut again, reply)?;
     tell_other(again.as_slice(), body, out)

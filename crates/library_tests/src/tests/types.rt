@@ -369,13 +369,25 @@ fn compare_sets(
     out: &mut String,
 ) -> Result<(), AllocError> {
     tell_len(one.len(), one.is_empty(), out)?;
-    let same = one.copy(alloc)?.equals(one);
-    write!(out, " its copy equals it {same},")?;
-    write!(out, " the other {},", one.equals(other))?;
-    write!(out, " apart {}, common", one.is_disjoint(other))?;
+    tell_equals(alloc, one, other, out)?;
     one.retain_common(other);
     tables::part_words(out)?;
     put_parts(one, out)
+}
+
+fn tell_equals(
+    alloc: Global,
+    one: &PartSet,
+    other: &PartSet,
+    out: &mut String,
+) -> Result<(), AllocError> {
+    let same = one.copy(alloc)?.equals(one);
+    let equal = one.equals(other);
+    let apart = one.is_disjoint(other);
+    write!(
+        out,
+        " its copy equals it {same}, the other {equal}, apart {apart}, common"
+    )
 }
 
 /// Does the words in turn with a set of names that is empty at first, and tells what each gives.
@@ -499,14 +511,23 @@ fn tell_wanted_set(
     out: &mut String,
 ) -> Result<(), AllocError> {
     let wanted = Wanted::new(Some(set), epoch);
+    put_contained(&wanted, out)?;
+    put_given(&wanted, set, out)?;
+    put_copy(alloc, &wanted, out)
+}
+
+fn put_contained(wanted: &Wanted<'_>, out: &mut String) -> Result<(), AllocError> {
     for p in ["1.0", "1.1"] {
         write!(out, "{p} {}, ", wanted.contains(&part(p)))?;
     }
-    write!(out, "epoch {}, ", wanted.epoch().as_u32())?;
-    if let Some(given) = wanted.set() {
-        write!(out, "its set equals it {}, a copy ", given.equals(set))?;
+    write!(out, "epoch {}, ", wanted.epoch().as_u32())
+}
+
+fn put_given(wanted: &Wanted<'_>, set: &PartSet, out: &mut String) -> Result<(), AllocError> {
+    match wanted.set() {
+        Some(given) => write!(out, "its set equals it {}, a copy ", given.equals(set)),
+        None => Ok(()),
     }
-    put_copy(alloc, &wanted, out)
 }
 
 fn put_copy(alloc: Global, wanted: &Wanted<'_>, out: &mut String) -> Result<(), AllocError> {
