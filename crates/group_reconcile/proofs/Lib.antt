@@ -1,0 +1,4 @@
+pub mod Lookups
+pub mod Writes
+pub mod Rooms
+pub mod Settled

@@ -1,0 +1,6 @@
+//! Who may read which partition (KIP-848, "Current Assignment").
+#![tactic(auto)]
+
+mod cell;
+mod settle;
+mod table;
