@@ -1,3 +1,4 @@
+pub mod Pairs
 pub mod Lookups
 pub mod Writes
 pub mod Rooms

@@ -4,3 +4,6 @@
 mod cell;
 mod settle;
 mod table;
+mod verdict;
+
+pub use verdict::Verdict;
