@@ -3,3 +3,4 @@ pub mod Lookups
 pub mod Writes
 pub mod Rooms
 pub mod Settled
+pub mod Numbers

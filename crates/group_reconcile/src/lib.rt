@@ -2,6 +2,7 @@
 #![tactic(auto)]
 
 mod cell;
+mod members;
 mod settle;
 mod table;
 mod verdict;
