@@ -4,3 +4,4 @@ pub mod Writes
 pub mod Rooms
 pub mod Settled
 pub mod Numbers
+pub mod Granted
