@@ -5,3 +5,4 @@ pub mod Rooms
 pub mod Settled
 pub mod Numbers
 pub mod Granted
+pub mod Leaving

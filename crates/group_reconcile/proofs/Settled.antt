@@ -11,7 +11,7 @@ use Rattle.group_types.proofs.Orders.{partition_cmp_total, partition_cmp-IsAntis
 use Rattle.group_types.proofs.SetLemmas.{has-in_order}
 use Rattle.group_reconcile.specs.declared.cell.Cell.{Cell}
 use Rattle.group_reconcile.specs.Tables.{Cells}
-use Rattle.group_reconcile.specs.Settling.{cells_cleared, cells_put, put_where_free}
+use Rattle.group_reconcile.specs.Settling.{cells_cleared, cells_put, cells_without, put_where_free}
 
 same : (p q : Partition) → eq_by_cmp partition_cmp q p ≡ true → q ≡ p
 same p q so = partition_cmp-IsAntisymmetric q p ((Equal-is (partition_cmp q p)).0 so)
@@ -19,6 +19,23 @@ same p q so = partition_cmp-IsAntisymmetric q p ((Equal-is (partition_cmp q p)).
 either_way : (b : Bool) (x : Option Cell) → cond b x x ≡ x
 either_way true x = refl
 either_way false x = refl
+
+pub get-cells_without : (m : Cells) (ps : List Partition) (q : Partition)
+    → finite.get (cells_without m ps) q ≡ cond (list_any (eq_by_cmp partition_cmp q) ps) None (finite.get m q)
+get-cells_without m [] q = refl
+get-cells_without m (p ∷ ps) q =
+    get-cells_without (finite.remove m p) ps q
+    ∙ ap (cond (list_any (eq_by_cmp partition_cmp q) ps) None) (finite.get-remove partition_cmp_total m p q)
+    ∙ either (list_any (eq_by_cmp partition_cmp q) ps) (eq_by_cmp partition_cmp q p)
+  where
+    either : (a b : Bool) → cond a None (cond b None (finite.get m q)) ≡ cond (b || a) None (finite.get m q)
+    either true b = sym (ap (λ c. cond c None (finite.get m q)) (all b))
+      where
+        all : (b : Bool) → (b || true) ≡ true
+        all true = refl
+        all false = refl
+    either false true = refl
+    either false false = refl
 
 pub get-cells_cleared : (m : Cells) (next : Partitions) (ps : List Partition) (q : Partition)
     → finite.get (cells_cleared m next ps) q ≡ cond (list_any (eq_by_cmp partition_cmp q) ps && not (has next q)) None (finite.get m q)

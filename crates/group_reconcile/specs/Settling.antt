@@ -7,6 +7,11 @@ use Rattle.group_types.specs.Partition.{Partitions}
 use Rattle.group_reconcile.specs.declared.cell.Cell.{Cell}
 use Rattle.group_reconcile.specs.Tables.{Cells}
 
+-- the cells without those of the partitions
+abbrev pub cells_without : Cells → List Partition → Cells
+cells_without m [] = m
+cells_without m (p ∷ ps) = cells_without (finite.remove m p) ps
+
 -- the cells without those of the partitions that aren't among the next ones
 abbrev pub cells_cleared : Cells → Partitions → List Partition → Cells
 cells_cleared m next [] = m

@@ -5,11 +5,14 @@ ghost use Rattle.std.specs.Option.{option_copied, option_map};
 ghost use Rattle.std.specs.FinMap as finite;
 ghost use Rattle.group_types.specs.Sets.{nothing};
 ghost use Rattle.group_types.specs.Group.{held};
+ghost use Rattle.group_types.specs.Settle.{grants_of_others};
 ghost use Rattle.group_reconcile.specs.Holders.{granted_at, holds, pairs};
+ghost use Rattle.group_reconcile.specs.Offers.{KeepsSince, handed_over};
 
 use crate::members::Members;
+use crate::settle::clear_each;
 use crate::table::Table;
-use group_types::{EpochNumber, PartSet, Partition};
+use group_types::{EpochNumber, MemberId, PartSet, Partition};
 use std::alloc::Global;
 use std::marker::Model;
 
@@ -89,5 +92,25 @@ impl Grants {
         let number = self.members.find(member)?;
         let member = self.members.get(number)?;
         Some(&member.parts)
+    }
+
+    /// Takes all that the member with this id may read from it. Takes no memory, and no walk over the other members.
+    pub fn drop_member(&mut self, member: &str)
+        ensures grants { pairs self.new ≡ grants_of_others (pairs self.old) member.now }
+        ensures since { KeepsSince self.old self.new }
+    {
+        if let Some(parts) = self.members.take(member) {
+            clear_each(&mut self.table, &parts);
+        }
+    }
+
+    /// Gives all that the old id may read to the new one, which may read nothing. Takes no memory, and no walk over the
+    /// partitions.
+    pub fn hand_over(&mut self, old: &str, new: MemberId)
+        requires { held (pairs self.old) new ≡ nothing }
+        ensures { self.new ≡ handed_over self.old old.now new }
+    {
+        let _ = self.members.take(new.as_str());
+        self.members.rename(old, new);
     }
 }

@@ -4,7 +4,7 @@ ghost use Rattle.std.specs.Prelude.{◌≡◌, OnOk};
 ghost use Rattle.std.specs.List.{AllByRecursion};
 ghost use Rattle.group_types.specs.Sets.{in_order};
 ghost use Rattle.group_reconcile.specs.Tables.{HasRoom, IsAtLeastZero, KeepsRoom};
-ghost use Rattle.group_reconcile.specs.Settling.{cells_cleared, cells_put, put_where_free};
+ghost use Rattle.group_reconcile.specs.Settling.{cells_cleared, cells_put, cells_without, put_where_free};
 
 use crate::cell::Cell;
 use crate::table::Table;
@@ -21,6 +21,15 @@ pub fn make_room_for(table: &mut Table, alloc: Global, next: &PartSet) -> Result
         table.make_room(alloc, p)?;
     }
     Ok(())
+}
+
+/// Frees all of these partitions. Takes no memory.
+pub fn clear_each(table: &mut Table, parts: &PartSet)
+    ensures { table.new.cells ≡ cells_without table.old.cells (in_order parts.now) }
+{
+    for p in parts.iter() {
+        table.clear(p);
+    }
 }
 
 /// Frees those of the partitions that aren't among the next ones. Takes no memory.
