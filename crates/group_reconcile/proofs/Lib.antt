@@ -1,3 +1,4 @@
+pub mod Tests
 pub mod Pairs
 pub mod Lookups
 pub mod Writes
@@ -6,3 +7,5 @@ pub mod Settled
 pub mod Numbers
 pub mod Granted
 pub mod Leaving
+pub mod Offering
+pub mod Settles

@@ -14,6 +14,7 @@ use Rattle.group_types.specs.Settle.{grants_of_others, moved, is_free_for}
 use Rattle.group_types.proofs.Orders.{text_cmp_total, text_cmp-IsAntisymmetric, partition_cmp_total, partition_cmp-IsAntisymmetric}
 use Rattle.group_types.proofs.GrantLemmas.{grant_cmp_total, grant_cmp-IsAntisymmetric, eq-grant, has-held, has-moved, has-others}
 use Rattle.group_types.proofs.SetLemmas.{has-of_list, has-in_order, same_set}
+use Rattle.group_reconcile.proofs.Tests.{met, unmet}
 use Rattle.group_reconcile.specs.Holders.{Held, Holders, holds, may_hold, holder_at, pairs, settled_holder, Settles, other_holder, LetsGo}
 
 same_id : (x y : Text) → eq_by_cmp text_cmp x y ≡ true → x ≡ y
@@ -73,32 +74,6 @@ has-held_pairs h x q = has-held (pairs h) x q ∙ has-pairs h x q
 
 -- ---- whether a partition is free for a member
 
--- a test of pairs is met by some where a pair meets it
-met : (f : Grant → Bool) (k : Grant) (ks : List Grant) → f k ≡ true → list_any (eq_by_cmp grant_cmp k) ks ≡ true → list_any f ks ≡ true
-met f k [] so there = there
-met f k (g ∷ ks) so there = at (met f k ks so) (eq_by_cmp grant_cmp k g) refl there
-  where
-    either : (b : Bool) → (b || true) ≡ true
-    either true = refl
-    either false = refl
-
-    at : (list_any (eq_by_cmp grant_cmp k) ks ≡ true → list_any f ks ≡ true) → (t : Bool) → eq_by_cmp grant_cmp k g ≡ t → (t || list_any (eq_by_cmp grant_cmp k) ks) ≡ true → (f g || list_any f ks) ≡ true
-    at rest true same there = ap (λ b. b || list_any f ks) (ap f (sym (grant_cmp-IsAntisymmetric k g ((Equal-is (grant_cmp k g)).0 same))) ∙ so)
-    at rest false same there = ap (λ b. f g || b) (rest there) ∙ either (f g)
-
-itself : (k : Grant) → eq_by_cmp grant_cmp k k ≡ true
-itself k = (eq_by_cmp_equiv grant_cmp_total).refl k
-
--- a test that no pair of the list meets
-unmet : (f : Grant → Bool) (ks : List Grant) → ((k : Grant) → list_any (eq_by_cmp grant_cmp k) ks ≡ true → f k ≡ false) → list_any f ks ≡ false
-unmet f [] none = refl
-unmet f (g ∷ ks) none =
-    (λ i. none g (ap (λ b. b || list_any (eq_by_cmp grant_cmp g) ks) (itself g)) i || unmet f ks (λ k there. none k (ap (λ b. eq_by_cmp grant_cmp k g || b) there ∙ either (eq_by_cmp grant_cmp k g))) i)
-  where
-    either : (b : Bool) → (b || true) ≡ true
-    either true = refl
-    either false = refl
-
 module _ (h : Holders) (m : Text) (p : Partition) where
   abbrev held_by_another : Grant → Bool
   held_by_another g = eq_by_cmp partition_cmp p g.1 && not (eq_by_cmp text_cmp m g.0)
@@ -107,7 +82,7 @@ module _ (h : Holders) (m : Text) (p : Partition) where
   listed k = sym (has-in_order (pairs h) k) ∙ has-pairs h k.0 k.1
 
   other : (o : Option Held) → finite.get h p ≡ o → list_any held_by_another (in_order (pairs h)) ≡ not (option_map_or (λ d. eq_by_cmp text_cmp m d.member) o true)
-  other None is = unmet held_by_another (in_order (pairs h)) (λ k there. at k (eq_by_cmp partition_cmp p k.1) refl (sym (listed k) ∙ there))
+  other None is = unmet grant_cmp_total grant_cmp-IsAntisymmetric held_by_another (in_order (pairs h)) (λ k there. at k (eq_by_cmp partition_cmp p k.1) refl (sym (listed k) ∙ there))
     where
       at : (k : Grant) (t : Bool) → eq_by_cmp partition_cmp p k.1 ≡ t → holds h k.0 k.1 ≡ true → (t && not (eq_by_cmp text_cmp m k.0)) ≡ false
       at k true same so =
@@ -124,9 +99,9 @@ module _ (h : Holders) (m : Text) (p : Partition) where
       blocked k false same so is_m = refl
 
       at : (b : Bool) → eq_by_cmp text_cmp m d.member ≡ b → list_any held_by_another (in_order (pairs h)) ≡ not b
-      at true is_m = unmet held_by_another (in_order (pairs h)) (λ k there. blocked k (eq_by_cmp partition_cmp p k.1) refl (sym (listed k) ∙ there) is_m)
+      at true is_m = unmet grant_cmp_total grant_cmp-IsAntisymmetric held_by_another (in_order (pairs h)) (λ k there. blocked k (eq_by_cmp partition_cmp p k.1) refl (sym (listed k) ∙ there) is_m)
       at false is_m =
-          met held_by_another (d.member, p) (in_order (pairs h))
+          met grant_cmp_total grant_cmp-IsAntisymmetric held_by_another (d.member, p) (in_order (pairs h))
           ((λ i. (eq_by_cmp_equiv partition_cmp_total).refl p i && not (is_m i)))
           (listed (d.member, p) ∙ ap (λ o. option_map_or (λ e. eq_by_cmp text_cmp d.member e.member) o false) is ∙ (eq_by_cmp_equiv text_cmp_total).refl d.member)
 

@@ -1,19 +1,20 @@
 //! Who may read which partition.
 
-ghost use Rattle.std.specs.Prelude.{◌≡◌, is_none, unwrap_or};
+ghost use Rattle.std.specs.Prelude.{◌≡◌, IfOk, OnErr, OnOk, is_none, unwrap_or};
 ghost use Rattle.std.specs.Option.{option_copied, option_map};
 ghost use Rattle.std.specs.FinMap as finite;
 ghost use Rattle.group_types.specs.Sets.{nothing};
 ghost use Rattle.group_types.specs.Group.{held};
-ghost use Rattle.group_types.specs.Settle.{grants_of_others};
-ghost use Rattle.group_reconcile.specs.Holders.{granted_at, holds, pairs};
-ghost use Rattle.group_reconcile.specs.Offers.{KeepsSince, handed_over};
+ghost use Rattle.group_types.specs.Settle.{grants_after, grants_of_others, may_settle};
+ghost use Rattle.group_reconcile.specs.Holders.{Settles, granted_at, holds, pairs};
+ghost use Rattle.group_reconcile.specs.Offers.{AreIndexed, IsSince, KeepsSince, handed_over, verdict_of};
 
 use crate::members::Members;
-use crate::settle::clear_each;
+use crate::settle::{clear_each, make_room_for, may_move, next_of, settle};
 use crate::table::Table;
-use group_types::{EpochNumber, MemberId, PartSet, Partition};
-use std::alloc::Global;
+use crate::verdict::Verdict;
+use group_types::{EpochNumber, MemberId, PartSet, Partition, Wanted};
+use std::alloc::{AllocError, Global};
 use std::marker::Model;
 
 /// Who may read which partition, and since which target (KIP-848, "Current Assignment"). A partition has at most one
@@ -92,6 +93,64 @@ impl Grants {
         let number = self.members.find(member)?;
         let member = self.members.get(number)?;
         Some(&member.parts)
+    }
+
+    /// Offers its target to a member that reports what it owns, or nothing (KIP-848, "Reconciliation of the group"): it
+    /// moves once it has given up what isn't its target any more, and is then granted what nobody else holds of the target.
+    /// Where memory is short, nothing has changed.
+    pub fn offer(
+        &mut self,
+        alloc: Global,
+        member: &MemberId,
+        target: &Wanted<'_>,
+        owned: Option<&PartSet>,
+    ) -> Result<Verdict, AllocError>
+        requires { AreIndexed target.now.partitions }
+        ensures verdict { IfOk result (λ v. v ≡ verdict_of (may_settle (pairs self.old) member.now target.now.partitions (option_copied owned.entry))) }
+        ensures grants { OnOk result (pairs self.new ≡ grants_after (may_settle (pairs self.old) member.now target.now.partitions (option_copied owned.entry)) (pairs self.old) member.now target.now.partitions) }
+        ensures since { OnOk result (IsSince self.old self.new member.now target.now.epoch) }
+        ensures err { OnErr result (self.new ≡ self.old) }
+    {
+        if !self.may_settle(member.as_str(), target, owned) {
+            return Ok(Verdict::StillHolds);
+        }
+        self.settle_on(alloc, member, target)?;
+        Ok(Verdict::Moves)
+    }
+
+    /// Whether a member that reports what it owns, or nothing, may go on to its target.
+    fn may_settle(&self, member: &str, target: &Wanted<'_>, owned: Option<&PartSet>) -> bool
+        ensures { result ≡ may_settle (pairs self.now) member.now target.now.partitions (option_copied owned.entry) }
+    {
+        match self.held(member) {
+            Some(parts) => may_move(parts, target, owned),
+            None => true,
+        }
+    }
+
+    /// Settles a member on its target: what can fail comes first. Where memory is short, nothing has changed.
+    fn settle_on(
+        &mut self,
+        alloc: Global,
+        member: &MemberId,
+        target: &Wanted<'_>,
+    ) -> Result<(), AllocError>
+        requires { AreIndexed target.now.partitions }
+        ensures settled { OnOk result (Settles self.old member.now target.now.partitions target.now.epoch self.new) }
+        ensures err { OnErr result (self.new ≡ self.old) }
+    {
+        let number = self.members.find(member.as_str());
+        let next = next_of(&self.table, alloc, number, target)?;
+        make_room_for(&mut self.table, alloc, &next)?;
+        let number = self.members.number_for(alloc, member)?;
+        settle(
+            &mut self.table,
+            &mut self.members,
+            number,
+            next,
+            target.epoch(),
+        );
+        Ok(())
     }
 
     /// Takes all that the member with this id may read from it. Takes no memory, and no walk over the other members.
