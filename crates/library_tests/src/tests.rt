@@ -1,6 +1,7 @@
 //! Tables of questions and the answers that are wanted: one module for each library, and what they share.
 
 mod fields;
+mod grants;
 mod groups;
 mod members;
 mod messages;

@@ -1,0 +1,11 @@
+pub mod Tests
+pub mod Pairs
+pub mod Lookups
+pub mod Writes
+pub mod Rooms
+pub mod Settled
+pub mod Numbers
+pub mod Granted
+pub mod Leaving
+pub mod Offering
+pub mod Settles

@@ -1,0 +1,239 @@
+-- A member is settled on its next partitions: what the cells and the member table say then.
+use Rattle.std.proofs.Common.{◌≡◌, ◌⊎◌, inl, inr, ℕ, Bool, true, false, cond, ◌&&◌, ◌||◌, ◌==◌, List, [], ◌∷◌, refl, sym, ap, subst, ◌∙◌, Option, Some, None, is_some, true≢false}
+use Rattle.std.specs.List.{AllByRecursion, list_any}
+use Rattle.std.specs.Option.{option_map, option_map_or}
+use Rattle.std.specs.Ordering.{eq_by_cmp}
+use Rattle.std.specs.Cmp.{eq_by_cmp_equiv}
+use Rattle.std.specs.FinMap as finite
+use Rattle.std.proofs.lemmas.Bool.Decides.{Decides-eqb, same_from_decides}
+use Rattle.slab.specs.Slab.{get}
+use Rattle.group_types.specs.declared.partition.Partition.{Partition}
+use Rattle.group_types.specs.Text.{Text, text_cmp}
+use Rattle.group_types.specs.Sets.{nothing, has, in_order}
+use Rattle.group_types.specs.Partition.{Partitions, partition_cmp}
+use Rattle.group_types.proofs.Lookups.{some_is}
+use Rattle.group_types.proofs.Orders.{partition_cmp_total, partition_cmp-IsAntisymmetric}
+use Rattle.group_types.proofs.SetLemmas.{has-in_order}
+use Rattle.group_reconcile.specs.declared.cell.Cell.{Cell}
+use Rattle.group_reconcile.specs.declared.members.Member.{Member}
+use Rattle.group_reconcile.specs.Granted.{AreConsistent, held_by, holders_of}
+use Rattle.group_reconcile.specs.Holders.{Held, Holders, Settles, settled_holder}
+use Rattle.group_reconcile.specs.Members.{IsNumberOf, KeepsMembers, KeepsParts, MemberTable, SetsParts, id_of, is_number, parts_of, with_parts}
+use Rattle.group_reconcile.specs.Offers.{AreIndexed, IsSince}
+use Rattle.group_reconcile.specs.Settling.{IsNext}
+use Rattle.group_reconcile.specs.Tables.{Cells, IsAtLeastZero}
+use Rattle.group_reconcile.proofs.Granted.{get-holders_of, known}
+use Rattle.group_reconcile.proofs.Leaving.{named-known}
+use Rattle.group_reconcile.proofs.Numbers.{has_id-is}
+
+-- ---- since when
+
+-- what a settling leaves keeps its epoch, and what it grants has the target's
+pub IsSince-settled : (h n : Holders) (m : Text) (target : Partitions) (epoch : ℕ) → Settles h m target epoch n → IsSince h n m epoch
+IsSince-settled h n m target epoch settles p d is = at (has target p) (finite.get h p) refl (sym (settles p) ∙ is)
+  where
+    some_or_not : (b : Bool) (e : Held) → cond b None (Some e) ≡ Some d → Some e ≡ Some d
+    some_or_not true e is = absurd (true≢false (sym (ap is_some is)))
+    some_or_not false e is = is
+
+    at : (wanted : Bool) (o : Option Held) → finite.get h p ≡ o → settled_holder m epoch wanted o ≡ Some d
+        → (finite.get h p ≡ Some d) ⊎ ((d ≡ record { member = m; since = epoch }) × (finite.get h p ≡ None))
+    at true None was is = inr (sym (some_is (record { member = m; since = epoch }) d is), was)
+    at true (Some e) was is = inl (was ∙ is)
+    at false None was is = absurd (true≢false (sym (ap is_some is)))
+    at false (Some e) was is = inl (was ∙ some_or_not (eq_by_cmp text_cmp m e.member) e is)
+
+-- ---- indexes
+
+-- what is true of each key of a list is true of all
+all_keys : (P : Partition → Type 0) (ps : List Partition) → ((p : Partition) → list_any (eq_by_cmp partition_cmp p) ps ≡ true → P p) → AllByRecursion P ps
+all_keys P [] each = tt
+all_keys P (p ∷ ps) each = (
+  each p (ap (λ b. b || list_any (eq_by_cmp partition_cmp p) ps) ((eq_by_cmp_equiv partition_cmp_total).refl p)),
+  all_keys P ps (λ q there. each q (or_true (eq_by_cmp partition_cmp q p) (list_any (eq_by_cmp partition_cmp q) ps) there)),
+)
+  where
+    or_true : (a b : Bool) → b ≡ true → (a || b) ≡ true
+    or_true true b so = refl
+    or_true false b so = so
+
+-- the next partitions have the target's indexes
+pub indexed-next : (cells : Cells) (number : Option ℕ) (target next : Partitions) → AreIndexed target → IsNext cells number target next → AllByRecursion (λ p. IsAtLeastZero p.index) (in_order next)
+indexed-next cells number target next indexed is_next =
+    all_keys (λ p. IsAtLeastZero p.index) (in_order next) (λ p there.
+    let index = indexed p (first (has target p) _ (sym (is_next p) ∙ has-in_order next p ∙ there)) in
+    subst IsAtLeastZero (sym index.1) tt)
+  where
+    first : (a b : Bool) → (a && b) ≡ true → a ≡ true
+    first true b so = refl
+    first false b so = so
+
+-- ---- a member table in which no member has changed, though there may be more of them
+
+module _ (ms us : MemberTable) (cells : Cells) (consistent : AreConsistent ms cells) (kept : KeepsMembers ms us) (parts : KeepsParts ms us) where
+  pub AreConsistent-kept : AreConsistent us cells
+  AreConsistent-kept k p = ap (λ s. has s p) (parts k) ∙ consistent k p
+
+  -- who holds a partition has the id that it had
+  pub same_holder : (p : Partition) (c : Cell) → finite.get cells p ≡ Some c → id_of us c.holder ≡ id_of ms c.holder
+  same_holder p c is = at (get ms c.holder) refl (known ms cells consistent p c is)
+    where
+      at : (o : Option Member) → get ms c.holder ≡ o → is_some o ≡ true → id_of us c.holder ≡ option_map_or (λ m. m.id) o []
+      at None was there = absurd (true≢false (sym there))
+      at (Some m) was there = ap (λ o. option_map_or (λ m. m.id) o []) (kept c.holder m was)
+
+  pub holders_of-kept : holders_of us cells ≡ holders_of ms cells
+  holders_of-kept =
+      finite.same_map partition_cmp_total partition_cmp-IsAntisymmetric _ _
+      (λ p. get-holders_of us cells p ∙ at p (finite.get cells p) refl ∙ sym (get-holders_of ms cells p))
+    where
+      at : (p : Partition) (o : Option Cell) → finite.get cells p ≡ o → option_map (held_by us) o ≡ option_map (held_by ms) o
+      at p None is = refl
+      at p (Some c) is = ap (λ id. Some (record { member = id; since = c.since })) (same_holder p c is)
+
+-- ---- the settling
+
+turned : (k n : ℕ) → (k == n) ≡ (n == k)
+turned k n = same_from_decides _ _ (Decides-eqb k n) (λ so. sym ((Decides-eqb n k).0 so), λ is. (Decides-eqb n k).1 (sym is))
+
+-- what was granted or freed
+abbrev settled_cell : Cell → Bool → Bool → Option Cell → Option Cell
+settled_cell new mine wanted None = cond wanted (Some new) None
+settled_cell new mine wanted (Some c) = cond wanted (Some c) (cond mine None (Some c))
+
+module _ (ms us ws : MemberTable) (cells after : Cells) (m : Text) (epoch n : ℕ) (number : Option ℕ) (target next : Partitions)
+    (consistent : AreConsistent ms cells) (before : IsNumberOf ms m number) (kept : KeepsMembers ms us) (parts : KeepsParts ms us) (of_m : IsNumberOf us m (Some n))
+    (is_next : IsNext cells number target next) (sets : SetsParts us ws n next)
+    (changed : (p : Partition) → finite.get after p ≡ cond (has next p) (cond (is_some (finite.get cells p)) (finite.get cells p) (Some (record { holder = n; since = epoch }))) (cond (has (parts_of us n) p) None (finite.get cells p))) where
+  abbrev new_cell : Cell
+  new_cell = record { holder = n; since = epoch }
+
+  consistent_us : AreConsistent us cells
+  consistent_us = AreConsistent-kept ms us cells consistent kept parts
+
+  -- a cell is the member's by its number as by the id
+  mine : (p : Partition) (c : Cell) → finite.get cells p ≡ Some c → eq_by_cmp text_cmp m (id_of ms c.holder) ≡ (c.holder == n)
+  mine p c is =
+      ap (eq_by_cmp text_cmp m) (sym (same_holder ms us cells consistent kept parts p c is))
+      ∙ named-known us m c.holder (known us cells consistent_us p c is)
+      ∙ of_m c.holder
+
+  was_mine : (p : Partition) (c : Cell) → finite.get cells p ≡ Some c → is_number number c.holder ≡ (c.holder == n)
+  was_mine p c is = sym (before c.holder) ∙ sym (named-known ms m c.holder (known ms cells consistent p c is)) ∙ mine p c is
+
+  next_at_none : (p : Partition) → finite.get cells p ≡ None → has next p ≡ has target p
+  next_at_none p is = is_next p ∙ ap (λ o. has target p && option_map_or (λ c. is_number number c.holder) o true) is ∙ and_true (has target p)
+    where
+      and_true : (b : Bool) → (b && true) ≡ b
+      and_true true = refl
+      and_true false = refl
+
+  next_at_some : (p : Partition) (c : Cell) → finite.get cells p ≡ Some c → has next p ≡ (has target p && (c.holder == n))
+  next_at_some p c is =
+      is_next p ∙ ap (λ o. has target p && option_map_or (λ c. is_number number c.holder) o true) is ∙ ap (λ b. has target p && b) (was_mine p c is)
+
+  after_at : (p : Partition) (o : Option Cell) → finite.get cells p ≡ o → finite.get after p ≡ settled_cell new_cell (option_map_or (λ c. c.holder == n) o false) (has target p) o
+  after_at p None is =
+      changed p ∙ (λ i. cond (next_at_none p is i) (cond (is_some (is i)) (is i) (Some new_cell)) (cond (has (parts_of us n) p) None (is i)))
+      ∙ ap (cond (has target p) (Some new_cell)) (either (has (parts_of us n) p) None)
+    where
+      either : (b : Bool) (o : Option Cell) → cond b o o ≡ o
+      either true o = refl
+      either false o = refl
+  after_at p (Some c) is =
+      changed p
+      ∙ (λ i. cond (next_at_some p c is i) (cond (is_some (is i)) (is i) (Some new_cell)) (cond ((consistent_us n p ∙ ap (λ o. option_map_or (λ c. c.holder == n) o false) is) i) None (is i)))
+      ∙ simpler (has target p) (c.holder == n)
+    where
+      simpler : (t e : Bool) → cond (t && e) (Some c) (cond e None (Some c)) ≡ cond t (Some c) (cond e None (Some c))
+      simpler true true = refl
+      simpler true false = refl
+      simpler false e = refl
+
+  -- the ids stay, and the member has its new set
+  same_ids : (k : ℕ) → id_of ws k ≡ id_of us k
+  same_ids k = ap (λ o. option_map_or (λ m. m.id) o []) (sets k) ∙ at (k == n) (get us k)
+    where
+      at : (b : Bool) (o : Option Member) → option_map_or (λ m. m.id) (cond b (option_map (with_parts next) o) o) [] ≡ option_map_or (λ m. m.id) o []
+      at true None = refl
+      at true (Some m) = refl
+      at false o = refl
+
+  parts_set : (k : ℕ) → parts_of ws k ≡ cond (k == n) next (parts_of us k)
+  parts_set k = ap (λ o. option_map_or (λ m. m.parts) o nothing) (sets k) ∙ at (k == n) (get us k) (λ same. ap (λ l. is_some (get us l)) ((Decides-eqb k n).0 same) ∙ there)
+    where
+      there : is_some (get us n) ≡ true
+      there = (has_id-is us m n (of_m n ∙ (Decides-eqb n n).1 refl)).0
+
+      at : (b : Bool) (o : Option Member) → (b ≡ true → is_some o ≡ true)
+          → option_map_or (λ m. m.parts) (cond b (option_map (with_parts next) o) o) nothing ≡ cond b next (option_map_or (λ m. m.parts) o nothing)
+      at true None some = absurd (true≢false (sym (some refl)))
+      at true (Some m) some = refl
+      at false o some = refl
+
+  pub AreConsistent-settled : AreConsistent ws after
+  AreConsistent-settled k p =
+      ap (λ s. has s p) (parts_set k)
+      ∙ at (k == n) refl (finite.get cells p) refl
+      ∙ sym (ap (λ o. option_map_or (λ c. c.holder == k) o false) (after_at p (finite.get cells p) refl))
+    where
+      granted : (t b : Bool) → (k == n) ≡ b → cond b t false ≡ option_map_or (λ c. c.holder == k) (cond t (Some new_cell) None) false
+      granted true true same = sym (turned n k ∙ same)
+      granted true false other = sym (turned n k ∙ other)
+      granted false true same = refl
+      granted false false other = refl
+
+      held : (c : Cell) (t e b : Bool) → (k == n) ≡ b → (c.holder == n) ≡ e → cond b (t && e) (c.holder == k) ≡ option_map_or (λ c. c.holder == k) (cond t (Some c) (cond e None (Some c))) false
+      held c true e true same is = sym (ap (λ l. c.holder == l) ((Decides-eqb k n).0 same) ∙ is)
+      held c false true true same is = refl
+      held c false false true same is = sym (ap (λ l. c.holder == l) ((Decides-eqb k n).0 same) ∙ is)
+      held c true e false other is = refl
+      held c false true false other is = ap (λ l. l == k) ((Decides-eqb c.holder n).0 is) ∙ turned n k ∙ other
+      held c false false false other is = refl
+
+      in_set : (b : Bool) (s t : Partitions) → has (cond b s t) p ≡ cond b (has s p) (has t p)
+      in_set true s t = refl
+      in_set false s t = refl
+
+      at : (b : Bool) → (k == n) ≡ b → (o : Option Cell) → finite.get cells p ≡ o
+          → has (cond b next (parts_of us k)) p ≡ option_map_or (λ c. c.holder == k) (settled_cell new_cell (option_map_or (λ c. c.holder == n) o false) (has target p) o) false
+      at b same None is =
+          in_set b next (parts_of us k)
+          ∙ (λ i. cond b (next_at_none p is i) ((consistent_us k p ∙ ap (λ o. option_map_or (λ c. c.holder == k) o false) is) i))
+          ∙ granted (has target p) b same
+      at b same (Some c) is =
+          in_set b next (parts_of us k)
+          ∙ (λ i. cond b (next_at_some p c is i) ((consistent_us k p ∙ ap (λ o. option_map_or (λ c. c.holder == k) o false) is) i))
+          ∙ held c (has target p) (c.holder == n) b same refl
+
+  pub Settles-settled : Settles (holders_of ms cells) m target epoch (holders_of ws after)
+  Settles-settled p =
+      get-holders_of ws after p
+      ∙ ap (option_map (held_by ws)) (after_at p (finite.get cells p) refl)
+      ∙ at (finite.get cells p) refl
+      ∙ ap (settled_holder m epoch (has target p)) (sym (get-holders_of ms cells p))
+    where
+      granted : (t : Bool) → option_map (held_by ws) (cond t (Some new_cell) None) ≡ settled_holder m epoch t None
+      granted true = ap (λ id. Some (record { member = id; since = epoch })) (same_ids n ∙ (has_id-is us m n (of_m n ∙ (Decides-eqb n n).1 refl)).1)
+      granted false = refl
+
+      same : (c : Cell) → finite.get cells p ≡ Some c → held_by ws c ≡ held_by ms c
+      same c is = ap (λ id. record { member = id; since = c.since }) (same_ids c.holder ∙ same_holder ms us cells consistent kept parts p c is)
+
+      held : (c : Cell) → finite.get cells p ≡ Some c → (t e : Bool)
+          → option_map (held_by ws) (cond t (Some c) (cond e None (Some c))) ≡ cond t (Some (held_by ms c)) (cond e None (Some (held_by ms c)))
+      held c is true e = ap Some (same c is)
+      held c is false true = refl
+      held c is false false = ap Some (same c is)
+
+      settled : (c : Cell) (t : Bool) → cond t (Some (held_by ms c)) (cond (eq_by_cmp text_cmp m (id_of ms c.holder)) None (Some (held_by ms c))) ≡ settled_holder m epoch t (Some (held_by ms c))
+      settled c true = refl
+      settled c false = refl
+
+      at : (o : Option Cell) → finite.get cells p ≡ o
+          → option_map (held_by ws) (settled_cell new_cell (option_map_or (λ c. c.holder == n) o false) (has target p) o) ≡ settled_holder m epoch (has target p) (option_map (held_by ms) o)
+      at None is = granted (has target p)
+      at (Some c) is =
+          held c is (has target p) (c.holder == n)
+          ∙ ap (λ e. cond (has target p) (Some (held_by ms c)) (cond e None (Some (held_by ms c)))) (sym (mine p c is))
+          ∙ settled c (has target p)

@@ -1,0 +1,70 @@
+use Rattle.std.proofs.Common.{◌≡◌, cond, OnErr, Result, Ok, Err, Some, None, is_some, ℕ, subst, ap, ◌∙◌}
+use Rattle.std.specs.FinMap as finite
+use Rattle.group_types.specs.declared.partition.Partition.{Partition}
+use Rattle.group_types.specs.Partition.{Partitions}
+use Rattle.group_types.specs.Sets.{has, in_order}
+use Rattle.group_reconcile.specs.Granted.{holders_of}
+use Rattle.group_reconcile.specs.Holders.{Settles}
+use Rattle.group_reconcile.specs.Members.{IsNumberOf, parts_of}
+use Rattle.group_reconcile.specs.Settling.{cells_cleared, cells_put}
+use Rattle.group_reconcile.specs.Tables.{Cells}
+use Rattle.group_reconcile.proofs.Settled.{settling_is}
+use Rattle.group_reconcile.proofs.Settles.{AreConsistent-settled, Settles-settled, holders_of-kept, indexed-next}
+use Rattle.group_reconcile.proofs.grants.Grants.settle_on.Goals as goal
+
+on_err : {T E : Type 0} {P : Type 0} (r : Result T E) → P → OnErr r P
+on_err (Ok x) h = tt
+on_err (Err e) h = h
+
+-- what the cells of a partition are, where the room was made before and the epoch is the target's
+changed : (cells grown after : Cells) (parts next : Partitions) (n since epoch : ℕ) → grown ≡ cells → since ≡ epoch
+    → after ≡ cells_put (cells_cleared grown next (in_order parts)) (record { holder = n; since = since }) (in_order next) → (p : Partition)
+    → finite.get after p ≡ cond (has next p) (cond (is_some (finite.get cells p)) (finite.get cells p) (Some (record { holder = n; since = epoch }))) (cond (has parts p) None (finite.get cells p))
+changed cells grown after parts next n since epoch same at is p =
+    ap (λ m. finite.get m p) is
+    ∙ (λ i. finite.get (cells_put (cells_cleared (same i) next (in_order parts)) (record { holder = n; since = at i }) (in_order next)) p)
+    ∙ settling_is cells parts next (record { holder = n; since = epoch }) p
+
+pub make_room_for-requires : goal.make_room_for-requires
+make_room_for-requires c =
+    indexed-next c.self.inside.table.cells c.find-number.result c.args.target.now.partitions c.in_ok-next.next c.requires c.in_ok-next.ensures
+
+pub returns-in_err-number-clause-err : goal.returns-in_err-number-clause-err
+returns-in_err-number-clause-err c =
+    let us = c.number_for.new.self in
+    on_err c.from_residual-in_err-number.result
+    (ap (holders_of us) c.make_room_for.ensures.cells
+    ∙ holders_of-kept c.self.inside.members us c.self.inside.table.cells c.self.invariant c.number_for.ensures.members c.number_for.ensures.parts
+    ∙ c.self.view_is)
+
+pub invariant_of-self-2 : goal.invariant_of-self-2
+invariant_of-self-2 c =
+    let ms = c.self.inside.members in
+    let us = c.number_for.new.self in
+    let cells = c.self.inside.table.cells in
+    let after = c.settle.new.table.cells in
+    let m = c.args.member.now in
+    let n = c.in_ok-number.number in
+    let next = c.in_ok-next.next in
+    let epoch = c.args.target.now.epoch in
+    AreConsistent-settled ms us c.settle.new.members cells after m epoch n c.find-number.result c.args.target.now.partitions next
+    c.self.invariant (subst (λ id. IsNumberOf ms id c.find-number.result) c.as_str.ensures.value c.find-number.ensures)
+    c.number_for.ensures.members c.number_for.ensures.parts c.in_ok-number.ensures.number c.in_ok-next.ensures c.settle.ensures.members
+    (changed cells c.make_room_for.new.table.cells after (parts_of us n) next n c.epoch.result epoch c.make_room_for.ensures.cells c.epoch.ensures c.settle.ensures.cells)
+
+pub returns-clause-settled : goal.returns-clause-settled
+returns-clause-settled c =
+    let ms = c.self.inside.members in
+    let us = c.number_for.new.self in
+    let ws = c.settle.new.members in
+    let cells = c.self.inside.table.cells in
+    let after = c.settle.new.table.cells in
+    let m = c.args.member.now in
+    let n = c.in_ok-number.number in
+    let next = c.in_ok-next.next in
+    let epoch = c.args.target.now.epoch in
+    subst (λ h. Settles h m c.args.target.now.partitions epoch (holders_of ws after)) c.self.view_is
+    (Settles-settled ms us ws cells after m epoch n c.find-number.result c.args.target.now.partitions next
+    c.self.invariant (subst (λ id. IsNumberOf ms id c.find-number.result) c.as_str.ensures.value c.find-number.ensures)
+    c.number_for.ensures.members c.number_for.ensures.parts c.in_ok-number.ensures.number c.in_ok-next.ensures c.settle.ensures.members
+    (changed cells c.make_room_for.new.table.cells after (parts_of us n) next n c.epoch.result epoch c.make_room_for.ensures.cells c.epoch.ensures c.settle.ensures.cells))

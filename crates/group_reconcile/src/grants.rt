@@ -1,0 +1,175 @@
+//! Who may read which partition.
+
+ghost use Rattle.std.specs.Prelude.{◌≡◌, IfOk, OnErr, OnOk, is_none, unwrap_or};
+ghost use Rattle.std.specs.Option.{option_copied, option_map};
+ghost use Rattle.std.specs.FinMap as finite;
+ghost use Rattle.group_types.specs.Sets.{nothing};
+ghost use Rattle.group_types.specs.Group.{held};
+ghost use Rattle.group_types.specs.Settle.{grants_after, grants_of_others, may_settle};
+ghost use Rattle.group_reconcile.specs.Holders.{Settles, granted_at, holds, pairs};
+ghost use Rattle.group_reconcile.specs.Offers.{AreIndexed, IsSince, KeepsSince, handed_over, verdict_of};
+
+use crate::members::Members;
+use crate::settle::{clear_each, make_room_for, may_move, next_of, settle};
+use crate::table::Table;
+use crate::verdict::Verdict;
+use group_types::{EpochNumber, MemberId, PartSet, Partition, Wanted};
+use std::alloc::{AllocError, Global};
+use std::marker::Model;
+
+/// Who may read which partition, and since which target (KIP-848, "Current Assignment"). A partition has at most one
+/// holder.
+#[derive(Drop)]
+pub struct Grants {
+    table: Table,
+    members: Members,
+}
+
+impl Model for Grants {
+    ghost use Rattle.group_reconcile.specs.Holders.{Holders, holders_code};
+    ghost use Rattle.group_reconcile.specs.Granted.{AreConsistent, holders_of};
+
+    ghost Value = { Holders };
+
+    ghost coded = { holders_code };
+
+    ghost view = { λ a. holders_of a.members a.table.cells };
+
+    ghost invariant = { λ a. AreConsistent a.members a.table.cells };
+}
+
+impl Grants {
+    /// The grants in which every partition is free. Takes no memory.
+    pub fn new(alloc: Global) -> Grants
+        ensures { result ≡ finite.empty }
+    {
+        Grants {
+            table: Table::new(alloc),
+            members: Members::new(alloc),
+        }
+    }
+
+    /// The id of the member that may read the partition, or none where it is free. Takes no memory.
+    pub fn holder(&self, p: &Partition) -> Option<&str>
+        ensures { option_copied result ≡ option_map (λ d. d.member) (finite.get self.now p.now) }
+    {
+        let cell = self.table.get(p)?;
+        let member = self.members.get(cell.holder)?;
+        Some(member.id.as_str())
+    }
+
+    /// Whether the member with this id may read the partition. Takes no memory.
+    pub fn holds(&self, member: &str, p: &Partition) -> bool
+        ensures { result ≡ holds self.now member.now p.now }
+    {
+        match self.holder(p) {
+            Some(id) => id == member,
+            None => false,
+        }
+    }
+
+    /// Whether nobody may read the partition. Takes no memory.
+    pub fn free(&self, p: &Partition) -> bool
+        ensures { result ≡ is_none (finite.get self.now p.now) }
+    {
+        self.table.get(p).is_none()
+    }
+
+    /// The epoch of the target under which the partition was granted, or none where it is free. Takes no memory.
+    pub fn granted_at(&self, p: &Partition) -> Option<EpochNumber>
+        ensures { result ≡ granted_at self.now p.now }
+    {
+        match self.table.get(p) {
+            Some(cell) => Some(cell.since),
+            None => None,
+        }
+    }
+
+    /// What the member with this id may read: none where that is nothing. Takes no memory, and no walk over the other
+    /// members.
+    pub fn held(&self, member: &str) -> Option<&PartSet>
+        ensures { unwrap_or (option_copied result) nothing ≡ held (pairs self.now) member.now }
+    {
+        let number = self.members.find(member)?;
+        let member = self.members.get(number)?;
+        Some(&member.parts)
+    }
+
+    /// Offers its target to a member that reports what it owns, or nothing (KIP-848, "Reconciliation of the group"): it
+    /// moves once it has given up what isn't its target any more, and is then granted what nobody else holds of the target.
+    /// Where memory is short, nothing has changed.
+    pub fn offer(
+        &mut self,
+        alloc: Global,
+        member: &MemberId,
+        target: &Wanted<'_>,
+        owned: Option<&PartSet>,
+    ) -> Result<Verdict, AllocError>
+        requires { AreIndexed target.now.partitions }
+        ensures verdict { IfOk result (λ v. v ≡ verdict_of (may_settle (pairs self.old) member.now target.now.partitions (option_copied owned.entry))) }
+        ensures grants { OnOk result (pairs self.new ≡ grants_after (may_settle (pairs self.old) member.now target.now.partitions (option_copied owned.entry)) (pairs self.old) member.now target.now.partitions) }
+        ensures since { OnOk result (IsSince self.old self.new member.now target.now.epoch) }
+        ensures err { OnErr result (self.new ≡ self.old) }
+    {
+        if !self.may_settle(member.as_str(), target, owned) {
+            return Ok(Verdict::StillHolds);
+        }
+        self.settle_on(alloc, member, target)?;
+        Ok(Verdict::Moves)
+    }
+
+    /// Whether a member that reports what it owns, or nothing, may go on to its target.
+    fn may_settle(&self, member: &str, target: &Wanted<'_>, owned: Option<&PartSet>) -> bool
+        ensures { result ≡ may_settle (pairs self.now) member.now target.now.partitions (option_copied owned.entry) }
+    {
+        match self.held(member) {
+            Some(parts) => may_move(parts, target, owned),
+            None => true,
+        }
+    }
+
+    /// Settles a member on its target: what can fail comes first. Where memory is short, nothing has changed.
+    fn settle_on(
+        &mut self,
+        alloc: Global,
+        member: &MemberId,
+        target: &Wanted<'_>,
+    ) -> Result<(), AllocError>
+        requires { AreIndexed target.now.partitions }
+        ensures settled { OnOk result (Settles self.old member.now target.now.partitions target.now.epoch self.new) }
+        ensures err { OnErr result (self.new ≡ self.old) }
+    {
+        let number = self.members.find(member.as_str());
+        let next = next_of(&self.table, alloc, number, target)?;
+        make_room_for(&mut self.table, alloc, &next)?;
+        let number = self.members.number_for(alloc, member)?;
+        settle(
+            &mut self.table,
+            &mut self.members,
+            number,
+            next,
+            target.epoch(),
+        );
+        Ok(())
+    }
+
+    /// Takes all that the member with this id may read from it. Takes no memory, and no walk over the other members.
+    pub fn drop_member(&mut self, member: &str)
+        ensures grants { pairs self.new ≡ grants_of_others (pairs self.old) member.now }
+        ensures since { KeepsSince self.old self.new }
+    {
+        if let Some(parts) = self.members.take(member) {
+            clear_each(&mut self.table, &parts);
+        }
+    }
+
+    /// Gives all that the old id may read to the new one, which may read nothing. Takes no memory, and no walk over the
+    /// partitions.
+    pub fn hand_over(&mut self, old: &str, new: MemberId)
+        requires { held (pairs self.old) new ≡ nothing }
+        ensures { self.new ≡ handed_over self.old old.now new }
+    {
+        let _ = self.members.take(new.as_str());
+        self.members.rename(old, new);
+    }
+}
