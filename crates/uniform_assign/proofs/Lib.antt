@@ -15,3 +15,6 @@ pub mod Kept
 pub mod Filled
 pub mod Fewest
 pub mod Dealt
+pub mod Heaps
+pub mod Piled
+pub mod Firsts

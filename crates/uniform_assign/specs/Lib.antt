@@ -4,3 +4,4 @@ pub mod Drafts
 pub mod Former
 pub mod Moves
 pub mod Hands
+pub mod Piles

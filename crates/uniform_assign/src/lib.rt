@@ -10,6 +10,8 @@ mod fill;
 mod keep;
 mod laws;
 mod level;
+mod pile;
+mod piles;
 mod shares;
 mod uniform;
 
