@@ -18,3 +18,5 @@ pub mod Dealt
 pub mod Heaps
 pub mod Piled
 pub mod Firsts
+pub mod Ranked
+pub mod Queued

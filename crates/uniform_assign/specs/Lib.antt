@@ -5,3 +5,4 @@ pub mod Former
 pub mod Moves
 pub mod Hands
 pub mod Piles
+pub mod Rankings

@@ -12,6 +12,7 @@ mod laws;
 mod level;
 mod pile;
 mod piles;
+mod ranking;
 mod shares;
 mod uniform;
 
