@@ -1,5 +1,5 @@
 -- The places and the takers of a board.
-use Rattle.std.proofs.Common.{◌≡◌, ℕ, ◌<◌, List, [], ◌∷◌, length, get_or, map, refl, sym, ap, subst, ◌∙◌, Some}
+use Rattle.std.proofs.Common.{◌≡◌, ℕ, ◌<◌, List, [], ◌∷◌, length, get_or, map, refl, sym, ap, subst, ◌∙◌, arith, Some}
 use Rattle.std.specs.FinMap as finite
 use Rattle.std.specs.Global.{Vec}
 use Rattle.std.specs.List.{All, slice_get}
@@ -14,7 +14,7 @@ use Rattle.uniform_assign.specs.declared.board.Board.{Board}
 use Rattle.uniform_assign.specs.Boards.{AreTakersOf, IsBoard, shown_place}
 use Rattle.uniform_assign.specs.Drafts.{IsLeast}
 use Rattle.uniform_assign.proofs.Drawn.{AreApart}
-use Rattle.uniform_assign.proofs.Lists.{option_map-from, slice_get-map_at, slice_get-map_from}
+use Rattle.uniform_assign.proofs.Lists.{option_map-from, some_at, slice_get-map_at, slice_get-map_from}
 use Rattle.uniform_assign.proofs.Apart.{AreApart-view}
 
 -- what a board has at a place in partition order
@@ -90,3 +90,14 @@ least-within subs name counts takers m are least =
 -- the place that a loop is at
 pub place_here : (items places : List Place) (k : ℕ) (place : Place) → items ≡ places → k < length items → place ≡ get_or items k place → slice_get places k ≡ Some place
 place_here items places k place same within read = ap (λ xs. slice_get xs k) (sym same) ∙ slice_get_read items (length items) k place refl within read
+
+-- each of a board's takers has a place among the members
+pub takers_within : (board : Board) → IsBoard board → (k : ℕ) (v : Vec ℕ) → slice_get board.takers.items k ≡ Some v → All (λ t. t < length board.subs.now) v.items
+takers_within board is k v here =
+    let topics = finite.entries board.view.now in
+    let low = slice_get_within board.takers.items k v here in
+    let many = is.takers.as_many in
+    let (topic, is_topic) = some_at topics k (omega arith) in
+    let (w, is_w, of) = is.takers.there k topic is_topic in
+    let same : w ≡ v = same_Some w v (sym is_w ∙ here) in
+    subst (λ (x : Vec ℕ). All (λ t. t < length board.subs.now) x.items) same (all_takers board.subs.now topic.0 w.items of)

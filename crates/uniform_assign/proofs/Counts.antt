@@ -10,7 +10,7 @@ use Rattle.uniform_assign.specs.Drafts.{AreCounts, IsLeast, is_owner}
 use Rattle.uniform_assign.specs.Moves.{one_moved}
 use Rattle.uniform_assign.proofs.Lists.{pushed_at, slice_get-append_cases, slice_get-append_left}
 
-cases_equal : (m n : ℕ) → (m ≡ n) ⊎ (m ≡ n → ⊥)
+pub cases_equal : (m n : ℕ) → (m ≡ n) ⊎ (m ≡ n → ⊥)
 cases_equal m n = elim (cases_order m n) [
   | inl same ↦ inl same
   | inr other ↦ inr (λ same. elim other [ inl below ↦ omega arith | inr above ↦ omega arith ])
@@ -28,7 +28,7 @@ one_if_same m n same = ap (λ b. cond b 1 0) (eqb_same m n same)
 none_if_apart : (m n : ℕ) → (m ≡ n → ⊥) → cond {A = ℕ} (m == n) 1 0 ≡ 0
 none_if_apart m n apart = ap (λ b. cond b 1 0) (eqb_apart m n apart)
 
-slice_get-set_cases : {X : Type 0} (xs : List X) (k j : ℕ) (x y : X) → slice_get (set_at xs k x) j ≡ Some y → (x ≡ y) ⊎ (slice_get xs j ≡ Some y)
+pub slice_get-set_cases : {X : Type 0} (xs : List X) (k j : ℕ) (x y : X) → slice_get (set_at xs k x) j ≡ Some y → (x ≡ y) ⊎ (slice_get xs j ≡ Some y)
 slice_get-set_cases [] k j x y is = cc
 slice_get-set_cases (z ∷ xs) zero zero x y is = inl (same_Some x y is)
 slice_get-set_cases (z ∷ xs) zero (suc j) x y is = inr is

@@ -15,3 +15,8 @@ pub mod Kept
 pub mod Filled
 pub mod Fewest
 pub mod Dealt
+pub mod Heaps
+pub mod Piled
+pub mod Firsts
+pub mod Ranked
+pub mod Queued

@@ -85,3 +85,36 @@ some_at (x ∷ xs) (suc k) within = some_at xs k (omega arith)
 pub pushed_at : {X : Type 0} (xs : List X) (x : X) → slice_get (xs ++ x ∷ []) (length xs) ≡ Some x
 pushed_at [] x = refl
 pushed_at (y ∷ xs) x = pushed_at xs x
+
+pub filter-from : {X : Type 0} (p : X → Bool) (xs : List X) (j : ℕ) (x : X) → slice_get (filter p xs) j ≡ Some x → (k : ℕ) × (slice_get xs k ≡ Some x)
+filter-from p [] j x is = cc
+filter-from {X} p (y ∷ xs) j x is = elim (p y) as (λ b. slice_get (cond b (y ∷ filter p xs) (filter p xs)) j ≡ Some x → (k : ℕ) × (slice_get (y ∷ xs) k ≡ Some x)) [
+  | true ↦ here (λ i. filter-from p xs i x) j
+  | false ↦ λ there. let later = filter-from p xs j x there in (suc later.0, later.1)
+] is
+  where
+    here : ((i : ℕ) → slice_get (filter p xs) i ≡ Some x → (k : ℕ) × (slice_get xs k ≡ Some x)) → (j : ℕ) → slice_get (y ∷ filter p xs) j ≡ Some x → (k : ℕ) × (slice_get (y ∷ xs) k ≡ Some x)
+    here before zero same = (0, same)
+    here before (suc i) there = let later = before i there in (suc later.0, later.1)
+
+-- no element stands in the list twice
+abbrev pub AreOnce : {X : Type 0} → List X → Type 0
+AreOnce {X} xs = (i j : ℕ) (x : X) → slice_get xs i ≡ Some x → slice_get xs j ≡ Some x → i ≡ j
+
+AreOnce-tail : {X : Type 0} (y : X) (xs : List X) → AreOnce (y ∷ xs) → AreOnce xs
+AreOnce-tail y xs once i j x one other = let same = once (suc i) (suc j) x one other in omega arith
+
+AreOnce-cons : {X : Type 0} (p : X → Bool) (y : X) (xs : List X) → AreOnce (y ∷ xs) → AreOnce (filter p xs) → AreOnce (y ∷ filter p xs)
+AreOnce-cons p y xs once later zero zero x one other = refl
+AreOnce-cons p y xs once later zero (suc j) x one other = let (k, is) = filter-from p xs j x other in let same = once 0 (suc k) x one is in absurd (omega arith)
+AreOnce-cons p y xs once later (suc i) zero x one other = let (k, is) = filter-from p xs i x one in let same = once (suc k) 0 x is other in absurd (omega arith)
+AreOnce-cons p y xs once later (suc i) (suc j) x one other = ap suc (later i j x one other)
+
+pub AreOnce-filter : {X : Type 0} (p : X → Bool) (xs : List X) → AreOnce xs → AreOnce (filter p xs)
+AreOnce-filter p [] once i j x is_i is_j = cc
+AreOnce-filter {X} p (y ∷ xs) once i j x is_i is_j =
+    let later : AreOnce (filter p xs) = AreOnce-filter p xs (AreOnce-tail y xs once) in
+    elim (p y) as (λ b. slice_get (cond b (y ∷ filter p xs) (filter p xs)) i ≡ Some x → slice_get (cond b (y ∷ filter p xs) (filter p xs)) j ≡ Some x → i ≡ j) [
+      | true ↦ AreOnce-cons p y xs once later i j x
+      | false ↦ later i j x
+    ] is_i is_j

@@ -1,13 +1,13 @@
 -- What can move, in the spread that a draft shows.
-use Rattle.std.proofs.Common.{◌≡◌, ◌⊎◌, ℕ, ◌<◌, ◌≤◌, ◌+◌, List, [], ◌∷◌, ◌++◌, length, get_or, set as set_at, refl, sym, ap, subst, ◌∙◌, arith, inl, inr, Option, Some, None, length-set}
+use Rattle.std.proofs.Common.{◌≡◌, ℕ, ◌<◌, ◌≤◌, ◌+◌, List, [], ◌∷◌, ◌++◌, length, get_or, set as set_at, refl, sym, ap, subst, ◌∙◌, arith, Option, Some, None, length-set}
 use Rattle.std.specs.Global.{Vec}
-use Rattle.std.specs.List.{slice_get}
+use Rattle.std.specs.FinMap as finite
+use Rattle.std.specs.List.{Contains, slice_get}
 use Rattle.std.specs.Option.{option_and_then}
-use Rattle.std.proofs.lemmas.Bool.{cases_lt, cases_order}
 use Rattle.std.proofs.lemmas.Option.{same_Some, slice_get_within}
 use Rattle.group_types.specs.declared.partition.Partition.{Partition}
 use Rattle.group_types.specs.Text.{Text}
-use Rattle.group_types.specs.Topics.{Topics}
+use Rattle.group_types.specs.Topics.{Topic, Topics}
 use Rattle.group_types.specs.Assignors.{Subscriber, subscribers_of}
 use Rattle.group_types.specs.Owners.{Spread}
 use Rattle.group_types.specs.Uniform.{AreMoves, IsFewest, IsLevel, IsNextMove, count, in_partition_order}
@@ -17,7 +17,7 @@ use Rattle.uniform_assign.specs.declared.draft.Draft.{Draft}
 use Rattle.uniform_assign.specs.declared.level.Move.{Move}
 use Rattle.uniform_assign.specs.Boards.{AreTakersOf, IsBoard}
 use Rattle.uniform_assign.specs.Drafts.{AreCounts, IsDraft, IsLeast, drawn_on}
-use Rattle.uniform_assign.specs.Moves.{CanGive, ComesBefore, IsBetter, IsFirst, IsMove, IsMoveOf, IsNext}
+use Rattle.uniform_assign.specs.Moves.{CanGive, IsFirst, IsMove, IsNext}
 use Rattle.uniform_assign.proofs.Boards.{as_many_places, at_place, here_taker, parts_are_apart, taker_here}
 use Rattle.uniform_assign.proofs.Counted.{count-drawn}
 use Rattle.uniform_assign.proofs.Drawn.{drawn-at, drawn-owner, drawn-set}
@@ -162,111 +162,28 @@ module _ (board : Board) (draft : Draft) (is : IsBoard board) (are : IsDraft boa
       let fewer = can.fewer in
       omega arith
 
-  -- ---- place by place
-
-  below_next : (n k : ℕ) → k < n + 1 → (k < n) ⊎ (k ≡ n)
-  below_next n k low = elim (cases_lt k n) [ inl below ↦ inl below | inr above ↦ inr (omega arith) ]
-
-  IsFirst-skip : (n : ℕ) (m : Move) → IsFirst board draft n m → ((from : ℕ) → ¬ CanGive board draft from n) → IsFirst board draft (n + 1) m
-  IsFirst-skip n m first stays = record {
-    is_move = first.is_move;
-    within = let low = first.within in omega arith;
-    most = λ i k low can. elim (below_next n k low) [ inl below ↦ first.most i k below can | inr at ↦ absurd (stays i (subst (CanGive board draft i) at can)) ];
-    first_member = λ i k low can early. elim (below_next n k low) [ inl below ↦ first.first_member i k below can early | inr at ↦ absurd (stays i (subst (CanGive board draft i) at can)) ];
-    first_partition = λ k low can. elim (below_next n k low) [ inl below ↦ first.first_partition k below can | inr at ↦ absurd (stays m.from (subst (CanGive board draft m.from) at can)) ];
-  }
-
-  -- the move of a place is its owner's
-  move-owner : (m : Move) (n i k : ℕ) → IsMove board draft m → m.partition ≡ n → k ≡ n → CanGive board draft i k → i ≡ m.from
-  move-owner m n i k move at_n at can =
-      same_Some i m.from (same_Some (Some i) (Some m.from) (sym (can_give-owns i k can) ∙ ap (slice_get draft.owners.items) (at ∙ sym at_n) ∙ move.owns))
-
-  IsFirst-alone : (n : ℕ) (m : Move) → ((from k : ℕ) → k < n → ¬ CanGive board draft from k) → IsMove board draft m → m.partition ≡ n → IsFirst board draft (n + 1) m
-  IsFirst-alone n m none move at_n = record {
-    is_move = move;
-    within = omega arith;
-    most = λ i k low can. elim (below_next n k low) [
-      | inl below ↦ absurd (none i k below can)
-      | inr at ↦ let same = ap (λ j. get_or draft.counts.items j 0) (move-owner m n i k move at_n at can) in omega arith
-    ];
-    first_member = λ i k low can early. elim (below_next n k low) [
-      | inl below ↦ absurd (none i k below can)
-      | inr at ↦ let same = move-owner m n i k move at_n at can in absurd (omega arith)
-    ];
-    first_partition = λ k low can. elim (below_next n k low) [ inl below ↦ absurd (none m.from k below can) | inr at ↦ omega arith ];
-  }
-
-  IsFirst-takes : (n : ℕ) (one m : Move) → IsFirst board draft n one → IsMove board draft m → m.partition ≡ n → ComesBefore draft.counts.items m one → IsFirst board draft (n + 1) m
-  IsFirst-takes n one m first move at_n before = record {
-    is_move = move;
-    within = omega arith;
-    most = λ i k low can. elim (below_next n k low) [
-      | inl below ↦ let most = first.most i k below can in elim before [ inl more ↦ omega arith | inr tie ↦ let same = tie.0 in omega arith ]
-      | inr at ↦ let same = ap (λ j. get_or draft.counts.items j 0) (move-owner m n i k move at_n at can) in omega arith
-    ];
-    first_member = λ i k low can early. elim (below_next n k low) [
-      | inl below ↦
-          let most = first.most i k below can in
-          elim before [
-            | inl more ↦ omega arith
-            | inr tie ↦ let same = tie.0 in let less = tie.1 in let strict = first.first_member i k below can (omega arith) in omega arith
-          ]
-      | inr at ↦ let same = move-owner m n i k move at_n at can in absurd (omega arith)
-    ];
-    first_partition = λ k low can. elim (below_next n k low) [
-      | inl below ↦
-          let most = first.most m.from k below can in
-          elim before [
-            | inl more ↦ absurd (omega arith)
-            | inr tie ↦ let same = tie.0 in let less = tie.1 in let strict = first.first_member m.from k below can less in absurd (omega arith)
-          ]
-      | inr at ↦ omega arith
-    ];
-  }
-
-  IsFirst-keeps : (n : ℕ) (one m : Move) → IsFirst board draft n one → IsMove board draft m → m.partition ≡ n → ¬ ComesBefore draft.counts.items m one → IsFirst board draft (n + 1) one
-  IsFirst-keeps n one m first move at_n after = record {
-    is_move = first.is_move;
-    within = let low = first.within in omega arith;
-    most = λ i k low can. elim (below_next n k low) [
-      | inl below ↦ first.most i k below can
-      | inr at ↦
-          let same = ap (λ j. get_or draft.counts.items j 0) (move-owner m n i k move at_n at can) in
-          elim (cases_lt (get_or draft.counts.items one.from 0) (get_or draft.counts.items m.from 0)) [ inl more ↦ absurd (after (inl more)) | inr less ↦ omega arith ]
-    ];
-    first_member = λ i k low can early. elim (below_next n k low) [
-      | inl below ↦ first.first_member i k below can early
-      | inr at ↦
-          let owner = move-owner m n i k move at_n at can in
-          let same = ap (λ j. get_or draft.counts.items j 0) owner in
-          elim (cases_order (get_or draft.counts.items one.from 0) (get_or draft.counts.items m.from 0)) [
-            | inl tie ↦ absurd (after (inr (tie, omega arith)))
-            | inr other ↦ elim other [ inl more ↦ absurd (after (inl more)) | inr less ↦ omega arith ]
-          ]
-    ];
-    first_partition = λ k low can. elim (below_next n k low) [
-      | inl below ↦ first.first_partition k below can
-      | inr at ↦ let within = first.within in omega arith
-    ];
-  }
-
-  pub IsNext-none : IsNext board draft 0 None
-  IsNext-none = λ from k low can. absurd (omega arith)
-
-  pub IsNext-more : (n : ℕ) (best found better : Option Move) → IsNext board draft n best → IsMoveOf board draft n found → IsBetter draft.counts.items best found better → IsNext board draft (n + 1) better
-  IsNext-more n None None better next move same =
-      subst (IsNext board draft (n + 1)) (sym same)
-      (λ from k low can. elim (below_next n k low) [ inl below ↦ next from k below can | inr at ↦ move from (subst (CanGive board draft from) at can) ])
-  IsNext-more n None (Some m) better next move same = subst (IsNext board draft (n + 1)) (sym same) (IsFirst-alone n m next move.1 move.0)
-  IsNext-more n (Some one) None better next move same = subst (IsNext board draft (n + 1)) (sym same) (IsFirst-skip n one next move)
-  IsNext-more n (Some one) (Some m) better next move choice = elim choice [
-    | inl takes ↦ subst (IsNext board draft (n + 1)) (sym takes.0) (IsFirst-takes n one m next move.1 move.0 takes.1)
-    | inr keeps ↦ subst (IsNext board draft (n + 1)) (sym keeps.0) (IsFirst-keeps n one m next move.1 move.0 keeps.1)
-  ]
+  -- a member can give any of its partitions of a topic away, or none
+  pub give-other : (from k at : ℕ) (one other : Place) → slice_get board.places.items k ≡ Some one → slice_get board.places.items at ≡ Some other → one.topic ≡ other.topic
+      → slice_get draft.owners.items at ≡ Some (Some from) → CanGive board draft from k → CanGive board draft from at
+  give-other from k at one other is_one is_other same owns can =
+      let here = at_place board is k one is_one in
+      let there = at_place board is at other is_other in
+      let topics : here.topic ≡ there.topic = same_Some here.topic there.topic (sym here.is_topic ∙ ap (slice_get (finite.entries board.view.now)) same ∙ there.is_topic) in
+      let moved : (here.topic.0, one.partition) ≡ can.moved = same_Some _ can.moved (sym here.is_part ∙ can.is_partition) in
+      record {
+        owner = can.owner;
+        is_member = can.is_member;
+        moved = (there.topic.0, other.partition);
+        is_partition = there.is_part;
+        owns = drawn-owner subs parts draft.owners.items at (there.topic.0, other.partition) from can.owner (parts_are_apart board is) there.is_part owns can.is_member;
+        other = can.other;
+        subscribes = subst (λ name. Contains (subscribers_of subs name) can.other) (sym (ap (λ (x : Text × Partition). x.0) moved) ∙ ap (λ (t : Text × Topic). t.0) topics) can.subscribes;
+        fewer = can.fewer;
+      }
 
   -- ---- once every place was looked at
 
-  can-within : (from k : ℕ) → CanGive board draft from k → k < length board.places.items
+  pub can-within : (from k : ℕ) → CanGive board draft from k → k < length board.places.items
   can-within from k can = let low = slice_get_within parts k can.moved can.is_partition in let many = as_many_places board is in omega arith
 
   pub no_move-level : IsNext board draft (length board.places.items) None → IsLevel board.view.now subs spread

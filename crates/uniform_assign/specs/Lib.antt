@@ -4,3 +4,5 @@ pub mod Drafts
 pub mod Former
 pub mod Moves
 pub mod Hands
+pub mod Piles
+pub mod Rankings

@@ -43,16 +43,33 @@ pub record IsFirst (board : Board) (draft : Draft) (n : ℕ) (m : Move) : Type 0
 abbrev pub IsNext : Board → Draft → ℕ → Option Move → Type 0
 IsNext board draft n o = MatchOption o ((from k : ℕ) → k < n → ¬ CanGive board draft from k) (IsFirst board draft n)
 
--- the first move is from a member that owns more, or as much and comes earlier
-abbrev pub ComesBefore : List ℕ → Move → Move → Type 0
-ComesBefore counts m n =
-    (slice_index counts n.from < slice_index counts m.from) ⊎ ((slice_index counts n.from ≡ slice_index counts m.from) × (m.from < n.from))
+-- of the partitions with a property, the first that the member can give away moves
+abbrev pub IsFirstAmong : Board → Draft → ℕ → (ℕ → Type 0) → Option Move → Type 0
+IsFirstAmong board draft from P o =
+    MatchOption o ((k : ℕ) → P k → ¬ CanGive board draft from k)
+    (λ m. IsMove board draft m × (m.from ≡ from) × ((k : ℕ) → P k → CanGive board draft from k → m.partition ≤ k))
 
--- the later move only where it comes before the earlier one
-abbrev pub IsBetter : List ℕ → Option Move → Option Move → Option Move → Type 0
-IsBetter counts earlier later o =
-    MatchOption earlier (o ≡ later) (λ m. MatchOption later (o ≡ earlier)
-    (λ n. ((o ≡ later) × ComesBefore counts n m) ⊎ ((o ≡ earlier) × ¬ ComesBefore counts n m)))
+-- the first that the member can give away moves
+abbrev pub IsFirstOf : Board → Draft → ℕ → Option Move → Type 0
+IsFirstOf board draft from = IsFirstAmong board draft from (λ k. Unit {0})
+
+-- the earlier of two partitions moves
+abbrev pub IsEarlier : Option Move → Option Move → Option Move → Type 0
+IsEarlier one other o =
+    MatchOption one (o ≡ other) (λ m. MatchOption other (o ≡ one)
+    (λ n. ((o ≡ other) × (n.partition < m.partition)) ⊎ ((o ≡ one) × (m.partition ≤ n.partition))))
+
+-- the first of the moves of the first n members: from the one that owns the most, and of several such from the first
+pub record IsFirstBelow (board : Board) (draft : Draft) (n : ℕ) (m : Move) : Type 0 where
+  pub is_move : IsMove board draft m
+  pub within : m.from < n
+  pub most : (i k : ℕ) → i < n → CanGive board draft i k → slice_index draft.counts.items i ≤ slice_index draft.counts.items m.from
+  pub first_member : (i k : ℕ) → i < n → CanGive board draft i k → i < m.from → slice_index draft.counts.items i < slice_index draft.counts.items m.from
+  pub first_partition : (k : ℕ) → CanGive board draft m.from k → m.partition ≤ k
+
+-- that move, if one of the first n members can give a partition away
+abbrev pub IsNextBelow : Board → Draft → ℕ → Option Move → Type 0
+IsNextBelow board draft n o = MatchOption o ((i k : ℕ) → i < n → ¬ CanGive board draft i k) (IsFirstBelow board draft n)
 
 -- the counts with one partition moved
 abbrev pub one_moved : List ℕ → ℕ → ℕ → List ℕ

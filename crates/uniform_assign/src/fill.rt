@@ -1,28 +1,89 @@
 //! Owners for the partitions that have none.
 
-ghost use Rattle.group_types.specs.Uniform.{AreFilled, in_partition_order};
+ghost use Rattle.std.specs.Prelude.{◌≡◌, ◌<◌, None, OnOk, Some, length, slice_get};
+ghost use Rattle.group_types.specs.declared.partition.Partition.{Partition as Key};
+ghost use Rattle.group_types.specs.Text.{Text};
+ghost use Rattle.group_types.specs.Uniform.{AreFilled, Fills, in_partition_order};
 ghost use Rattle.uniform_assign.specs.Boards.{IsBoard};
 ghost use Rattle.uniform_assign.specs.Drafts.{IsDraft, drawn_on};
+ghost use Rattle.uniform_assign.specs.Rankings.{IsOfTopic, IsRankingOf};
 
 use crate::board::Board;
 use crate::draft::Draft;
+use crate::ranking::Ranking;
+use std::alloc::{AllocError, Global};
+
+/// The subscribers of a topic, by their places among its takers, in the order of their counts.
+#[derive(Drop)]
+struct Queue {
+    topic: usize,
+    ranking: Ranking,
+}
 
 impl Board<'_> {
     /// Gives each partition without an owner, in partition order, to the subscriber that owns the fewest, if anybody
     /// subscribes it.
-    pub fn fill(&self, draft: &mut Draft)
+    pub fn fill(&self, alloc: Global, draft: &mut Draft) -> Result<(), AllocError>
         requires board { IsBoard self.now }
         requires draft { IsDraft self.now draft.old }
-        ensures draft { IsDraft self.now draft.new }
-        ensures filled { AreFilled self.now.subs.now (drawn_on self.now draft.old.owners.items)
-            (in_partition_order self.now.view.now) (drawn_on self.now draft.new.owners.items) }
+        ensures draft { OnOk result (IsDraft self.now draft.new) }
+        ensures filled { OnOk result (AreFilled self.now.subs.now (drawn_on self.now draft.old.owners.items)
+            (in_partition_order self.now.view.now) (drawn_on self.now draft.new.owners.items)) }
     {
+        let mut queue = Queue {
+            topic: self.takers.len(),
+            ranking: Ranking {
+                nodes: Vec::new(alloc),
+            },
+        };
         for (at, place) in self.places.iter().enumerate() {
             if draft.owners[at].is_none() {
-                if let Some(member) = draft.fewest(&self.takers[place.topic]) {
-                    draft.give(at, member);
-                }
+                self.turn_to(alloc, draft, &mut queue, place.topic)?;
+                self.give_first(draft, &mut queue, at);
             }
+        }
+        Ok(())
+    }
+
+    /// Makes the queue that of a topic, if it isn't.
+    fn turn_to(
+        &self,
+        alloc: Global,
+        draft: &Draft,
+        queue: &mut Queue,
+        topic: usize,
+    ) -> Result<(), AllocError>
+        requires board { IsBoard self.now }
+        requires draft { IsDraft self.now draft.now }
+        requires topic_in { topic < length self.now.takers.items }
+        requires queue { IsRankingOf self.now draft.now queue.old.topic queue.old.ranking }
+        ensures topic { OnOk result (queue.new.topic ≡ topic) }
+        ensures queue { OnOk result (IsRankingOf self.now draft.now topic queue.new.ranking) }
+    {
+        if queue.topic != topic {
+            queue.ranking = Ranking::of(alloc, &draft.counts, &self.takers[topic])?;
+            queue.topic = topic;
+        }
+        Ok(())
+    }
+
+    /// Gives a partition of the queue's topic to the first in the queue, if anybody is in it.
+    fn give_first(&self, draft: &mut Draft, queue: &mut Queue, at: usize)
+        requires board { IsBoard self.now }
+        requires draft { IsDraft self.now draft.old }
+        requires free { slice_get draft.old.owners.items at ≡ Some None }
+        requires topic { IsOfTopic self.now at queue.old.topic }
+        requires queue { IsRankingOf self.now draft.old queue.old.topic queue.old.ranking }
+        ensures draft { IsDraft self.now draft.new }
+        ensures topic { queue.new.topic ≡ queue.old.topic }
+        ensures queue { IsRankingOf self.now draft.new queue.old.topic queue.new.ranking }
+        ensures filled { (x : Text × Key) → slice_get (in_partition_order self.now.view.now) at ≡ Some x
+            → Fills self.now.subs.now (drawn_on self.now draft.old.owners.items) x (drawn_on self.now draft.new.owners.items) }
+    {
+        if let Some(first) = queue.ranking.first() {
+            let member = self.takers[queue.topic][first];
+            draft.give(at, member);
+            queue.ranking.set(first, draft.counts[member]);
         }
     }
 }

@@ -1,12 +1,15 @@
 //! Moves from members that own many partitions to members that own few.
 
-ghost use Rattle.std.specs.Prelude.{◌<◌, IfOk, IfSome, OnOk, length};
+ghost use Rattle.std.specs.Prelude.{◌≡◌, ◌<◌, ◌+◌, ℕ, IfOk, OnOk, Some, length, slice_get};
 ghost use Rattle.uniform_assign.specs.Boards.{IsBoard};
 ghost use Rattle.uniform_assign.specs.Drafts.{IsDraft, IsLevelled, drawn_on};
-ghost use Rattle.uniform_assign.specs.Moves.{AreFewest, IsBetter, IsMoveOf, IsNext};
+ghost use Rattle.uniform_assign.specs.Moves.{AreFewest, IsEarlier, IsFirstAmong, IsFirstOf, IsMoveOf, IsNext, IsNextBelow};
+ghost use Rattle.uniform_assign.specs.Piles.{AreOfTopic, ArePiles, IsHand, IsIn};
 
 use crate::board::Board;
 use crate::draft::Draft;
+use crate::pile::Pile;
+use crate::piles::add;
 use std::alloc::{AllocError, Global};
 
 /// A partition moves from one member to another, each at a place.
@@ -26,25 +29,105 @@ impl Board<'_> {
         ensures levelled { OnOk result (IsLevelled self.now.view.now self.now.subs.now
             (drawn_on self.now draft.old.owners.items) (drawn_on self.now draft.new.owners.items)) }
     {
-        while let Some(next) = self.next_move(alloc, draft)? {
+        let mut piles = self.piles(alloc, draft)?;
+        while let Some(next) = self.next_move(alloc, draft, &mut piles)? {
+            let topic = self.places[next.partition].topic;
             draft.give(next.partition, next.to);
+            add(alloc, &mut piles[next.to], topic, next.partition)?;
         }
         Ok(())
     }
 
     /// The move that follows, if a partition can move: of the members that can give one away, the one that owns the
     /// most gives the first that it can to the subscriber that owns the fewest.
-    fn next_move(&self, alloc: Global, draft: &Draft) -> Result<Option<Move>, AllocError>
+    fn next_move(
+        &self,
+        alloc: Global,
+        draft: &Draft,
+        piles: &mut Vec<Vec<Pile>>,
+    ) -> Result<Option<Move>, AllocError>
         requires board { IsBoard self.now }
         requires draft { IsDraft self.now draft.now }
-        ensures { IfOk result (IsNext self.now draft.now (length self.now.places.items)) }
+        requires piles { ArePiles self.now draft.now (length self.now.places.items) piles.old.items }
+        ensures piles { ArePiles self.now draft.now (length self.now.places.items) piles.new.items }
+        ensures next { IfOk result (IsNext self.now draft.now (length self.now.places.items)) }
     {
         let fewest = self.fewest(alloc, draft)?;
         let mut best = None;
-        for at in 0..self.places.len() {
-            best = draft.better(best, self.move_of(draft, &fewest, at));
+        for from in 0..piles.len() {
+            best = self.better_move(draft, &fewest, &mut piles[from], from, best);
         }
         Ok(best)
+    }
+
+    /// The best of the moves of the members up to this one, of which the best of those before it is known.
+    fn better_move(
+        &self,
+        draft: &Draft,
+        fewest: &[Option<usize>],
+        hand: &mut Vec<Pile>,
+        from: usize,
+        best: Option<Move>,
+    ) -> Option<Move>
+        requires board { IsBoard self.now }
+        requires draft { IsDraft self.now draft.now }
+        requires fewest { AreFewest self.now draft.now fewest.now }
+        requires member_in { from < length draft.now.counts.items }
+        requires hand { IsHand self.now draft.now (length self.now.places.items) from hand.old.items }
+        requires before { IsNextBelow self.now draft.now from best }
+        ensures hand { IsHand self.now draft.now (length self.now.places.items) from hand.new.items }
+        ensures next { IsNextBelow self.now draft.now (from + 1) result }
+    {
+        if let Some(before) = best {
+            if draft.counts[from] <= draft.counts[before.from] {
+                return best;
+            }
+        }
+        self.first_move(draft, fewest, hand, from).or(best)
+    }
+
+    /// The move of the first partition that the member can give away.
+    fn first_move(
+        &self,
+        draft: &Draft,
+        fewest: &[Option<usize>],
+        hand: &mut Vec<Pile>,
+        from: usize,
+    ) -> Option<Move>
+        requires board { IsBoard self.now }
+        requires draft { IsDraft self.now draft.now }
+        requires fewest { AreFewest self.now draft.now fewest.now }
+        requires hand { IsHand self.now draft.now (length self.now.places.items) from hand.old.items }
+        ensures hand { IsHand self.now draft.now (length self.now.places.items) from hand.new.items }
+        ensures first { IsFirstOf self.now draft.now from result }
+    {
+        let mut best = None;
+        for at in 0..hand.len() {
+            let found = self.first_in(draft, fewest, &mut hand[at], from);
+            best = earlier(best, found);
+        }
+        best
+    }
+
+    /// The move of the first partition of a pile that the member can give away.
+    fn first_in(
+        &self,
+        draft: &Draft,
+        fewest: &[Option<usize>],
+        pile: &mut Pile,
+        from: usize,
+    ) -> Option<Move>
+        requires board { IsBoard self.now }
+        requires draft { IsDraft self.now draft.now }
+        requires fewest { AreFewest self.now draft.now fewest.now }
+        requires pile { AreOfTopic self.now.places.items pile.old }
+        ensures topic { pile.new.topic ≡ pile.old.topic }
+        ensures fewer { (k : ℕ) → IsIn k pile.new → IsIn k pile.old }
+        ensures kept { (k : ℕ) → IsIn k pile.old → slice_get draft.now.owners.items k ≡ Some (Some from) → IsIn k pile.new }
+        ensures first { IsFirstAmong self.now draft.now from (λ k. IsIn k pile.new) result }
+    {
+        let at = pile.first_owned(&draft.owners, from)?;
+        self.move_of(draft, fewest, at)
     }
 
     /// For each topic the subscriber that owns the fewest partitions.
@@ -82,22 +165,16 @@ impl Board<'_> {
     }
 }
 
-impl Draft {
-    /// Of two moves the one that comes first: from the member that owns more, and of two such from the first. The
-    /// earlier one comes first where both are from one member.
-    fn better(&self, earlier: Option<Move>, later: Option<Move>) -> Option<Move>
-        requires earlier_in { IfSome earlier (λ m. m.from < length self.now.counts.items) }
-        requires later_in { IfSome later (λ m. m.from < length self.now.counts.items) }
-        ensures { IsBetter self.now.counts.items earlier later result }
-    {
-        let (Some(one), Some(other)) = (earlier, later) else {
-            return earlier.or(later);
-        };
-        let (count, other_count) = (self.counts[one.from], self.counts[other.from]);
-        if count < other_count || (count == other_count && other.from < one.from) {
-            later
-        } else {
-            earlier
-        }
+/// Of two moves that of the earlier partition.
+fn earlier(one: Option<Move>, other: Option<Move>) -> Option<Move>
+    ensures { IsEarlier one other result }
+{
+    let (Some(first), Some(second)) = (one, other) else {
+        return one.or(other);
+    };
+    if second.partition < first.partition {
+        other
+    } else {
+        one
     }
 }

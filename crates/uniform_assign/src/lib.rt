@@ -10,6 +10,9 @@ mod fill;
 mod keep;
 mod laws;
 mod level;
+mod pile;
+mod piles;
+mod ranking;
 mod shares;
 mod uniform;
 

@@ -32,7 +32,7 @@ impl Assignor for Uniform {
     {
         let board = Board::of(alloc, subs, view)?;
         let mut draft = board.kept(alloc, former)?;
-        board.fill(&mut draft);
+        board.fill(alloc, &mut draft)?;
         board.level(alloc, &mut draft)?;
         Ok(Spread::of(board.shares(alloc, &draft)?))
     }

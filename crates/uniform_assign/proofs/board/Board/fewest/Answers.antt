@@ -1,30 +1,15 @@
 use Rattle.std.proofs.Common.{◌≡◌, ◌++◌, ◌∷◌, [], Option, ◌<◌, ◌+◌, ℕ, List, length, get_or, refl, sym, ap, subst, ◌∙◌, arith, Some}
-use Rattle.std.specs.FinMap as finite
 use Rattle.std.specs.Global.{Vec}
 use Rattle.std.specs.List.{All, slice_get}
-use Rattle.std.proofs.lemmas.Option.{same_Some, slice_get_read, slice_get_within}
-use Rattle.uniform_assign.specs.declared.board.Board.{Board}
-use Rattle.uniform_assign.specs.Boards.{IsBoard}
+use Rattle.std.proofs.lemmas.Option.{slice_get_read}
 use Rattle.uniform_assign.specs.Drafts.{IsLeastOf}
-use Rattle.uniform_assign.proofs.Boards.{all_takers}
+use Rattle.uniform_assign.proofs.Boards.{takers_within}
 use Rattle.uniform_assign.proofs.Fewest.{AreFewestTo, AreFewestTo-all, AreFewestTo-more, AreFewestTo-none}
-use Rattle.uniform_assign.proofs.Lists.{some_at}
 use Rattle.uniform_assign.proofs.board.Board.fewest.Goals as goal
 
 -- the takers that the loop is at
 takers_here : (items all : List (Vec ℕ)) (k : ℕ) (v : Vec ℕ) → items ≡ all → k < length items → v ≡ get_or items k v → slice_get all k ≡ Some v
 takers_here items all k v same within read = ap (λ xs. slice_get xs k) (sym same) ∙ slice_get_read items (length items) k v refl within read
-
--- each of a board's takers has a place among the members
-takers_within : (board : Board) → IsBoard board → (k : ℕ) (v : Vec ℕ) → slice_get board.takers.items k ≡ Some v → All (λ t. t < length board.subs.now) v.items
-takers_within board is k v here =
-    let topics = finite.entries board.view.now in
-    let low = slice_get_within board.takers.items k v here in
-    let many = is.takers.as_many in
-    let (topic, is_topic) = some_at topics k (omega arith) in
-    let (w, is_w, of) = is.takers.there k topic is_topic in
-    let same : w ≡ v = same_Some w v (sym is_w ∙ here) in
-    subst (λ (x : Vec ℕ). All (λ t. t < length board.subs.now) x.items) same (all_takers board.subs.now topic.0 w.items of)
 
 pub loop-takers-init : goal.loop-takers-init
 loop-takers-init c = AreFewestTo-none c.args.self.now c.args.draft.now c.in_ok-fewest.fewest.items c.in_ok-fewest.ensures.items

@@ -1,23 +1,26 @@
-use Rattle.std.proofs.Common.{◌<◌, List, [], ◌∷◌, ◌++◌, length, slice_set, refl, sym, subst, arith, Some}
-use Rattle.std.proofs.lemmas.Option.{slice_get_within}
+use Rattle.std.proofs.Common.{◌≡◌, ◌<◌, ap, ◌∙◌, inl, inr, List, [], ◌∷◌, ◌++◌, length, slice_set, refl, sym, subst, arith, Some}
+use Rattle.std.proofs.lemmas.Option.{same_Some, slice_get_read, slice_get_within}
+use Rattle.std.specs.List.{slice_get}
 use Rattle.group_types.specs.Owners.{Spread}
 use Rattle.group_types.specs.Uniform.{AreMoves}
 use Rattle.uniform_assign.specs.Drafts.{drawn_on}
 use Rattle.uniform_assign.specs.Moves.{IsFirst, IsNext}
-use Rattle.uniform_assign.proofs.Counts.{squares, squares_fall}
+use Rattle.uniform_assign.proofs.Counts.{cases_equal, squares, squares_fall}
+use Rattle.uniform_assign.proofs.Kept.{slice_get-set_other, slice_get-set_same}
+use Rattle.uniform_assign.proofs.Piled.{ArePiles-added}
 use Rattle.uniform_assign.proofs.Moves.{AreMoves-push, IsDraft-give, move-to, next_move, no_move-level}
 use Rattle.uniform_assign.proofs.board.Board.level.Goals as goal
 
-pub loop-next-init : goal.loop-next-init
-loop-next-init c = (c.requires.draft, ([], refl))
+pub loop-piles-init : goal.loop-piles-init
+loop-piles-init c = (c.requires.draft, ([], refl), c.in_ok-piles.ensures)
 
 pub give-requires : goal.give-requires
 give-requires c =
     let board = c.args.self.now in
-    let draft = c.loop-next.draft in
+    let draft = c.loop-piles.draft in
     let m = c.in-Some.next in
-    let is_draft = c.loop-next.invariant.0 in
-    let first : IsFirst board draft (length board.places.items) m = subst (IsNext board draft (length board.places.items)) c.in-Some.is c.in_ok-next.ensures in
+    let is_draft = c.loop-piles.invariant.0 in
+    let first : IsFirst board draft (length board.places.items) m = subst (IsNext board draft (length board.places.items)) c.in-Some.is c.in_ok-next.ensures.next in
     let (to, is_to) = move-to board draft c.requires.board is_draft m first.is_move in
     let low = slice_get_within board.subs.now m.to to is_to in
     let many = is_draft.as_many_counts in
@@ -27,31 +30,66 @@ give-requires c =
       counts = is_draft.counts;
     }
 
-pub loop-next-preserved : goal.loop-next-preserved
-loop-next-preserved c =
+pub index_mut-requires : goal.index_mut-requires
+index_mut-requires c =
+    let board = c.args.self.now in
+    let draft = c.loop-piles.draft in
+    let m = c.in-Some.next in
+    let is_draft = c.loop-piles.invariant.0 in
+    let first : IsFirst board draft (length board.places.items) m = subst (IsNext board draft (length board.places.items)) c.in-Some.is c.in_ok-next.ensures.next in
+    let (to, is_to) = move-to board draft c.requires.board is_draft m first.is_move in
+    let low = slice_get_within board.subs.now m.to to is_to in
+    let many = is_draft.as_many_counts in
+    let hands = c.in_ok-next.ensures.piles.as_many in
+    let ok = c.next_move.new.piles.ok in
+    omega arith
+
+pub loop-piles-preserved : goal.loop-piles-preserved
+loop-piles-preserved c =
     let board = c.args.self.now in
     let view = board.view.now in
     let subs = board.subs.now in
-    let draft = c.loop-next.draft in
+    let draft = c.loop-piles.draft in
     let m = c.in-Some.next in
-    let (is_draft, (steps, moves)) = c.loop-next.invariant in
-    let first : IsFirst board draft (length board.places.items) m = subst (IsNext board draft (length board.places.items)) c.in-Some.is c.in_ok-next.ensures in
+    let (is_draft, (steps, moves), are) = c.loop-piles.invariant in
+    let first : IsFirst board draft (length board.places.items) m = subst (IsNext board draft (length board.places.items)) c.in-Some.is c.in_ok-next.ensures.next in
     let next = next_move board draft c.requires.board is_draft m first in
     let given = slice_set draft.owners.items m.partition (Some m.to) in
     let before = drawn_on board c.args.draft.now.owners.items in (
       IsDraft-give board draft c.give.new.self m.partition (Some m.to) is_draft c.give.ensures.owners c.give.ensures.as_many c.give.ensures.counts,
       subst (λ os. (steps : List Spread) × AreMoves view subs before steps (drawn_on board os)) (sym c.give.ensures.owners)
           (steps ++ drawn_on board given ∷ [], AreMoves-push view subs before (drawn_on board draft.owners.items) (drawn_on board given) steps moves next),
+      let piles = c.next_move.new.piles.items in
+          let held = c.in_ok-next.ensures.piles in
+          let old = c.index_mut.result.now in
+          let (to, is_to) = move-to board draft c.requires.board is_draft m first.is_move in
+          let low = slice_get_within board.subs.now m.to to is_to in
+          let many = is_draft.as_many_counts in
+          let hands = held.as_many in
+          let is_old = slice_get_read piles (length piles) m.to old refl (omega arith) c.index_mut.ensures.value in
+          let is_place = slice_get_read board.places.items (length board.places.items) m.partition c.index.result.now refl first.within c.index.ensures in
+          let added = c.in_ok-add.ensures in
+          ArePiles-added board draft c.give.new.self (length board.places.items) (length board.places.items) piles held c.give.ensures.as_many m.to m.partition c.index.result.now old c.add.new.hand is_old is_place
+          (λ i j within owns.
+          let shown : slice_get given i ≡ Some (Some j) = ap (λ xs. slice_get xs i) (sym c.give.ensures.owners) ∙ owns in
+          elim (cases_equal i m.partition) [
+            | inl same ↦
+                let here = slice_get-set_same draft.owners.items m.partition (Some m.to) (slice_get_within draft.owners.items m.partition (Some m.from) first.is_move.owns) in
+                let owner : Some m.to ≡ Some j = same_Some (Some m.to) (Some j) (sym here ∙ ap (slice_get given) (sym same) ∙ shown) in
+                inr (same, sym (same_Some m.to j owner))
+            | inr apart ↦ inl (within, sym (slice_get-set_other draft.owners.items m.partition i (Some m.to) apart) ∙ shown)
+          ])
+          added.added added.kept added.topics,
     )
 
-pub loop-next-smaller : goal.loop-next-smaller
-loop-next-smaller c =
+pub loop-piles-smaller : goal.loop-piles-smaller
+loop-piles-smaller c =
     let board = c.args.self.now in
-    let draft = c.loop-next.draft in
+    let draft = c.loop-piles.draft in
     let counts = draft.counts.items in
     let m = c.in-Some.next in
-    let is_draft = c.loop-next.invariant.0 in
-    let first : IsFirst board draft (length board.places.items) m = subst (IsNext board draft (length board.places.items)) c.in-Some.is c.in_ok-next.ensures in
+    let is_draft = c.loop-piles.invariant.0 in
+    let first : IsFirst board draft (length board.places.items) m = subst (IsNext board draft (length board.places.items)) c.in-Some.is c.in_ok-next.ensures.next in
     let (to, is_to) = move-to board draft c.requires.board is_draft m first.is_move in
     let low = slice_get_within board.subs.now m.to to is_to in
     let many = is_draft.as_many_counts in
@@ -62,7 +100,7 @@ loop-next-smaller c =
 pub returns : goal.returns
 returns c =
     let board = c.args.self.now in
-    let draft = c.loop-next.draft in
-    let (is_draft, (steps, moves)) = c.loop-next.invariant in
-    let none = subst (IsNext board draft (length board.places.items)) c.in_default.is c.in_ok-next.ensures in
+    let draft = c.loop-piles.draft in
+    let (is_draft, (steps, moves), are) = c.loop-piles.invariant in
+    let none = subst (IsNext board draft (length board.places.items)) c.in_default.is c.in_ok-next.ensures.next in
     record { draft = is_draft; levelled = record { steps = steps; are_moves = moves; is_level = no_move-level board draft c.requires.board is_draft none } }

@@ -1,0 +1,127 @@
+-- The queue of a topic's subscribers, and what a partition that is given changes in it.
+use Rattle.std.proofs.Common.{◌≡◌, ℕ, ◌<◌, ◌+◌, List, length, get_or, set as set_at, slice_get, refl, sym, ap, ◌∙◌, arith, inl, inr, Option, Some, None, length-set, get_or-set_other}
+use Rattle.std.proofs.lemmas.List.{length-map}
+use Rattle.std.proofs.lemmas.Option.{get_or_from_slice_get, same_Some, slice_get_within}
+use Rattle.group_types.specs.Text.{Text}
+use Rattle.group_types.specs.Assignors.{IdsAreApart, Subscriber}
+use Rattle.group_types.specs.Sets.{has}
+use Rattle.uniform_assign.specs.declared.board.Board.{Board}
+use Rattle.uniform_assign.specs.declared.board.Place.{Place}
+use Rattle.uniform_assign.specs.declared.draft.Draft.{Draft}
+use Rattle.uniform_assign.specs.declared.ranking.Rank.{Rank}
+use Rattle.uniform_assign.specs.declared.ranking.Ranking.{Ranking}
+use Rattle.uniform_assign.specs.Boards.{AreTakersOf, IsBoard}
+use Rattle.uniform_assign.specs.Drafts.{AreCounts, IsDraft, IsLeast}
+use Rattle.uniform_assign.specs.Rankings.{IsLeastAt, IsOfTopic, IsRanking, IsRankingOf, counts_of}
+use Rattle.uniform_assign.proofs.Boards.{IsAt, at_place, least-within, taker_here}
+use Rattle.uniform_assign.proofs.Counts.{AreCounts-given, cases_equal}
+use Rattle.uniform_assign.proofs.Kept.{slice_get-set_other, slice_get-set_same}
+use Rattle.uniform_assign.proofs.Lists.{AreOnce, AreOnce-filter, slice_get-map_at, slice_get-map_from}
+
+-- no member takes a topic twice
+pub AreOnce-takers : (subs : List Subscriber) (name : Text) (takers : List ℕ) → IdsAreApart subs → AreTakersOf subs name takers → AreOnce takers
+AreOnce-takers subs name takers apart are i j t is_i is_j =
+    let (m, is_m, here) = taker_here subs name takers i t are is_i in
+    let (n, is_n, there) = taker_here subs name takers j t are is_j in
+    let same : m ≡ n = same_Some m n (sym is_m ∙ is_n) in
+    AreOnce-filter (λ s. has s.names name) subs (λ k l s one other. apart k l s s one other refl) i j m here (there ∙ ap Some (sym same))
+
+-- the first of the ranking is the taker that owns the fewest
+pub IsLeast-ranked : (counts takers : List ℕ) (k m : ℕ) → IsLeastAt (counts_of counts takers) k → slice_get takers k ≡ Some m → IsLeast counts takers m
+IsLeast-ranked counts takers k m least is_m =
+    let value = λ (j t : ℕ) (is_t : slice_get takers j ≡ Some t). get_or_from_slice_get (counts_of counts takers) j (get_or counts t 0) 0 (slice_get-map_at (λ u. get_or counts u 0) takers j t is_t) in
+    let mine = value k m is_m in
+    let long = length-map takers (λ u. get_or counts u 0) in
+    record {
+      place = k;
+      is_there = is_m;
+      least = λ j t is_t. let his = value j t is_t in let low = slice_get_within takers j t is_t in let few = least.least j (omega arith) in omega arith;
+      first = λ j t early is_t. let his = value j t is_t in let few = least.first j early in omega arith;
+    }
+
+-- a ranking is one of counts that are the same
+pub IsRanking-same : (old new : List ℕ) (nodes : List Rank) → length new ≡ length old → ((k n : ℕ) → slice_get new k ≡ Some n → slice_get old k ≡ Some n) → IsRanking old nodes → IsRanking new nodes
+IsRanking-same old new nodes long same is = record {
+  are_ranks = record {
+    as_many = let many = is.are_ranks.as_many in omega arith;
+    ranks = λ k n is_n. ap (λ l. slice_get nodes (l + k)) long ∙ is.are_ranks.ranks k n (same k n is_n);
+  };
+  matches = λ i positive within. is.matches i positive (omega arith);
+}
+
+-- the counts of the same owners are the same
+same_counts : (owners : List (Option ℕ)) (one other : List ℕ) (m : ℕ) → AreCounts owners one → AreCounts owners other → m < length one → m < length other → get_or one m 0 ≡ get_or other m 0
+same_counts owners one other m a b low high = a.counted m low ∙ sym (b.counted m high)
+
+-- a free partition is given to the taker at a place
+module _ (owners : List (Option ℕ)) (counts new takers : List ℕ) (at k m : ℕ) (are : AreCounts owners counts) (free : slice_get owners at ≡ Some None) (low : m < length counts)
+    (after : AreCounts (set_at owners at (Some m)) new) (many : length new ≡ length counts) where
+  others_stay : (t : ℕ) → (t ≡ m → ⊥) → t < length counts → get_or new t 0 ≡ get_or counts t 0
+  others_stay t apart within =
+      let long = length-set counts m (get_or counts m 0 + 1) in
+      same_counts (set_at owners at (Some m)) new (set_at counts m (get_or counts m 0 + 1)) t after (AreCounts-given owners counts at m are free low) (omega arith) (omega arith)
+      ∙ get_or-set_other counts m t (get_or counts m 0 + 1) 0 apart
+
+  pub IsRanking-given : (nodes : List Rank) → AreOnce takers → ((j t : ℕ) → slice_get takers j ≡ Some t → t < length counts) → slice_get takers k ≡ Some m
+      → IsRanking (set_at (counts_of counts takers) k (get_or new m 0)) nodes → IsRanking (counts_of new takers) nodes
+  IsRanking-given nodes once within is_m is =
+      let long = length-map takers (λ t. get_or new t 0) in
+      let old_long = length-map takers (λ t. get_or counts t 0) in
+      let set_long = length-set (counts_of counts takers) k (get_or new m 0) in
+      let here = slice_get_within takers k m is_m in
+      IsRanking-same (set_at (counts_of counts takers) k (get_or new m 0)) (counts_of new takers) nodes (omega arith) (λ j n is_n.
+      let (t, is_t, same) = slice_get-map_from (λ t. get_or new t 0) takers j n is_n in
+      elim (cases_equal j k) [
+        | inl equal ↦
+            let taker : t ≡ m = same_Some t m (sym is_t ∙ ap (slice_get takers) equal ∙ is_m) in
+            ap (slice_get (set_at (counts_of counts takers) k (get_or new m 0))) equal
+            ∙ slice_get-set_same (counts_of counts takers) k (get_or new m 0) (omega arith)
+            ∙ ap Some (ap (λ u. get_or new u 0) (sym taker) ∙ same)
+        | inr apart ↦
+            let other : t ≡ m → ⊥ = λ taker. apart (once j k m (is_t ∙ ap Some taker) is_m) in
+            slice_get-set_other (counts_of counts takers) k j (get_or new m 0) apart
+            ∙ slice_get-map_at (λ u. get_or counts u 0) takers j t is_t
+            ∙ ap Some (sym (others_stay t other (within j t is_t)) ∙ same)
+      ])
+      is
+
+-- ---- the queue of a partition's topic
+
+-- the takers of the partition's topic, whose queue it is
+pub record IsQueued (board : Board) (draft : Draft) (at topic : ℕ) (nodes : List Rank) : Type 0 where
+  pub place : Place
+  pub is_at : IsAt board at place
+  pub are_takers : slice_get board.takers.items topic ≡ Some is_at.takers
+  pub ranking : IsRanking (counts_of draft.counts.items is_at.takers.items) nodes
+
+pub IsQueued-of : (board : Board) (draft : Draft) (at topic : ℕ) (ranking : Ranking) → IsBoard board → IsOfTopic board at topic → IsRankingOf board draft topic ranking → IsQueued board draft at topic ranking.nodes.items
+IsQueued-of board draft at topic ranking is (place, is_place, same) of =
+    let here = at_place board is at place is_place in
+    let are = ap (slice_get board.takers.items) (sym same) ∙ here.are_there in
+    record { place = place; is_at = here; are_takers = are; ranking = of here.takers are }
+
+-- the first in the queue
+pub record IsFirstIn (board : Board) (draft : Draft) (at topic : ℕ) (nodes : List Rank) (k m : ℕ) : Type 0 where
+  pub queued : IsQueued board draft at topic nodes
+  pub is_taker : slice_get queued.is_at.takers.items k ≡ Some m
+  pub least : IsLeast draft.counts.items queued.is_at.takers.items m
+  pub member : Subscriber
+  pub is_member : slice_get board.subs.now m ≡ Some member
+  pub within : m < length draft.counts.items
+  pub room : k + k + 1 < length nodes
+
+pub first-within : (board : Board) (draft : Draft) (at topic k : ℕ) (nodes : List Rank) → (queued : IsQueued board draft at topic nodes) → IsLeastAt (counts_of draft.counts.items queued.is_at.takers.items) k → k < length queued.is_at.takers.items
+first-within board draft at topic k nodes queued least =
+    let long = length-map queued.is_at.takers.items (λ u. get_or draft.counts.items u 0) in let low = least.within in omega arith
+
+pub IsFirstIn-of : (board : Board) (draft : Draft) (at topic k m : ℕ) (nodes : List Rank) → IsDraft board draft → (queued : IsQueued board draft at topic nodes) → IsLeastAt (counts_of draft.counts.items queued.is_at.takers.items) k
+    → slice_get queued.is_at.takers.items k ≡ Some m → IsFirstIn board draft at topic nodes k m
+IsFirstIn-of board draft at topic k m nodes are queued least is_m =
+    let takers = queued.is_at.takers.items in
+    let is_least = IsLeast-ranked draft.counts.items takers k m least is_m in
+    let (s, is_s) = least-within board.subs.now queued.is_at.topic.0 draft.counts.items takers m queued.is_at.are_takers is_least in
+    let low = slice_get_within board.subs.now m s is_s in
+    let many = are.as_many_counts in
+    let twice = queued.ranking.are_ranks.as_many in
+    let inside = least.within in
+    record { queued = queued; is_taker = is_m; least = is_least; member = s; is_member = is_s; within = omega arith; room = omega arith }

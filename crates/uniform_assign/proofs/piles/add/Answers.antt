@@ -1,0 +1,62 @@
+use Rattle.std.proofs.Common.{◌≡◌, ◌++◌, ◌∷◌, [], ℕ, List, Some, get_or, length, refl, sym, ap, subst, ◌∙◌, inl, inr}
+use Rattle.std.specs.List.{slice_get}
+use Rattle.std.proofs.lemmas.Option.{slice_get_read, slice_get_within}
+use Rattle.uniform_assign.specs.declared.pile.Pile.{Pile}
+use Rattle.uniform_assign.specs.Piles.{IsInHand, IsInTopic, IsOfTopic}
+use Rattle.uniform_assign.proofs.Piled.{InHand-kept, InHand-left, InHand-pushed, InHand-written, InTopic-pushed, InTopic-written}
+use Rattle.uniform_assign.proofs.piles.add.Goals as goal
+
+-- the pile that was found is the one that was written
+found : (shown hand : List Pile) (at topic : ℕ) (old : Pile) → shown ≡ hand → IsOfTopic shown topic at → old ≡ get_or hand at old → (slice_get hand at ≡ Some old) × (old.topic ≡ topic)
+found shown hand at topic old same (pile, is, of_topic) read =
+    let there : slice_get hand at ≡ Some pile = ap (λ xs. slice_get xs at) (sym same) ∙ is in
+    let here = slice_get_read hand (length hand) at old refl (slice_get_within hand at pile there) read in
+    (here, let equal = sym here ∙ there in cc)
+
+pub returns-in_ok-push-in-Some-clause-added : goal.returns-in_ok-push-in-Some-clause-added
+returns-in_ok-push-in-Some-clause-added c =
+    let hand = c.args.hand.now.items in
+    let old = c.index_mut.result.now in
+    let is = found c.deref.result.now hand c.in-Some.at c.args.topic old c.deref.ensures.value c.in-Some.ensures c.index_mut.ensures.value in
+    InHand-written hand c.in-Some.at old c.push.new.self is.0 c.push.ensures.topic c.args.place c.in_ok-push-in-Some.ensures.added
+
+pub returns-in_ok-push-in-Some-clause-kept : goal.returns-in_ok-push-in-Some-clause-kept
+returns-in_ok-push-in-Some-clause-kept c = λ k there.
+    let hand = c.args.hand.now.items in
+    let old = c.index_mut.result.now in
+    let is = found c.deref.result.now hand c.in-Some.at c.args.topic old c.deref.ensures.value c.in-Some.ensures c.index_mut.ensures.value in
+    InHand-kept hand c.in-Some.at old c.push.new.self is.0 c.push.ensures.topic c.args.place c.in_ok-push-in-Some.ensures.added k there
+
+pub returns-in_ok-push-in-Some-clause-topics : goal.returns-in_ok-push-in-Some-clause-topics
+returns-in_ok-push-in-Some-clause-topics c = λ t k there.
+    let hand = c.args.hand.now.items in
+    let old = c.index_mut.result.now in
+    let is = found c.deref.result.now hand c.in-Some.at c.args.topic old c.deref.ensures.value c.in-Some.ensures c.index_mut.ensures.value in
+    elim (InTopic-written hand c.in-Some.at old c.push.new.self is.0 c.push.ensures.topic c.args.place c.in_ok-push-in-Some.ensures.added t k there) [
+      | inl before ↦ inl before
+      | inr (of_topic, this) ↦ inr (of_topic ∙ is.1, this)
+    ]
+
+pub returns-in_ok-push-in-None-clause-added : goal.returns-in_ok-push-in-None-clause-added
+returns-in_ok-push-in-None-clause-added c =
+    let hand = c.args.hand.now.items in
+    let new = c.in_ok-of-in-None.field-0 in
+    let pushed : c.push-in-None.new.self.items ≡ hand ++ new ∷ [] = c.in_ok-push-in-None.ensures.items in
+    subst (λ (xs : List Pile). IsInHand xs c.args.place) (sym pushed) (InHand-pushed hand new c.args.place c.in_ok-of-in-None.ensures.alone)
+
+pub returns-in_ok-push-in-None-clause-kept : goal.returns-in_ok-push-in-None-clause-kept
+returns-in_ok-push-in-None-clause-kept c = λ k there.
+    let hand = c.args.hand.now.items in
+    let new = c.in_ok-of-in-None.field-0 in
+    let pushed : c.push-in-None.new.self.items ≡ hand ++ new ∷ [] = c.in_ok-push-in-None.ensures.items in
+    subst (λ (xs : List Pile). IsInHand xs k) (sym pushed) (InHand-left hand new c.args.place c.in_ok-of-in-None.ensures.alone k there)
+
+pub returns-in_ok-push-in-None-clause-topics : goal.returns-in_ok-push-in-None-clause-topics
+returns-in_ok-push-in-None-clause-topics c = λ t k there.
+    let hand = c.args.hand.now.items in
+    let new = c.in_ok-of-in-None.field-0 in
+    let pushed : c.push-in-None.new.self.items ≡ hand ++ new ∷ [] = c.in_ok-push-in-None.ensures.items in
+    elim (InTopic-pushed hand new c.args.place c.in_ok-of-in-None.ensures.alone t k (subst (λ (xs : List Pile). IsInTopic xs t k) pushed there)) [
+      | inl before ↦ inl before
+      | inr (of_topic, this) ↦ inr (of_topic ∙ c.in_ok-of-in-None.ensures.topic, this)
+    ]

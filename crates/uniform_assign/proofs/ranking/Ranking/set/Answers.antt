@@ -1,0 +1,65 @@
+use Rattle.std.proofs.Common.{◌≡◌, ◌⊎◌, ◌<◌, ◌+◌, ◌/◌, ℕ, length, set as set_at, length-set, sym, ap, subst, ◌∙◌, arith, inl, inr}
+use Rattle.std.proofs.lemmas.Bool.{cases_lt}
+use Rattle.uniform_assign.specs.declared.ranking.Rank.{Rank}
+use Rattle.uniform_assign.specs.Rankings.{AreRanks}
+use Rattle.uniform_assign.proofs.Ranked.{AreMatchesBut, AreMatchesBut-played, AreMatchesBut-set, AreRanks-played, AreRanks-set}
+use Rattle.uniform_assign.proofs.ranking.Ranking.set.Goals as goal
+
+halves : (node : ℕ) → (node / 2 + node / 2 ≡ node) ⊎ (node / 2 + node / 2 + 1 ≡ node)
+halves node = elim (cases_lt (node / 2 + node / 2) node) [ inl less ↦ inr (omega arith) | inr low ↦ inl (omega arith) ]
+
+pub loop-node-init : goal.loop-node-init
+loop-node-init c =
+    let nodes = c.args.self.now.nodes.items in
+    let place = c.args.place in
+    let rank : Rank = record { count = c.args.count; place = place } in
+    let half = c.len.result / 2 in
+    let low = c.requires in
+    let shown = c.len.ensures in
+    let ok = c.args.self.now.nodes.ok in
+    let long = length-set nodes (half + place) rank in
+    let whole : c.len.result ≡ length (set_at nodes (half + place) rank) = omega arith in
+    let same_half = ap (λ n. n / 2) whole in (
+      long,
+      omega arith,
+      omega arith,
+      λ counts is.
+          let many = is.are_ranks.as_many in
+          let at : length counts ≡ half = omega arith in (
+            subst (λ n. AreRanks (set_at counts place c.args.count) (set_at nodes (n + place) rank)) at (AreRanks-set counts nodes place c.args.count (omega arith) is.are_ranks),
+            subst (λ n. AreMatchesBut (n + place) (length counts) (set_at nodes (n + place) rank)) at (AreMatchesBut-set counts nodes place rank is),
+          ),
+    )
+
+pub loop-node-preserved : goal.loop-node-preserved
+loop-node-preserved c =
+    let old = c.loop-node.self.nodes.items in
+    let new = c.play.new.self.nodes.items in
+    let node = c.loop-node.node in
+    let p = node / 2 in
+    let (long, positive, low, keeps) = c.loop-node.invariant in
+    let more = c.loop-node-test.true in
+    let is = c.play.ensures in
+    let same : length new ≡ length old = ap length is.is_new ∙ length-set old p is.first in
+    let halved = ap (λ n. n / 2) same in (
+      same ∙ long,
+      omega arith,
+      omega arith,
+      λ counts ranking.
+          let (are, matches) = keeps counts ranking in
+          let many = ranking.are_ranks.as_many in
+          let set_long = length-set counts c.args.place c.args.count in
+          let inside : p < length counts = omega arith in (
+            AreRanks-played old new p is (set_at counts c.args.place c.args.count) (omega arith) are,
+            subst (λ n. AreMatchesBut p n new) set_long
+                (AreMatchesBut-played (set_at counts c.args.place c.args.count) old new node p are (omega arith) (omega arith) (halves node) (subst (λ n. AreMatchesBut node n old) (sym set_long) matches) is),
+          ),
+    )
+
+pub returns : goal.returns
+returns c = λ counts ranking.
+    let (long, positive, low, keeps) = c.loop-node.invariant in
+    let (are, matches) = keeps counts ranking in
+    let last = c.loop-node-test.false in
+    let set_long = length-set counts c.args.place c.args.count in
+    record { are_ranks = are; matches = λ i some within. matches i some (omega arith) (λ same. omega arith) (λ same. omega arith) }

@@ -1,0 +1,101 @@
+//! Counts in order, so that the first is at hand.
+
+ghost use Rattle.std.specs.Prelude.{◌≡◌, ◌+◌, ◌<◌, ℕ, List, All, IfOk, length, slice_set};
+ghost use Rattle.uniform_assign.specs.Rankings.{AreRanks, IsFirstOfTwo, IsLeastPlace, IsPlayed, IsRanking, counts_of};
+
+use std::alloc::{AllocError, Global};
+
+/// A count, and its place in the list of counts.
+#[derive(Clone, Copy)]
+pub(crate) struct Rank {
+    pub count: usize,
+    pub place: usize,
+}
+
+/// Counts in order: by the count, and equal ones by their places.
+///
+/// The second half of the nodes has the counts as they are listed. Before them each node has the first of the two nodes
+/// at twice its index, so that the first of all is at index 1, and a change is carried up in as many steps as the number
+/// of counts has bits.
+#[derive(Drop)]
+pub(crate) struct Ranking {
+    pub nodes: Vec<Rank>,
+}
+
+impl Ranking {
+    /// The counts of the takers.
+    pub fn of(alloc: Global, counts: &[usize], takers: &[usize]) -> Result<Ranking, AllocError>
+        requires { All (λ t. t < length counts.now) takers.now }
+        ensures { IfOk result (λ ranking. IsRanking (counts_of counts.now takers.now) ranking.nodes.items) }
+    {
+        let mut ranking = Ranking {
+            nodes: ranks_of(alloc, counts, takers)?,
+        };
+        let mut node = takers.len();
+        while node > 1 {
+            node -= 1;
+            ranking.play(node);
+        }
+        Ok(ranking)
+    }
+
+    /// The place of the first count, if there is any.
+    pub fn first(&self) -> Option<usize>
+        ensures { (counts : List ℕ) → IsRanking counts self.now.nodes.items → IsLeastPlace counts result }
+    {
+        if self.nodes.len() < 2 {
+            return None;
+        }
+        Some(self.nodes[1].place)
+    }
+
+    /// Writes the count at a place.
+    pub fn set(&mut self, place: usize, count: usize)
+        requires { place + place + 1 < length self.old.nodes.items }
+        ensures { (counts : List ℕ) → IsRanking counts self.old.nodes.items
+            → IsRanking (slice_set counts place count) self.new.nodes.items }
+    {
+        let mut node = self.nodes.len() / 2 + place;
+        self.nodes[node] = Rank { count, place };
+        while node > 1 {
+            node /= 2;
+            self.play(node);
+        }
+    }
+
+    /// Writes the rank at a node anew.
+    fn play(&mut self, node: usize)
+        requires { node + node + 1 < length self.old.nodes.items }
+        ensures { IsPlayed self.old.nodes.items node self.new.nodes.items }
+    {
+        let first = first_of(self.nodes[2 * node], self.nodes[2 * node + 1]);
+        self.nodes[node] = first;
+    }
+}
+
+/// A rank for each taker, behind as many that are written later.
+fn ranks_of(alloc: Global, counts: &[usize], takers: &[usize]) -> Result<Vec<Rank>, AllocError>
+    requires { All (λ t. t < length counts.now) takers.now }
+    ensures { IfOk result (λ nodes. AreRanks (counts_of counts.now takers.now) nodes.items) }
+{
+    let blank = Rank { count: 0, place: 0 };
+    let mut nodes = vec![in alloc; blank; takers.len()]?;
+    for (place, taker) in takers.iter().enumerate() {
+        nodes.push(Rank {
+            count: counts[*taker],
+            place,
+        })?;
+    }
+    Ok(nodes)
+}
+
+/// Of two ranks the one that comes first.
+fn first_of(one: Rank, other: Rank) -> Rank
+    ensures { IsFirstOfTwo one other result }
+{
+    if other.count < one.count || (other.count == one.count && other.place < one.place) {
+        other
+    } else {
+        one
+    }
+}
