@@ -59,19 +59,28 @@ abbrev pub head_line : List ℕ → RequestHeaderValue → List ℕ
 head_line name header =
     line name (codes "correlation" ∷ signed_decimal header.correlation_id ∷ codes "client" ∷ nullable_word header.client_id ∷ [])
 
-abbrev pub heartbeat_lines : RequestHeaderValue → HeartbeatRequestValue → List (List ℕ)
-heartbeat_lines header v =
+-- who the member is
+abbrev pub member_lines : RequestHeaderValue → HeartbeatRequestValue → List (List ℕ)
+member_lines header v =
     head_line (codes "heartbeat") header
     ∷ line (codes "group") (text_word v.group_id ∷ [])
     ∷ line (codes "member") (text_word v.member_id ∷ [])
     ∷ line (codes "epoch") (signed_decimal v.member_epoch ∷ [])
     ∷ line (codes "instance") (nullable_word v.instance_id ∷ [])
     ∷ line (codes "rack") (nullable_word v.rack_id ∷ [])
-    ∷ line (codes "timeout") (signed_decimal v.rebalance_timeout_ms ∷ [])
+    ∷ []
+
+-- what it wants and owns
+abbrev pub subscription_lines : HeartbeatRequestValue → List (List ℕ)
+subscription_lines v =
+    line (codes "timeout") (signed_decimal v.rebalance_timeout_ms ∷ [])
     ∷ line (codes "topics") (nullable_words text_word v.subscribed_topic_names)
     ∷ line (codes "assignor") (nullable_word v.server_assignor ∷ [])
     ∷ line (codes "owned") (nullable_words topic_word v.topic_partitions)
     ∷ []
+
+abbrev pub heartbeat_lines : RequestHeaderValue → HeartbeatRequestValue → List (List ℕ)
+heartbeat_lines header v = member_lines header v ++ subscription_lines v
 
 -- the line of one partition's offset
 abbrev pub part_line : List ℕ → CommitRequestPartitionValue → List ℕ
