@@ -69,10 +69,6 @@ pub lines_put : (a b c : List ℕ) (ls more : List (List ℕ)) → b ≡ a ++ fl
 lines_put a b c ls more first second =
     two_put a b c (flat_map fed ls) (flat_map fed more) first second ∙ ap (λ x. a ++ x) (sym (flat_map-append fed ls more))
 
--- lines and one more
-pub last_put : (a b c l : List ℕ) (ls : List (List ℕ)) → b ≡ a ++ flat_map fed ls → c ≡ b ++ fed l → c ≡ a ++ flat_map fed (ls ++ l ∷ [])
-last_put a b c l ls first more = lines_put a b c ls (l ∷ []) first (one_put b c l more)
-
 -- three lines and those behind them
 pub three_lines_put : (s0 s1 s2 s3 s4 a b c : List ℕ) (more : List (List ℕ))
     → s1 ≡ s0 ++ fed a → s2 ≡ s1 ++ fed b → s3 ≡ s2 ++ fed c → s4 ≡ s3 ++ flat_map fed more

@@ -7,3 +7,6 @@ pub mod Writing
 pub mod Requests
 pub mod Printing
 pub mod Reports
+pub mod Runs
+pub mod Commands
+pub mod Reporters

@@ -11,7 +11,7 @@ use Rattle.kip_msgs.specs.declared.fault.MsgFault.TheVariants.{Wire, UnknownApi,
 use Rattle.kip_msgs.specs.Faults.{fault_number}
 use Rattle.kip_msgs.specs.Values.{RequestHeaderValue, TopicPartitionsValue, HeartbeatRequestValue, CommitRequestPartitionValue, CommitRequestTopicValue, CommitRequestValue, RequestValue, heartbeat_request, commit_request}
 use Rattle.kip_msgs.specs.Spelling.{SpellsRequest}
-use Rattle.kip_msgs.specs.Heads.{HasUnknownKey, HasUnknownVersion, HasLeftOver}
+use Rattle.kip_msgs.specs.Heads.{HasUnknownKey, HasUnknownVersion, HasFieldFault, HasLeftOver}
 use Rattle.kip_msgs.specs.TagCount.{tags_in}
 use Rattle.coord_node.specs.Replies.{IsFrame}
 use Rattle.scenario_cli.specs.Lines.{fed}
@@ -126,12 +126,12 @@ abbrev pub fault_line : MsgFault → List ℕ
 fault_line fault = line (codes "fault") (fault_words fault)
 
 -- Why a body is no request: its key comes before its version, the version before its fields, and what is left over last.
+-- Of its fields the first that has a fault counts.
 abbrev pub HasFault : MsgFault → List ℕ → Type 0
 HasFault UnknownApi body = HasUnknownKey body
 HasFault UnknownVersion body = HasUnknownVersion body
 HasFault LeftOver body = HasLeftOver body
-HasFault (Wire fault) body =
-    (¬ HasUnknownKey body) × (¬ HasUnknownVersion body) × (¬ HasLeftOver body) × ((v : RequestValue) → ¬ SpellsRequest v body)
+HasFault (Wire fault) body = HasFieldFault fault body
 HasFault NoMemory body = ⊥
 
 -- ---- what is printed
@@ -166,3 +166,11 @@ pub record PrintsReport (input before after : List ℕ) : Type 0 where
   pub bytes : List ℕ
   pub is_frame_line : IsFrameLine input bytes
   pub puts : PutsReport bytes before after
+
+-- the line spells bytes
+abbrev pub SpellsBytes : List ℕ → Type 0
+SpellsBytes input = (bytes : List ℕ) × IsFrameLine input bytes
+
+-- what a line does, whatever state there is: it prints the report
+abbrev pub DoesFrameLine : {State : Type 0} → State → List ℕ → State → List ℕ → Type 0
+DoesFrameLine old input new text = PrintsReport input [] text
