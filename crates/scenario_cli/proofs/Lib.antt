@@ -4,9 +4,10 @@ pub mod Numbers
 pub mod FrameParts
 pub mod GivenWords
 pub mod CutLines
-pub mod Growth
 pub mod Prints
 pub mod Pages
 pub mod Reported
 pub mod DigitTable
 pub mod FirstBytes
+pub mod Running
+pub mod Commanded

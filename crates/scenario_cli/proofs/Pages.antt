@@ -64,11 +64,19 @@ fed_put a b c l ls first more = two_put a b c (fed l) (flat_map fed ls) first mo
 pub one_put : (a b l : List ℕ) → b ≡ a ++ fed l → b ≡ a ++ flat_map fed (l ∷ [])
 one_put a b l put = put ∙ ap (λ x. a ++ x) (sym (append-nil (fed l)))
 
--- lines and one more
-pub last_put : (a b c l : List ℕ) (ls : List (List ℕ)) → b ≡ a ++ flat_map fed ls → c ≡ b ++ fed l → c ≡ a ++ flat_map fed (ls ++ l ∷ [])
-last_put a b c l ls first more =
-    two_put a b c (flat_map fed ls) (flat_map fed (l ∷ [])) first (one_put b c l more)
-    ∙ ap (λ x. a ++ x) (sym (flat_map-append fed ls (l ∷ [])))
+-- lines and those behind them
+pub lines_put : (a b c : List ℕ) (ls more : List (List ℕ)) → b ≡ a ++ flat_map fed ls → c ≡ b ++ flat_map fed more → c ≡ a ++ flat_map fed (ls ++ more)
+lines_put a b c ls more first second =
+    two_put a b c (flat_map fed ls) (flat_map fed more) first second ∙ ap (λ x. a ++ x) (sym (flat_map-append fed ls more))
+
+-- three lines and those behind them
+pub three_lines_put : (s0 s1 s2 s3 s4 a b c : List ℕ) (more : List (List ℕ))
+    → s1 ≡ s0 ++ fed a → s2 ≡ s1 ++ fed b → s3 ≡ s2 ++ fed c → s4 ≡ s3 ++ flat_map fed more
+    → s4 ≡ s0 ++ flat_map fed (a ∷ b ∷ c ∷ more)
+three_lines_put s0 s1 s2 s3 s4 a b c more e1 e2 e3 e4 =
+    let p3 = fed_put s2 s3 s4 c more e3 e4 in
+    let p2 = fed_put s1 s2 s4 b (c ∷ more) e2 p3 in
+    fed_put s0 s1 s4 a (b ∷ c ∷ more) e1 p2
 
 -- five lines and those behind them
 pub five_lines_put : (s0 s1 s2 s3 s4 s5 s6 a b c d e : List ℕ) (more : List (List ℕ))
@@ -77,15 +85,4 @@ pub five_lines_put : (s0 s1 s2 s3 s4 s5 s6 a b c d e : List ℕ) (more : List (L
 five_lines_put s0 s1 s2 s3 s4 s5 s6 a b c d e more e1 e2 e3 e4 e5 e6 =
     let p5 = fed_put s4 s5 s6 e more e5 e6 in
     let p4 = fed_put s3 s4 s6 d (e ∷ more) e4 p5 in
-    let p3 = fed_put s2 s3 s6 c (d ∷ e ∷ more) e3 p4 in
-    let p2 = fed_put s1 s2 s6 b (c ∷ d ∷ e ∷ more) e2 p3 in
-    fed_put s0 s1 s6 a (b ∷ c ∷ d ∷ e ∷ more) e1 p2
-
--- ten lines
-pub ten_lines_put : (s0 s1 s2 s3 s4 s5 s6 s7 s8 s9 s10 a b c d e f g h i j : List ℕ)
-    → s1 ≡ s0 ++ fed a → s2 ≡ s1 ++ fed b → s3 ≡ s2 ++ fed c → s4 ≡ s3 ++ fed d → s5 ≡ s4 ++ fed e
-    → s6 ≡ s5 ++ fed f → s7 ≡ s6 ++ fed g → s8 ≡ s7 ++ fed h → s9 ≡ s8 ++ fed i → s10 ≡ s9 ++ fed j
-    → s10 ≡ s0 ++ flat_map fed (a ∷ b ∷ c ∷ d ∷ e ∷ f ∷ g ∷ h ∷ i ∷ j ∷ [])
-ten_lines_put s0 s1 s2 s3 s4 s5 s6 s7 s8 s9 s10 a b c d e f g h i j e1 e2 e3 e4 e5 e6 e7 e8 e9 e10 =
-    let p6 = five_lines_put s5 s6 s7 s8 s9 s10 s10 f g h i j [] e6 e7 e8 e9 e10 (sym (append-nil s10)) in
-    five_lines_put s0 s1 s2 s3 s4 s5 s10 a b c d e (f ∷ g ∷ h ∷ i ∷ j ∷ []) e1 e2 e3 e4 e5 p6
+    three_lines_put s0 s1 s2 s3 s6 a b c (d ∷ e ∷ more) e1 e2 e3 p4

@@ -1,5 +1,5 @@
 -- The line that is printed for an answer.
-use Rattle.std.proofs.Common.{◌≡◌, ℕ, List, [], ◌∷◌, ◌++◌, Result, Ok, Err, OnOk, refl, ap, ◌∙◌, sym, subst, append_assoc, append-nil}
+use Rattle.std.proofs.Common.{◌≡◌, ℕ, List, [], ◌∷◌, ◌++◌, Result, Ok, Err, OnOk, refl, ap, ◌∙◌, sym, subst}
 use Rattle.hex.specs.Hex.{decode_of, encode_lower}
 use Rattle.group_types.specs.declared.stamp.Stamp.{Stamp}
 use Rattle.coord_node.specs.declared.event.Answered.{Answered}
@@ -7,7 +7,7 @@ use Rattle.coord_node.specs.declared.event.Answered.TheVariants as answered
 use Rattle.coord_node.specs.Coordinator.{Coordinator, Answer, Replied, Closes, Done, bytes_of}
 use Rattle.coord_node.specs.Answers.{IsAnswered}
 use Rattle.scenario_cli.specs.Requests.{PrintsAnswer, BytesStep, text_of}
-use Rattle.scenario_cli.specs.Printing.{AnswersBytes, line_of, PrintsLines}
+use Rattle.scenario_cli.specs.Printing.{AnswersBytes, line_of}
 
 line_of-text_of : (kind : Answered) (answer : Answer) (reply : List ℕ) → IsAnswered kind answer → reply ≡ bytes_of answer
     → line_of kind reply ≡ text_of answer
@@ -36,17 +36,3 @@ answer_is_printed old new word bytes slice stamp asked moment kind none reply sh
 pub OnOk-by : {T E : Type 0} (r : Result T E) (P Q : Type 0) → (P → Q) → OnOk r P → OnOk r Q
 OnOk-by (Ok x) P Q more holds = more holds
 OnOk-by (Err e) P Q more holds = tt
-
--- one line is whole lines
-pub PrintsLines-one : (before after text : List ℕ) → after ≡ before ++ text ++ 10 ∷ [] → PrintsLines before after
-PrintsLines-one before after text printed =
-    record {
-      lines = text ∷ [];
-      printed = printed ∙ append_assoc before text (10 ∷ []) ∙ ap (λ l. before ++ l) (sym (append-nil (text ++ 10 ∷ [])));
-    }
-
--- a frame's answer is one line
-pub PrintsLines-answer : (old new : Coordinator) (word : List ℕ) (stamp : Stamp) (moment : ℕ) (before after : List ℕ)
-    → PrintsAnswer old word stamp moment new before after → PrintsLines before after
-PrintsLines-answer old new word stamp moment before after prints =
-    PrintsLines-one before after (text_of prints.answer) prints.printed

@@ -2,11 +2,12 @@
 use Rattle.std.proofs.Common.{◌≡◌, ◌≢◌, ◌⊎◌, inl, inr, ℕ, List, [], ◌∷◌, ◌++◌, Result, Ok, Err, OnOk, codes, refl}
 use Rattle.std.specs.Prelude.{◌↔◌}
 use Rattle.std.specs.List.{flat_map}
+use Rattle.flex_wire.specs.declared.fault.WireFault.{WireFault}
 use Rattle.kip_msgs.specs.declared.fault.MsgFault.{MsgFault}
 use Rattle.kip_msgs.specs.declared.fault.MsgFault.TheVariants.{Wire, UnknownApi, UnknownVersion, LeftOver, NoMemory}
 use Rattle.kip_msgs.specs.Values.{RequestValue}
 use Rattle.kip_msgs.specs.Spelling.{SpellsRequest}
-use Rattle.kip_msgs.specs.Heads.{HasUnknownKey, HasUnknownVersion, HasLeftOver}
+use Rattle.kip_msgs.specs.Heads.{HasUnknownKey, HasUnknownVersion, HasFieldFault, HasLeftOver}
 use Rattle.coord_node.specs.Replies.{IsFrame}
 use Rattle.scenario_cli.specs.Lines.{fed}
 use Rattle.scenario_cli.specs.Reports.{line, request_lines, fault_line, HasFault, PutsReport}
@@ -34,20 +35,14 @@ fault_put body bytes before after fault framed has put =
 pub fault_is : {X : Type 0} (body : List ℕ) (read : Result X MsgFault) (fault : MsgFault) → read ≡ Err fault → fault ≢ NoMemory
     → ((read ≡ Err UnknownApi) ↔ HasUnknownKey body)
     → ((read ≡ Err UnknownVersion) ↔ HasUnknownVersion body)
+    → ((wire : WireFault) → read ≡ Err (Wire wire) → HasFieldFault wire body)
     → (read ≡ Err LeftOver → HasLeftOver body)
-    → (HasLeftOver body → (read ≡ Err LeftOver) ⊎ (read ≡ Err NoMemory))
-    → ((v : RequestValue) → SpellsRequest v body → fault ≡ NoMemory)
     → HasFault fault body
-fault_is body read UnknownApi is other key version over no_over only = key.0 is
-fault_is body read UnknownVersion is other key version over no_over only = version.0 is
-fault_is body read LeftOver is other key version over no_over only = over is
-fault_is body read NoMemory is other key version over no_over only = absurd (other refl)
-fault_is body read (Wire wire) is other key version over no_over only = (
-  (λ has. let wrong = key.1 has in absurd cc),
-  (λ has. let wrong = version.1 has in absurd cc),
-  (λ has. elim (no_over has) [ inl left ↦ absurd cc | inr short ↦ absurd cc ]),
-  (λ v spells. let wrong = only v spells in absurd cc),
-)
+fault_is body read UnknownApi is other key version field over = key.0 is
+fault_is body read UnknownVersion is other key version field over = version.0 is
+fault_is body read LeftOver is other key version field over = over is
+fault_is body read NoMemory is other key version field over = absurd (other refl)
+fault_is body read (Wire wire) is other key version field over = field wire is
 
 -- what two facts of a value give
 pub on_ok_both : {T E : Type 0} (r : Result T E) (P Q R : Type 0) → (P → Q → R) → OnOk r P → OnOk r Q → OnOk r R

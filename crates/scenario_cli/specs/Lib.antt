@@ -8,3 +8,6 @@ pub mod Requests
 pub mod Printing
 pub mod Reports
 pub mod Digits
+pub mod Runs
+pub mod Commands
+pub mod Reporters

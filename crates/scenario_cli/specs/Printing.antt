@@ -1,13 +1,11 @@
 -- Which line stands for what became of a frame.
 use Rattle.std.specs.Prelude.{◌≡◌, ℕ, List, ◌++◌, codes}
-use Rattle.std.specs.List.{flat_map}
 use Rattle.hex.specs.Hex.{encode_lower}
 use Rattle.group_types.specs.declared.stamp.Stamp.{Stamp}
 use Rattle.coord_node.specs.declared.event.Answered.{Answered}
 use Rattle.coord_node.specs.declared.event.Answered.TheVariants as answered
 use Rattle.coord_node.specs.Coordinator.{Coordinator, Answer, bytes_of}
 use Rattle.coord_node.specs.Answers.{IsAnswered}
-use Rattle.scenario_cli.specs.Lines.{fed}
 use Rattle.scenario_cli.specs.Requests.{BytesStep}
 
 -- the reply in hex, or `close`
@@ -21,8 +19,3 @@ pub record AnswersBytes (old : Coordinator) (bytes : List ℕ) (stamp : Stamp) (
   pub is_answered : IsAnswered kind answer
   pub step : BytesStep old bytes stamp moment answer new
   pub appended : after ≡ before ++ bytes_of answer
-
--- whole lines more of the output
-pub record PrintsLines (before after : List ℕ) : Type 0 where
-  pub lines : List (List ℕ)
-  pub printed : after ≡ before ++ flat_map fed lines

@@ -11,7 +11,7 @@ use Rattle.kip_msgs.specs.declared.fault.MsgFault.TheVariants.{Wire, UnknownApi,
 use Rattle.kip_msgs.specs.Faults.{fault_number}
 use Rattle.kip_msgs.specs.Values.{RequestHeaderValue, TopicPartitionsValue, HeartbeatRequestValue, CommitRequestPartitionValue, CommitRequestTopicValue, CommitRequestValue, RequestValue, heartbeat_request, commit_request}
 use Rattle.kip_msgs.specs.Spelling.{SpellsRequest}
-use Rattle.kip_msgs.specs.Heads.{HasUnknownKey, HasUnknownVersion, HasLeftOver}
+use Rattle.kip_msgs.specs.Heads.{HasUnknownKey, HasUnknownVersion, HasFieldFault, HasLeftOver}
 use Rattle.kip_msgs.specs.TagCount.{tags_in}
 use Rattle.coord_node.specs.Replies.{IsFrame}
 use Rattle.scenario_cli.specs.Lines.{fed}
@@ -59,19 +59,28 @@ abbrev pub head_line : List ℕ → RequestHeaderValue → List ℕ
 head_line name header =
     line name (codes "correlation" ∷ signed_decimal header.correlation_id ∷ codes "client" ∷ nullable_word header.client_id ∷ [])
 
-abbrev pub heartbeat_lines : RequestHeaderValue → HeartbeatRequestValue → List (List ℕ)
-heartbeat_lines header v =
+-- who the member is
+abbrev pub member_lines : RequestHeaderValue → HeartbeatRequestValue → List (List ℕ)
+member_lines header v =
     head_line (codes "heartbeat") header
     ∷ line (codes "group") (text_word v.group_id ∷ [])
     ∷ line (codes "member") (text_word v.member_id ∷ [])
     ∷ line (codes "epoch") (signed_decimal v.member_epoch ∷ [])
     ∷ line (codes "instance") (nullable_word v.instance_id ∷ [])
     ∷ line (codes "rack") (nullable_word v.rack_id ∷ [])
-    ∷ line (codes "timeout") (signed_decimal v.rebalance_timeout_ms ∷ [])
+    ∷ []
+
+-- what it wants and owns
+abbrev pub subscription_lines : HeartbeatRequestValue → List (List ℕ)
+subscription_lines v =
+    line (codes "timeout") (signed_decimal v.rebalance_timeout_ms ∷ [])
     ∷ line (codes "topics") (nullable_words text_word v.subscribed_topic_names)
     ∷ line (codes "assignor") (nullable_word v.server_assignor ∷ [])
     ∷ line (codes "owned") (nullable_words topic_word v.topic_partitions)
     ∷ []
+
+abbrev pub heartbeat_lines : RequestHeaderValue → HeartbeatRequestValue → List (List ℕ)
+heartbeat_lines header v = member_lines header v ++ subscription_lines v
 
 -- the line of one partition's offset
 abbrev pub part_line : List ℕ → CommitRequestPartitionValue → List ℕ
@@ -117,12 +126,12 @@ abbrev pub fault_line : MsgFault → List ℕ
 fault_line fault = line (codes "fault") (fault_words fault)
 
 -- Why a body is no request: its key comes before its version, the version before its fields, and what is left over last.
+-- Of its fields the first that has a fault counts.
 abbrev pub HasFault : MsgFault → List ℕ → Type 0
 HasFault UnknownApi body = HasUnknownKey body
 HasFault UnknownVersion body = HasUnknownVersion body
 HasFault LeftOver body = HasLeftOver body
-HasFault (Wire fault) body =
-    (¬ HasUnknownKey body) × (¬ HasUnknownVersion body) × (¬ HasLeftOver body) × ((v : RequestValue) → ¬ SpellsRequest v body)
+HasFault (Wire fault) body = HasFieldFault fault body
 HasFault NoMemory body = ⊥
 
 -- ---- what is printed
@@ -157,3 +166,11 @@ pub record PrintsReport (input before after : List ℕ) : Type 0 where
   pub bytes : List ℕ
   pub is_frame_line : IsFrameLine input bytes
   pub puts : PutsReport bytes before after
+
+-- the line spells bytes
+abbrev pub SpellsBytes : List ℕ → Type 0
+SpellsBytes input = (bytes : List ℕ) × IsFrameLine input bytes
+
+-- what a line does, whatever state there is: it prints the report
+abbrev pub DoesFrameLine : {State : Type 0} → State → List ℕ → State → List ℕ → Type 0
+DoesFrameLine old input new text = PrintsReport input [] text

@@ -32,8 +32,3 @@ pub record PrintsAnswer (old : Coordinator) (word : List ℕ) (stamp : Stamp) (m
   pub answer : Answer
   pub step : BytesStep old bytes stamp moment answer new
   pub printed : after ≡ before ++ text_of answer ++ 10 ∷ []
-
--- one line more of the output
-pub record PrintsOneLine (before after : List ℕ) : Type 0 where
-  pub text : List ℕ
-  pub printed : after ≡ before ++ text ++ 10 ∷ []

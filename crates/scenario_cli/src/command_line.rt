@@ -4,7 +4,7 @@ ghost use Rattle.scenario_cli.specs.Statuses.{IsForMemory};
 
 use clap::Command;
 use clap::error::ErrorKind;
-use std::alloc::Global;
+use std::alloc::{AllocError, Global};
 use std::convert::AsStr;
 use std::io;
 use std::rt::Env;
@@ -61,19 +61,43 @@ pub fn subcommand_of<'a, S: AsStr>(
     alloc: Global,
     words: &'a [S],
 ) -> Result<Subcommand, clap::Error> {
-    let reply = Command::new(alloc, "reply").about("Answers the request frames on standard input");
-    let frame = Command::new(alloc, "frame").about(
-        "Prints the fields of the request frames on standard input",
-    );
-    let command = Command::new(alloc, "coord")
-        .about("The coordinator of consumer groups, on lines of text")
-        .bin_name("coord")?
-        .subcommand_required(true)
-        .subcommand(reply)?
-        .subcommand(frame)?;
-    let matches = command.try_get_matches_from(words)?;
+    let matches = command(alloc)?.try_get_matches_from(words)?;
     Ok(match matches.subcommand_name() {
         Some("frame") => Subcommand::Frame,
         _ => Subcommand::Reply,
     })
+}
+
+/// The command line: its subcommands, and what the help says of them.
+fn command<'a>(alloc: Global) -> Result<Command<'a>, AllocError> {
+    let coord = with_subcommand(
+        alloc,
+        bare_command(alloc)?,
+        "reply",
+        "Answers the request frames on standard input",
+    )?;
+    with_subcommand(
+        alloc,
+        coord,
+        "frame",
+        "Prints the fields of the request frames on standard input",
+    )
+}
+
+/// The command line with no subcommand yet.
+fn bare_command<'a>(alloc: Global) -> Result<Command<'a>, AllocError> {
+    let coord = Command::new(alloc, "coord")
+        .about("The coordinator of consumer groups, on lines of text")
+        .bin_name("coord")?;
+    Ok(coord.subcommand_required(true))
+}
+
+/// The command line with one subcommand more.
+fn with_subcommand<'a>(
+    alloc: Global,
+    command: Command<'a>,
+    name: &'a str,
+    about: &'a str,
+) -> Result<Command<'a>, AllocError> {
+    command.subcommand(Command::new(alloc, name).about(about))
 }

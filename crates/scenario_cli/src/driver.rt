@@ -1,11 +1,13 @@
 //! The way of every subcommand that does lines: the input is read whole, its lines are done in order, and what they
 //! print is written in pieces.
-ghost use Rattle.std.specs.Prelude.{◌≡◌, ◌≤◌, ◌⊎◌, OnOk, OnErr, IsErrAnd};
+ghost use Rattle.std.specs.Prelude.{◌≡◌, ◌⊎◌, ℕ, List, [], OnOk, OnErr, IfErr, IsErrAnd};
+ghost use Rattle.std.specs.Result.{result_err};
 ghost use Rattle.scenario_cli.specs.Inputs.{IsTooLong};
-ghost use Rattle.std.specs.Io.KnownBytes.{Keeps};
-ghost use Rattle.scenario_cli.specs.Printing.{PrintsLines};
+ghost use Rattle.std.specs.Io.KnownBytes.{Appends, Keeps};
+ghost use Rattle.scenario_cli.specs.Lines.{lines_of};
+ghost use Rattle.scenario_cli.specs.Runs.{IsWrite, Prints, Ends, EndsOver, LineEnds, RunsLines};
 ghost use Rattle.scenario_cli.specs.Statuses.{status_of};
-ghost use Rattle.scenario_cli.specs.Writing.{Grows};
+ghost use Rattle.scenario_cli.specs.Writing.{Grows, WritesPart};
 
 use crate::fault::{Fault, LineFault};
 use crate::input::read_whole;
@@ -14,15 +16,24 @@ use crate::output::{Output, write_whole};
 use std::alloc::Global;
 use std::io::{Read, Write};
 
-/// Does the lines of one subcommand.
+/// Does the lines of one subcommand. `does` says what a line does to the worker and which text it prints, and `takes` which
+/// lines the subcommand has.
 pub trait LineWorker {
+    ghost does: { Self → List ℕ → Self → List ℕ → Type 0 };
+
+    ghost takes: { List ℕ → Type 0 };
+
     /// Does one line, and prints what it answers: whole lines, and on `Err` none.
+    ///
+    /// Faults: [`LineFault::BadLine`] only for a line that the subcommand doesn't have; [`LineFault::NoMemory`].
     fn line(&mut self, line: &[u8], output: &mut Output) -> Result<(), LineFault>
-        ensures printed { OnOk result (PrintsLines output.old output.new) }
+        ensures printed { OnOk result (Prints (does self.old line.now self.new) output.old output.new) }
+        ensures refused { result ≡ Err LineFault.BadLine → ¬ takes line.now }
         ensures err { OnErr result (output.new ≡ output.old) };
 }
 
-/// Does the lines of the reader in order and prints what they answer. Gives the program's status.
+/// Does the lines of the reader in order and prints what they answer, up to the first that can't be done. A fault is told.
+/// Gives the program's status: 0 where all lines are done, 2 at a bad line, 1 after the other faults.
 pub fn run<L: LineWorker, R: Read, W: Write, E: Write>(
     alloc: Global,
     worker: &mut L,
@@ -30,11 +41,13 @@ pub fn run<L: LineWorker, R: Read, W: Write, E: Write>(
     writer: &mut W,
     faults: &mut E,
 ) -> u8
-    ensures status { result ≤ 2 }
-    ensures printed { Grows (W.contents writer.old) (W.contents writer.new) }
-    ensures told { Grows (E.contents faults.old) (E.contents faults.new) }
-    ensures too_long { IsTooLong (R.remaining reader.old) → (result ≡ 1) × Keeps (W.contents writer.old) (W.contents writer.new) }
-    ensures quiet { result ≡ 0 → Keeps (E.contents faults.old) (E.contents faults.new) }
+    ensures { RunsLines L.does L.takes worker.old (record {
+      input = R.remaining reader.old;
+      output_before = W.contents writer.old;
+      output_after = W.contents writer.new;
+      errors_before = E.contents faults.old;
+      errors_after = E.contents faults.new;
+    }) result }
 {
     match do_lines(alloc, worker, reader, writer) {
         Ok(()) => 0,
@@ -49,16 +62,32 @@ fn do_lines<L: LineWorker, R: Read, W: Write>(
     reader: &mut R,
     writer: &mut W,
 ) -> Result<(), Fault>
-    ensures grows { Grows (W.contents writer.old) (W.contents writer.new) }
+    ensures ends { EndsOver L.does L.takes worker.old (R.remaining reader.old) (W.contents writer.old) (W.contents writer.new) (result_err result) }
     ensures too_long { IsTooLong (R.remaining reader.old)
         → IsErrAnd result (λ fault. status_of fault ≡ 1) × Keeps (W.contents writer.old) (W.contents writer.new) }
 {
-    let input = read_whole(alloc, reader)?;
-    let mut output = Output::new(alloc);
-    for (index, line) in Lines::of(input.as_slice()).enumerate() {
-        do_line(worker, index + 1, line, &mut output, writer)?;
+    match read_whole(alloc, reader) {
+        Ok(input) => do_input(alloc, worker, input.as_slice(), writer),
+        Err(fault) => Err(fault),
     }
-    output.write_to(writer).map_err(Fault::Write)
+}
+
+/// Does the lines of an input, until the first that can't be done.
+fn do_input<L: LineWorker, W: Write>(
+    alloc: Global,
+    worker: &mut L,
+    input: &[u8],
+    writer: &mut W,
+) -> Result<(), Fault>
+    ensures { Ends L.does L.takes (lines_of input.now) worker.old (W.contents writer.old) (W.contents writer.new) (result_err result) }
+{
+    let mut output = Output::new(alloc);
+    for (index, line) in Lines::of(input).enumerate() {
+        if let Err(fault) = do_line(worker, index + 1, line, &mut output, writer) {
+            return Err(fault);
+        }
+    }
+    write(&mut output, writer)
 }
 
 /// Does the line of this number. What is printed so far is written where there is enough of it, and before the run
@@ -70,13 +99,27 @@ fn do_line<L: LineWorker, W: Write>(
     output: &mut Output,
     writer: &mut W,
 ) -> Result<(), Fault>
-    ensures { Grows (W.contents writer.old) (W.contents writer.new) }
+    ensures { LineEnds L.does L.takes worker.old line.now number worker.new output.old output.new
+        (W.contents writer.old) (W.contents writer.new) (result_err result) }
 {
-    let done = worker.line(line, output);
-    if done.is_err() || output.is_full() {
-        output.write_to(writer).map_err(Fault::Write)?;
+    if let Err(fault) = worker.line(line, output) {
+        write(output, writer)?;
+        return Err(fault.at_line(number));
     }
-    done.map_err(|fault| fault.at_line(number))
+    if output.is_full() {
+        write(output, writer)?;
+    }
+    Ok(())
+}
+
+/// Writes all that is held, which is then held no longer.
+fn write<W: Write>(output: &mut Output, writer: &mut W) -> Result<(), Fault>
+    ensures written { OnOk result (Appends (W.contents writer.old) (W.contents writer.new) output.old) }
+    ensures empty { OnOk result (output.new ≡ []) }
+    ensures failed { IfErr result IsWrite }
+    ensures part { WritesPart (W.contents writer.old) (W.contents writer.new) output.old }
+{
+    output.write_to(writer).map_err(Fault::Write)
 }
 
 /// Writes the text of a fault, and gives its status. Where memory is short for the text, want of memory is the fault.

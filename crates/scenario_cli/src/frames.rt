@@ -1,10 +1,9 @@
 //! The subcommand `coord frame`.
-ghost use Rattle.std.specs.Prelude.{◌≡◌, ◌≤◌, ℕ, List, OnOk, OnErr};
-ghost use Rattle.std.specs.Io.KnownBytes.{Keeps};
-ghost use Rattle.scenario_cli.specs.Inputs.{IsTooLong};
-ghost use Rattle.scenario_cli.specs.Printing.{PrintsLines};
-ghost use Rattle.scenario_cli.specs.Reports.{IsFrameLine, PrintsReport};
-ghost use Rattle.scenario_cli.specs.Writing.{Grows};
+ghost use Rattle.std.specs.Prelude.{◌≡◌, [], OnOk, OnErr};
+ghost use Rattle.scenario_cli.specs.declared.frames.Reporter.{Reporter};
+ghost use Rattle.scenario_cli.specs.Reporters.{new_reporter};
+ghost use Rattle.scenario_cli.specs.Reports.{DoesFrameLine, PrintsReport, SpellsBytes};
+ghost use Rattle.scenario_cli.specs.Runs.{Prints, RunsLines};
 
 use crate::driver::{self, LineWorker};
 use crate::fault::LineFault;
@@ -15,19 +14,23 @@ use crate::words;
 use std::alloc::Global;
 use std::io::{Read, Write};
 
-/// Does the lines of the reader in order: each is the hex of one frame of a request, and the frame's fields are
-/// printed. Gives the program's status.
+/// Does the lines of the reader in order: each is the hex of one frame of a request (Kafka protocol guide, "Protocol"), and
+/// the frame's fields are printed, or its fault.
+///
+/// Gives the program's status, as [`driver::run`] does. A line that isn't one word of hex is a bad line.
 pub fn frame_lines<R: Read, W: Write, E: Write>(
     alloc: Global,
     reader: &mut R,
     writer: &mut W,
     faults: &mut E,
 ) -> u8
-    ensures status { result ≤ 2 }
-    ensures printed { Grows (W.contents writer.old) (W.contents writer.new) }
-    ensures told { Grows (E.contents faults.old) (E.contents faults.new) }
-    ensures too_long { IsTooLong (R.remaining reader.old) → (result ≡ 1) × Keeps (W.contents writer.old) (W.contents writer.new) }
-    ensures quiet { result ≡ 0 → Keeps (E.contents faults.old) (E.contents faults.new) }
+    ensures { RunsLines (DoesFrameLine {State = Reporter}) SpellsBytes (new_reporter alloc) (record {
+      input = R.remaining reader.old;
+      output_before = W.contents writer.old;
+      output_after = W.contents writer.new;
+      errors_before = E.contents faults.old;
+      errors_after = E.contents faults.new;
+    }) result }
 {
     let mut reporter = Reporter::new(alloc);
     driver::run(alloc, &mut reporter, reader, writer, faults)
@@ -42,7 +45,9 @@ struct Reporter {
 
 impl Reporter {
     /// Before the first line.
-    fn new(alloc: Global) -> Reporter {
+    fn new(alloc: Global) -> Reporter
+        ensures { result ≡ new_reporter alloc }
+    {
         Reporter {
             alloc,
             page: Page::new(alloc),
@@ -51,12 +56,16 @@ impl Reporter {
 }
 
 impl LineWorker for Reporter {
+    ghost does = { DoesFrameLine };
+
+    ghost takes = { SpellsBytes };
+
     /// Prints the report of the frame that the line spells in hex. A line that isn't one word of hex is a bad line.
     fn line(&mut self, line: &[u8], output: &mut Output) -> Result<(), LineFault>
-        ensures printed { OnOk result (PrintsLines output.old output.new) }
+        ensures printed { OnOk result (Prints (PrintsReport line.now []) output.old output.new) }
         ensures report { OnOk result (PrintsReport line.now output.old output.new) }
         ensures err { OnErr result (output.new ≡ output.old) }
-        ensures refused { result ≡ Err LineFault.BadLine → (bytes : List ℕ) → ¬ IsFrameLine line.now bytes }
+        ensures refused { result ≡ Err LineFault.BadLine → ¬ SpellsBytes line.now }
     {
         let words = words::words_of(self.alloc, line)?;
         let [word] = words.as_slice() else {

@@ -1,7 +1,7 @@
 //! The input, read whole.
 ghost use Rattle.std.specs.Prelude.{◌≡◌, ◌<◌, ◌≤◌, length, vec_len, IfOk, OnOk, IfErr, IsErr, IfSome};
 ghost use Rattle.scenario_cli.specs.Inputs.{IsTooLong};
-ghost use Rattle.scenario_cli.specs.Statuses.{status_of};
+ghost use Rattle.scenario_cli.specs.Runs.{IsOfReading};
 
 use crate::fault::Fault;
 use std::alloc::Global;
@@ -15,7 +15,7 @@ pub fn read_whole<R: Read>(alloc: Global, reader: &mut R) -> Result<Vec<u8>, Fau
     ensures whole { IfOk result (λ input. IfSome (R.remaining reader.old) (λ bytes. input.items ≡ bytes)) }
     ensures short { IfOk result (λ input. vec_len input ≤ LONGEST_INPUT) }
     ensures refused { IsTooLong (R.remaining reader.old) → IsErr result }
-    ensures failed { IfErr result (λ fault. status_of fault ≡ 1) }
+    ensures failed { IfErr result IsOfReading }
     ensures too_long { result ≡ Err Fault.TooLong → IfSome (R.remaining reader.old) (λ bytes. LONGEST_INPUT < length bytes) }
 {
     let mut input = Vec::new(alloc);

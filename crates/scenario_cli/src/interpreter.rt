@@ -1,7 +1,8 @@
 //! The lines of `coord reply`, each as one method.
-ghost use Rattle.std.specs.Prelude.{◌≡◌, ◌⊎◌, [], ◌∷◌, ◌++◌, IfErr, OnOk, OnErr};
-ghost use Rattle.scenario_cli.specs.Requests.{PrintsOneLine};
-ghost use Rattle.scenario_cli.specs.Printing.{line_of, PrintsLines};
+ghost use Rattle.std.specs.Prelude.{◌≡◌, ◌≢◌, List, [], ◌∷◌, ◌++◌, map, codes, IfErr, IfOk, OnOk, OnErr};
+ghost use Rattle.topic_meta.specs.Images.{Entry, entry_of, entries_of};
+ghost use Rattle.scenario_cli.specs.Printing.{line_of};
+ghost use Rattle.scenario_cli.specs.Commands.{DoesReplyLine, IsReplyLine, SpellTopics};
 
 use crate::driver::LineWorker;
 use crate::fault::LineFault;
@@ -28,22 +29,20 @@ pub struct Interpreter {
 }
 
 impl Interpreter {
-    ghost use Rattle.std.specs.Prelude.{◌≡◌, ◌≢◌, ◌⊎◌, ℕ, ◌+◌, ◌-◌, ◌<◌, ◌^◌, min, None, decimal, OnOk, OnErr, IfOk, IfErr, IsErr};
+    ghost use Rattle.std.specs.Prelude.{◌+◌, ◌-◌, ◌^◌, min, None, IfErr, IsErr};
     ghost use Rattle.hex.specs.Hex.{decode_of};
-    ghost use Rattle.group_types.specs.declared.stamp.Stamp.{Stamp};
-    ghost use Rattle.coord_node.specs.Coordinator.{opening};
     ghost use Rattle.scenario_cli.specs.Stamps.{stamp_of};
     ghost use Rattle.scenario_cli.specs.Requests.{PrintsAnswer};
     ghost use Rattle.scenario_cli.specs.Printing.{AnswersBytes};
+    ghost use Rattle.scenario_cli.specs.Commands.{DoesCommand, IsCommand, new_interpreter};
+    ghost use Rattle.scenario_cli.specs.Runs.{Prints};
 
     /// The salt of the node's ids.
     const SALT: u64 = 0;
 
-    /// A node with no groups and no topics, at the moment 0.
+    /// A node with no groups and no topics, at the moment 0. Takes no memory.
     pub fn new(alloc: Global, hasher: RandomState) -> Interpreter
-        ensures node { result.node ≡ opening 0 }
-        ensures now { result.now ≡ 0 }
-        ensures stamps { result.stamps ≡ record { given = None; requests = 0 } }
+        ensures { result ≡ new_interpreter alloc }
     {
         Interpreter {
             alloc,
@@ -53,50 +52,80 @@ impl Interpreter {
         }
     }
 
-    /// `image [NAME UUID COUNT]...` sets the image.
-    fn image(&mut self, topics: &[&str]) -> Result<(), LineFault>
-        ensures kept { (self.new.now ≡ self.old.now) × (self.new.stamps ≡ self.old.stamps) }
+    /// Does the command of this name.
+    fn command(
+        &mut self,
+        name: &str,
+        arguments: &[&str],
+        output: &mut Output,
+    ) -> Result<(), LineFault>
+        ensures printed { OnOk result (Prints (DoesCommand (name.now ∷ map (λ word. word.now) arguments.now) self.old self.new) output.old output.new) }
+        ensures refused { result ≡ Err LineFault.BadLine → ¬ IsCommand (name.now ∷ map (λ word. word.now) arguments.now) }
+        ensures err { OnErr result (output.new ≡ output.old) }
     {
-        let mut list = Vec::new(self.alloc);
-        for topic in topics.chunks(3) {
-            list.push(topic_of(self.alloc, topic)?)?;
+        match name {
+            "image" => self.image(arguments),
+            "now" => self.now(arguments),
+            "stamp" => self.stamp(arguments),
+            "req" => self.request_line(arguments, output),
+            _ => Err(LineFault::BadLine),
         }
+    }
+
+    /// `image [NAME UUID COUNT]...` sets the image.
+    fn image(&mut self, arguments: &[&str]) -> Result<(), LineFault>
+        ensures done { OnOk result (DoesCommand (codes "image" ∷ map (λ word. word.now) arguments.now) self.old self.new []) }
+        ensures refused { result ≡ Err LineFault.BadLine → ¬ IsCommand (codes "image" ∷ map (λ word. word.now) arguments.now) }
+    {
+        let list = topics_of(self.alloc, arguments)?;
         match Image::of(self.alloc, list) {
             Ok(image) => {
                 self.node.set_image(image);
                 Ok(())
             }
-            Err(ImageFault::NoMemory) => Err(LineFault::NoMemory),
-            Err(_) => Err(LineFault::BadLine),
+            Err(fault) => Err(line_fault(fault)),
         }
     }
 
     /// `now MS` sets the moment.
-    fn now(&mut self, millis: &str) -> Result<(), LineFault>
-        ensures set { OnOk result (millis.now ≡ decimal self.new.now) }
-        ensures kept { self.new ≡ record self.old { now = self.new.now } }
-        ensures refused { OnErr result ((number : ℕ) → number < 2 ^ 64 → millis.now ≢ decimal number) }
+    fn now(&mut self, arguments: &[&str]) -> Result<(), LineFault>
+        ensures done { OnOk result (DoesCommand (codes "now" ∷ map (λ word. word.now) arguments.now) self.old self.new []) }
+        ensures refused { OnErr result (¬ IsCommand (codes "now" ∷ map (λ word. word.now) arguments.now)) }
         ensures fault { IfErr result (λ fault. fault ≡ LineFault.BadLine) }
     {
+        let [millis] = arguments else {
+            return Err(LineFault::BadLine);
+        };
         let millis = words::number_of(millis).ok_or(LineFault::BadLine)?;
         self.now = Moment::of_millis(millis);
         Ok(())
     }
 
     /// `stamp C F` gives the next request its stamp.
-    fn stamp(&mut self, connection: &str, frame: &str) -> Result<(), LineFault>
-        ensures given { OnOk result ((stamp : Stamp) × (self.new.stamps.given ≡ Some stamp)
-            × (connection.now ≡ decimal stamp.connection) × (frame.now ≡ decimal stamp.frame)) }
-        ensures kept { self.new ≡ record self.old { stamps = record self.old.stamps { given = self.new.stamps.given } } }
-        ensures refused { OnErr result ((connection_number frame_number : ℕ)
-            → connection_number < 2 ^ 64 → frame_number < 2 ^ 64
-            → connection.now ≡ decimal connection_number → frame.now ≢ decimal frame_number) }
+    fn stamp(&mut self, arguments: &[&str]) -> Result<(), LineFault>
+        ensures done { OnOk result (DoesCommand (codes "stamp" ∷ map (λ word. word.now) arguments.now) self.old self.new []) }
+        ensures refused { OnErr result (¬ IsCommand (codes "stamp" ∷ map (λ word. word.now) arguments.now)) }
         ensures fault { IfErr result (λ fault. fault ≡ LineFault.BadLine) }
     {
+        let [connection, frame] = arguments else {
+            return Err(LineFault::BadLine);
+        };
         let connection = words::number_of(connection).ok_or(LineFault::BadLine)?;
         let frame = words::number_of(frame).ok_or(LineFault::BadLine)?;
         self.stamps.give(Stamp { connection, frame });
         Ok(())
+    }
+
+    /// `req HEX` answers a frame.
+    fn request_line(&mut self, arguments: &[&str], output: &mut Output) -> Result<(), LineFault>
+        ensures printed { OnOk result (Prints (DoesCommand (codes "req" ∷ map (λ word. word.now) arguments.now) self.old self.new) output.old output.new) }
+        ensures refused { result ≡ Err LineFault.BadLine → ¬ IsCommand (codes "req" ∷ map (λ word. word.now) arguments.now) }
+        ensures err { OnErr result (output.new ≡ output.old) }
+    {
+        let [frame] = arguments else {
+            return Err(LineFault::BadLine);
+        };
+        self.request(frame, output)
     }
 
     /// `req HEX` prints the frame of the reply, or `close`.
@@ -107,7 +136,7 @@ impl Interpreter {
             ≡ record { given = None; requests = min (self.old.stamps.requests + 1) (2 ^ 64 - 1) }) }
         ensures err { OnErr result (output.new ≡ output.old) }
         ensures refused { result ≡ Err LineFault.BadLine → IsErr (decode_of frame.now) }
-        ensures kept { self.new.now ≡ self.old.now }
+        ensures kept { self.new ≡ record self.old { node = self.new.node; stamps = self.new.stamps } }
     {
         let frame = words::bytes_of(self.alloc, frame)?;
         let stamp = self.stamps.next_stamp();
@@ -135,20 +164,16 @@ impl Interpreter {
 }
 
 impl LineWorker for Interpreter {
-    /// Does one line, and prints what it answers: at most one line.
-    fn line(&mut self, line: &[u8], output: &mut Output) -> Result<(), LineFault>
-        ensures printed { OnOk result (PrintsLines output.old output.new) }
-        ensures one { OnOk result ((output.new ≡ output.old) ⊎ PrintsOneLine output.old output.new) }
-        ensures err { OnErr result (output.new ≡ output.old) }
-    {
+    ghost does = { DoesReplyLine };
+
+    ghost takes = { IsReplyLine };
+
+    fn line(&mut self, line: &[u8], output: &mut Output) -> Result<(), LineFault> {
         let words = words::words_of(self.alloc, line)?;
-        match words.as_slice() {
-            ["image", topics @ ..] => self.image(topics),
-            ["now", millis] => self.now(millis),
-            ["stamp", connection, frame] => self.stamp(connection, frame),
-            ["req", frame] => self.request(frame, output),
-            _ => Err(LineFault::BadLine),
-        }
+        let Some((name, arguments)) = words.split_first() else {
+            return Err(LineFault::BadLine);
+        };
+        self.command(name, arguments, output)
     }
 }
 
@@ -170,17 +195,45 @@ fn print(
     Ok(())
 }
 
-/// The topic of three words: its name, id and number of partitions.
-fn topic_of(alloc: Global, words: &[&str]) -> Result<TopicEntry, LineFault> {
+/// The fault of a line whose topics make no image.
+fn line_fault(fault: ImageFault) -> LineFault
+    ensures bad_line { result ≡ LineFault.BadLine → fault ≢ ImageFault.NoMemory }
+    ensures no_memory { result ≡ LineFault.NoMemory → fault ≡ ImageFault.NoMemory }
+{
+    match fault {
+        ImageFault::NoMemory => LineFault::NoMemory,
+        ImageFault::DuplicateName
+        | ImageFault::DuplicateId
+        | ImageFault::TooMany
+        | ImageFault::BadCount => LineFault::BadLine,
+    }
+}
+
+/// The topics of words, three words each.
+fn topics_of(alloc: Global, words: &[&str]) -> Result<Vec<TopicEntry>, LineFault>
+    ensures topics { IfOk result (λ list. SpellTopics (map (λ word. word.now) words.now) (entries_of list.items)) }
+    ensures refused { result ≡ Err LineFault.BadLine → (list : List Entry) → ¬ SpellTopics (map (λ word. word.now) words.now) list }
+{
+    let mut list = Vec::new(alloc);
+    for topic in words.chunks(3) {
+        list.push(topic_of(alloc, topic)?)?;
+    }
+    Ok(list)
+}
+
+/// The topic of three words: its name, its id and how many partitions it has.
+fn topic_of(alloc: Global, words: &[&str]) -> Result<TopicEntry, LineFault>
+    ensures topic { IfOk result (λ entry. SpellTopics (map (λ word. word.now) words.now) (entry_of entry ∷ [])) }
+    ensures refused { result ≡ Err LineFault.BadLine → (entry : Entry) → ¬ SpellTopics (map (λ word. word.now) words.now) (entry ∷ []) }
+{
     let [name, id, count] = words else {
         return Err(LineFault::BadLine);
     };
     if !words::is_name(name) {
         return Err(LineFault::BadLine);
     }
-    Ok(TopicEntry {
-        name: String::from_str(alloc, name)?,
-        id: Uuid::parse_str(id).map_err(|_| LineFault::BadLine)?,
-        count: words::count_of(count).ok_or(LineFault::BadLine)?,
-    })
+    let id = Uuid::parse_str(id).map_err(|_| LineFault::BadLine)?;
+    let count = words::count_of(count).ok_or(LineFault::BadLine)?;
+    let name = String::from_str(alloc, name)?;
+    Ok(TopicEntry { name, id, count })
 }

@@ -1,7 +1,7 @@
 //! The output, written in pieces.
 ghost use Rattle.std.specs.Prelude.{◌≡◌, ◌≤◌, ◌↔◌, List, ℕ, [], ◌∷◌, ◌++◌, length, IsTrue, OnOk, OnErr};
 ghost use Rattle.std.specs.Io.KnownBytes.{Appends};
-ghost use Rattle.scenario_cli.specs.Writing.{Grows};
+ghost use Rattle.scenario_cli.specs.Writing.{WritesPart};
 
 use std::alloc::{AllocError, Global};
 use std::io;
@@ -66,7 +66,7 @@ impl Output {
     pub fn write_to<W: Write>(&mut self, writer: &mut W) -> io::Result<()>
         ensures written { OnOk result (Appends (W.contents writer.old) (W.contents writer.new) self.old) }
         ensures empty { OnOk result (self.new ≡ []) }
-        ensures grows { Grows (W.contents writer.old) (W.contents writer.new) }
+        ensures part { WritesPart (W.contents writer.old) (W.contents writer.new) self.old }
     {
         write_whole(writer, self.held.as_slice())?;
         self.held.clear();
@@ -77,7 +77,7 @@ impl Output {
 /// Writes all the bytes, or the first of them and then says why no more.
 pub fn write_whole<W: Write>(writer: &mut W, bytes: &[u8]) -> io::Result<()>
     ensures written { OnOk result (Appends (W.contents writer.old) (W.contents writer.new) bytes.now) }
-    ensures grows { Grows (W.contents writer.old) (W.contents writer.new) }
+    ensures part { WritesPart (W.contents writer.old) (W.contents writer.new) bytes.now }
 {
     let mut rest = bytes;
     for _ in 0..u64::MAX {

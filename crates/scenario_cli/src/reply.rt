@@ -1,8 +1,6 @@
 //! The subcommand `coord reply`.
-ghost use Rattle.std.specs.Prelude.{◌≡◌, ◌≤◌};
-ghost use Rattle.scenario_cli.specs.Inputs.{IsTooLong};
-ghost use Rattle.std.specs.Io.KnownBytes.{Keeps};
-ghost use Rattle.scenario_cli.specs.Writing.{Grows};
+ghost use Rattle.scenario_cli.specs.Commands.{DoesReplyLine, IsReplyLine, new_interpreter};
+ghost use Rattle.scenario_cli.specs.Runs.{RunsLines};
 
 use crate::driver;
 use crate::interpreter::Interpreter;
@@ -10,7 +8,10 @@ use std::alloc::Global;
 use std::collections::hash_map::RandomState;
 use std::io::{Read, Write};
 
-/// Does the lines of the reader in order and prints what they answer. Gives the program's status.
+/// Does the lines of the reader in order: `image`, `now`, `stamp` and `req`, each with its arguments. What a request is
+/// answered is printed (KIP-848; Kafka protocol guide). The node begins with no groups and no topics, at the moment 0.
+///
+/// Gives the program's status, as [`driver::run`] does.
 pub fn reply_lines<R: Read, W: Write, E: Write>(
     alloc: Global,
     hasher: RandomState,
@@ -18,11 +19,13 @@ pub fn reply_lines<R: Read, W: Write, E: Write>(
     writer: &mut W,
     faults: &mut E,
 ) -> u8
-    ensures status { result ≤ 2 }
-    ensures printed { Grows (W.contents writer.old) (W.contents writer.new) }
-    ensures told { Grows (E.contents faults.old) (E.contents faults.new) }
-    ensures too_long { IsTooLong (R.remaining reader.old) → (result ≡ 1) × Keeps (W.contents writer.old) (W.contents writer.new) }
-    ensures quiet { result ≡ 0 → Keeps (E.contents faults.old) (E.contents faults.new) }
+    ensures { RunsLines DoesReplyLine IsReplyLine (new_interpreter alloc) (record {
+      input = R.remaining reader.old;
+      output_before = W.contents writer.old;
+      output_after = W.contents writer.new;
+      errors_before = E.contents faults.old;
+      errors_after = E.contents faults.new;
+    }) result }
 {
     let mut interpreter = Interpreter::new(alloc, hasher);
     driver::run(alloc, &mut interpreter, reader, writer, faults)

@@ -1,86 +1,65 @@
-//! Tests of whole runs, over readers and writers in memory.
+//! Tests of whole runs, over readers and writers in memory. The worked examples stand in tables of text.
+
+mod command_lines;
+mod frames;
+mod replies;
+mod sink;
+mod streams;
+mod table;
 
 use crate::command_line::Subcommand;
 use crate::frames::frame_lines;
 use crate::reply::reply_lines;
+use sink::Sink;
+use std::alloc::{AllocError, Global};
 use std::collections::hash_map::RandomState;
-use std::io;
-use std::io::{Cursor, Read};
-use std::process::Abort;
-use std::random::RandomSource;
-use std::test::Fail;
+use std::io::Read;
 
-/// Runs a subcommand over a reader. Where a growth is refused the run says so, has printed only what comes first, and is made again.
-macro_rules! ran {
-    ($rt:expr, $subcommand:expr, $reader:expr) => {{
-        match attempt($rt, $subcommand, &mut $reader) {
-            Ok(ran) if ran.told.as_slice() != b"out of memory\n".as_slice() => ran,
-            refused => {
-                eprintln!($rt; "growth refused")?;
-                let whole = attempt($rt, $subcommand, &mut $reader)?;
-                if let Ok(part) = refused {
-                    assert_eq!($rt; part.status, 1);
-                    assert!($rt; whole.printed.starts_with(part.printed.as_slice()));
-                }
-                whole
-            }
-        }
-    }};
+/// Runs a subcommand.
+#[derive(Clone, Copy)]
+struct Runner {
+    alloc: Global,
+    hasher: RandomState,
+    subcommand: Subcommand,
 }
 
-mod command_lines;
-mod frames;
-mod lines;
-mod replies;
-mod streams;
-
 /// What a run has written when it ends, and its status.
-#[derive(Debug, PartialEq, Drop)]
+#[derive(Drop)]
 struct Ran {
     status: u8,
     printed: Vec<u8>,
     told: Vec<u8>,
 }
 
-/// How much a run may print and tell here. The writers have this room from the start, so that no growth of theirs is
-/// refused.
+/// How much a run may print and tell, where a test doesn't say otherwise.
 const ROOM: usize = 8_192;
 
-/// Runs a subcommand over a reader once.
-fn attempt<R: Read>(
-    rt: &(impl AllocGlobal + RandomSource),
-    subcommand: Subcommand,
-    reader: &mut R,
-) -> io::Result<Ran> {
-    let alloc = rt.alloc();
-    let mut printed = Vec::with_capacity(alloc, ROOM)?;
-    let mut told = Vec::with_capacity(alloc, ROOM)?;
-    let status = match subcommand {
-        Subcommand::Reply => {
-            let hasher = RandomState::new(rt)?;
-            reply_lines(alloc, hasher, reader, &mut printed, &mut told)
-        }
-        Subcommand::Frame => frame_lines(alloc, reader, &mut printed, &mut told),
-    };
-    Ok(Ran {
-        status,
-        printed,
-        told,
-    })
+impl Runner {
+    /// Runs the subcommand over a reader, with room for so many bytes of output.
+    fn run<R: Read>(&self, reader: &mut R, room: usize) -> Result<Ran, AllocError> {
+        let alloc = self.alloc;
+        let mut printed = Sink::with_room(alloc, room)?;
+        let mut told = Sink::with_room(alloc, ROOM)?;
+        let status = match self.subcommand {
+            Subcommand::Reply => reply_lines(alloc, self.hasher, reader, &mut printed, &mut told),
+            Subcommand::Frame => frame_lines(alloc, reader, &mut printed, &mut told),
+        };
+        Ok(Ran {
+            status,
+            printed: printed.into_bytes(),
+            told: told.into_bytes(),
+        })
+    }
 }
 
-/// The run of a subcommand over an input ends with this status, this output and this text of a fault.
-fn assert_runs(
-    rt: &(impl Abort + AllocGlobal + Eprint + RandomSource),
-    subcommand: Subcommand,
-    input: &[u8],
-    status: u8,
-    printed: &str,
-    told: &str,
-) -> Result<(), Fail> {
-    let ran = ran!(rt, subcommand, Cursor::new(input));
-    assert_eq!(rt; ran.told.as_slice(), told.as_bytes(), "on {input:?}");
-    assert_eq!(rt; ran.printed.as_slice(), printed.as_bytes(), "on {input:?}");
-    assert_eq!(rt; ran.status, status, "on {input:?}");
-    Ok(())
+impl Ran {
+    /// Whether the run ended for want of memory.
+    fn is_out_of_memory(&self) -> bool {
+        self.status == 1 && self.told.as_slice() == b"out of memory\n".as_slice()
+    }
+
+    /// Whether the run ended so.
+    fn is(&self, status: u8, printed: &[u8], told: &[u8]) -> bool {
+        self.status == status && self.printed.as_slice() == printed && self.told.as_slice() == told
+    }
 }

@@ -42,7 +42,7 @@ fn are_given(words: &[&str]) -> bool
 
 /// The number that a word spells in decimal, with no sign and no leading zeros.
 pub fn number_of(word: &str) -> Option<u64>
-    ensures some { IfSome result (λ number. word.now ≡ decimal number) }
+    ensures some { IfSome result (λ number. (number < 2 ^ 64) × (word.now ≡ decimal number)) }
     ensures none { IfNone result ((number : ℕ) → number < 2 ^ 64 → word.now ≢ decimal number) }
 {
     let number = word.parse::<u64>().ok()?;
@@ -55,7 +55,7 @@ pub fn number_of(word: &str) -> Option<u64>
 
 /// The number of partitions that a word spells, which is an INT32.
 pub fn count_of(word: &str) -> Option<i32>
-    ensures some { IfSome result (λ count. (number : ℕ) × (count ≡ pos number) × (word.now ≡ decimal number)) }
+    ensures some { IfSome result (λ count. (number : ℕ) × (number < 2 ^ 31) × (count ≡ pos number) × (word.now ≡ decimal number)) }
     ensures none { IfNone result ((number : ℕ) → number < 2 ^ 31 → word.now ≢ decimal number) }
 {
     i32::try_from(number_of(word)?).ok()

@@ -4,7 +4,7 @@ ghost use Rattle.std.specs.List.{flat_map};
 ghost use Rattle.kip_msgs.specs.Topics.{topic_partitions_value, topic_partitions_values};
 ghost use Rattle.kip_msgs.specs.Views.{request_header_value, heartbeat_request_value};
 ghost use Rattle.scenario_cli.specs.Lines.{fed};
-ghost use Rattle.scenario_cli.specs.Reports.{text_word, topic_word, nullable_words, spaced, line, heartbeat_lines};
+ghost use Rattle.scenario_cli.specs.Reports.{text_word, topic_word, nullable_words, spaced, line, member_lines, subscription_lines, heartbeat_lines};
 
 use super::put_head;
 use crate::page::Page;
@@ -21,12 +21,32 @@ pub(super) fn put_heartbeat(
     ensures { OnOk result (page.new ≡ page.old
         ++ flat_map fed (heartbeat_lines (request_header_value header.now) (heartbeat_request_value message.now))) }
 {
+    put_member(page, header, message)?;
+    put_subscription(page, message)
+}
+
+/// Puts the lines of the header and of who the member is.
+fn put_member(
+    page: &mut Page,
+    header: &RequestHeader<'_>,
+    message: &HeartbeatRequest<'_>,
+) -> Result<(), AllocError>
+    ensures { OnOk result (page.new ≡ page.old
+        ++ flat_map fed (member_lines (request_header_value header.now) (heartbeat_request_value message.now))) }
+{
     put_head(page, "heartbeat", header)?;
     page.text("group", message.group_id)?;
     page.text("member", message.member_id)?;
     page.number("epoch", message.member_epoch)?;
     page.nullable("instance", message.instance_id)?;
-    page.nullable("rack", message.rack_id)?;
+    page.nullable("rack", message.rack_id)
+}
+
+/// Puts the lines of what the member wants and owns.
+fn put_subscription(page: &mut Page, message: &HeartbeatRequest<'_>) -> Result<(), AllocError>
+    ensures { OnOk result (page.new ≡ page.old
+        ++ flat_map fed (subscription_lines (heartbeat_request_value message.now))) }
+{
     page.number("timeout", message.rebalance_timeout_ms)?;
     put_topics(page, &message.subscribed_topic_names)?;
     page.nullable("assignor", message.server_assignor)?;

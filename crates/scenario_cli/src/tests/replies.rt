@@ -1,127 +1,167 @@
-//! What is printed for requests. The bytes are spelled by hand, field by field, as KIP-848 and the Kafka protocol
-//! guide lay them out.
+//! What `coord reply` prints, by KIP-848 and the Kafka protocol guide.
 
-use super::assert_runs;
+use super::Runner;
+use super::table::{Subject, wrong_rows};
 use crate::command_line::Subcommand;
+use std::collections::hash_map::RandomState;
 use std::test::Fail;
 
-/// The first member of the group `g` gets both partitions of the topic `t`.
 #[test]
-fn a_first_join_is_answered(rt: HostRuntime) -> Result<(), Fail> {
-    let input = concat!(
-        "image t 11111111-1111-1111-1111-111111111111 2\n",
-        "req 0000001e0044000000000007ffff000267010000000000000000ea60020274000100\n",
-    );
-    let reply = concat!(
-        "00000057", "00000007", "00", // size, correlation id, tags
-        "00000000", "0000", "00", // no throttling, no error, no text
-        "25", "30303030303030302d303030302d303030302d303030302d303030303030303030303031",
-        "00000001", "00001388", "01", // epoch 1, 5,000 ms, an assignment
-        "02", "11111111111111111111111111111111", "03", "00000000", "00000001", "00",
-        "00", "00", "\n", // tags
-    );
-    assert_runs(&rt, Subcommand::Reply, input.as_bytes(), 0, reply, "")
+fn lines_are_answered(rt: HostRuntime) -> Result<(), Fail> {
+    let subject = Subject {
+        runner: Runner {
+            alloc: rt.alloc(),
+            hasher: RandomState::new(&rt)?,
+            subcommand: Subcommand::Reply,
+        },
+        line: b"req 00000000",
+        printed: b"close",
+    };
+    let wrong = wrong_rows(&subject, TABLE)?;
+    assert_eq!(rt; wrong.as_str(), "");
+    Ok(())
 }
 
-/// A member that names `u`, `t`, `t` and `zz` gets what the image has, the topics by their ids' bytes. Its request
-/// has the correlation id 8, the rack `r1`, four names and the assignor `range`.
-#[test]
-fn topics_are_listed_by_their_ids(rt: HostRuntime) -> Result<(), Fail> {
-    let input = concat!(
-        "image t 22222222-2222-2222-2222-222222222222 3 u 11111111-1111-1111-1111-111111111111 1\n",
-        "req ", "0000002c", "0044", "0000", "00000008", "ffff", "00", // header
-        "0267", "01", "00000000", "00", "037231", "0000ea60", // group, member, epoch, instance, rack, timeout
-        "05", "0275", "0274", "0274", "037a7a", "0672616e6765", "01", "00\n", // names, assignor, owned, tags
-    );
-    let reply = concat!(
-        "00000071",
-        "00000008",
-        "00",
-        "00000000",
-        "0000",
-        "00",
-        "25",
-        "30303030303030302d303030302d303030302d303030302d303030303030303030303031",
-        "00000001",
-        "00001388",
-        "01",
-        "03",
-        "11111111111111111111111111111111",
-        "02",
-        "00000000",
-        "00",
-        "22222222222222222222222222222222",
-        "04",
-        "00000000",
-        "00000001",
-        "00000002",
-        "00",
-        "00",
-        "00",
-        "\n",
-    );
-    assert_runs(&rt, Subcommand::Reply, input.as_bytes(), 0, reply, "")
-}
+const TABLE: &[u8] = b"\
+# the first member of a group gets both partitions of the topic
+< image t 11111111-1111-1111-1111-111111111111 2
+| group `g`, no member id, epoch 0, no instance, no rack, 60,000 ms, topic `t`, no assignor, nothing owned, no tags
+< req 0000001e0044000000000007ffff000267010000000000000000ea60020274000100
+| size 87, correlation id 7; no throttling, no error, no text; the id of the first member, epoch 1, 5,000 ms; partitions
+| 0 and 1 of the one topic
+> 000000570000000700000000000000002530303030303030302d303030302d303030302d303030302d3030303030303030303030310000000100001388010211111111111111111111111111111111030000000000000001000000
+= 0
 
-/// An empty group id is an invalid request, 42, and an assignor `x` an unsupported one, 112. Hex of either case is
-/// read.
-#[test]
-fn refusals_are_answered(rt: HostRuntime) -> Result<(), Fail> {
-    let input = concat!(
-        "req ", "0000001D", "0044", "0000", "00000009", "FFFF", "00", "01", "01", "00000000", "00",
-        "00", "0000EA60", "020274", "00", "01", "00\n", "req ", "0000001f", "0044", "0000",
-        "0000000a", "ffff", "00", "0267", "01", "00000000", "00", "00", "0000ea60", "020274",
-        "0278", "01", "00",
-    );
-    let replies = concat!(
-        "00000026",
-        "00000009",
-        "00",
-        "00000000",
-        "002a",
-        "10",
-        "696e76616c69642072657175657374",
-        "00",
-        "00000000",
-        "00000000",
-        "ff",
-        "00",
-        "\n",
-        "00000027",
-        "0000000a",
-        "00",
-        "00000000",
-        "0070",
-        "11",
-        "756e6b6e6f776e2061737369676e6f72",
-        "00",
-        "00000000",
-        "00000000",
-        "ff",
-        "00",
-        "\n",
-    );
-    assert_runs(&rt, Subcommand::Reply, input.as_bytes(), 0, replies, "")
-}
+# a member gets what the image has of the topics that it names, the topics by the bytes of their ids
+< image t 22222222-2222-2222-2222-222222222222 3 u 11111111-1111-1111-1111-111111111111 1
+| correlation id 8, rack `r1`, topics `u`, `t`, `t` and `zz`, assignor `range`
+< req 0000002c0044000000000008ffff0002670100000000000372310000ea6005027502740274037a7a0672616e67650100
+| one partition of `u`, and three of `t`
+> 000000710000000800000000000000002530303030303030302d303030302d303030302d303030302d30303030303030303030303100000001000013880103111111111111111111111111111111110200000000002222222222222222222222222222222204000000000000000100000002000000
+= 0
 
-/// A frame whose size isn't that of a body, or not that of the bytes after it, and one with an unreadable body.
-#[test]
-fn other_frames_close(rt: HostRuntime) -> Result<(), Fail> {
-    let input = concat!(
-        "req 00\n",
-        "req 000000\n",
-        "req 00000000\n",
-        "req 0000000000\n",
-        "req 00000001\n",
-        "req 00000002ab\n",
-        "req 00000001abcd\n",
-        "req ffffffff\n",
-        "req ffffffffff\n",
-        "req 00000001ff\n",
-    );
-    let closes = concat!(
-        "close\n", "close\n", "close\n", "close\n", "close\n", "close\n", "close\n", "close\n",
-        "close\n", "close\n",
-    );
-    assert_runs(&rt, Subcommand::Reply, input.as_bytes(), 0, closes, "")
-}
+# a refused join is answered. Hex of either case is read, and the last line may lack its line feed
+| an empty group id: 42 and its text
+< req 0000001D0044000000000009FFFF0001010000000000000000EA60020274000100
+> 00000026000000090000000000002a10696e76616c69642072657175657374000000000000000000ff00
+| an assignor `x`: 112 and its text
++ req 0000001f004400000000000affff000267010000000000000000ea6002027402780100
+> 000000270000000a0000000000007011756e6b6e6f776e2061737369676e6f72000000000000000000ff00
+= 0
+
+# a size that no body has, or that is not the number of the bytes after it, and a body that cannot be read
+< req 00
+> close
+< req 000000
+> close
+< req 00000000
+> close
+< req 0000000000
+> close
+< req 00000001
+> close
+< req 00000002ab
+> close
+< req 00000001abcd
+> close
+< req ffffffff
+> close
+< req ffffffffff
+> close
+< req 00000001ff
+> close
+= 0
+
+# no lines
+= 0
+
+# the least moment
++ now 0
+= 0
+
+# the greatest moment
+< now 18446744073709551615
+= 0
+
+# the least and the greatest stamp
+< stamp 0 0
+< stamp 18446744073709551615 18446744073709551615
+= 0
+
+# no topics
++ image
+= 0
+
+# images one after the other
+< image
+< image t 11111111-1111-1111-1111-111111111111 1
+< image
+= 0
+
+# an id without hyphens, and the most partitions
+< image t 11111111111111111111111111111111 100000
+= 0
+
+# ids of either case
+< image t AAAAAAAA-AAAA-AAAA-AAAA-AAAAAAAAAAAA 1 u bbbbbbbb-bbbb-bbbb-bbbb-bbbbbbbbbbbb 1
+= 0
+
+# an id as a URN
+< image t urn:uuid:11111111-1111-1111-1111-111111111111 1
+= 0
+
+# an id in braces
+< image t {11111111-1111-1111-1111-111111111111} 1
+= 0
+
+# a name of two hyphens
+< image -- 11111111-1111-1111-1111-111111111111 1
+= 0
+
+-
+- \x20
+- tick
+- tick 1
+- NOW 1
+- now
+- now\x20
+-  now 1
+- now 1\x20
+- now  1
+- now 1 2
+- now 01
+- now 00
+- now +1
+- now -1
+- now 1.0
+- now x
+- now 18446744073709551616
+- now 1\r
+- now 1\xff
+- \xff
+- stamp 1
+- stamp 1 2 3
+- stamp 1 -2
+- stamp 01 2
+- req
+- req 0
+- req 000
+- req 0g
+- req 00 00
+
+- image t
+- image t 11111111-1111-1111-1111-111111111111
+- image t 11111111-1111-1111-1111-111111111111 1 u
+- image t 11111111-1111-1111-1111-11111111111 1
+- image t x 1
+- image t 11111111-1111-1111-1111-111111111111 01
+- image t 11111111-1111-1111-1111-111111111111 -1
+- image t 11111111-1111-1111-1111-111111111111 2147483648
+- image t 11111111-1111-1111-1111-111111111111 0
+- image t 11111111-1111-1111-1111-111111111111 100001
+- image - 11111111-1111-1111-1111-111111111111 1
+- image a,b 11111111-1111-1111-1111-111111111111 1
+- image a:b 11111111-1111-1111-1111-111111111111 1
+- image t 11111111-1111-1111-1111-111111111111 1 t 22222222-2222-2222-2222-222222222222 1
+- image t 11111111-1111-1111-1111-111111111111 1 u 11111111-1111-1111-1111-111111111111 1
+";

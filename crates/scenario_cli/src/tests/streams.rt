@@ -1,187 +1,335 @@
-//! Readers and writers that fail, inputs in parts, and inputs that are too long.
+//! Readers and writers that fail, inputs in parts, and what is long.
 
-use super::{ROOM, assert_runs, attempt};
+ghost use Rattle.std.specs.Prelude.{◌≡◌, ◌≤◌, IfOk};
+
+use super::{ROOM, Ran, Runner};
 use crate::command_line::Subcommand;
-use crate::frames::frame_lines;
-use crate::reply::reply_lines;
+use std::alloc::{AllocError, Global};
 use std::collections::hash_map::RandomState;
 use std::io;
-use std::io::{Cursor, Error, ErrorKind, Read};
-use std::process::Abort;
+use std::io::{Error, ErrorKind, Read};
 use std::random::RandomSource;
 use std::test::Fail;
 
-/// Each subcommand that reads lines, with a line and what it prints for it.
-const LINES: [(Subcommand, &str, &str); 2] = [
-    (Subcommand::Reply, "req 00000000\n", "close\n"),
-    (Subcommand::Frame, "00000000\n", "fault 1 1\n"),
-];
+/// Parts of a text: each so many times.
+type Parts = &'static [(usize, &'static [u8])];
 
-/// A reader whose every read fails.
-#[derive(Drop)]
-struct Broken;
-
-impl Read for Broken {
-    fn read(&mut self, _buf: &mut [u8]) -> io::Result<usize> {
-        Err(Error::from(ErrorKind::BrokenPipe))
-    }
+/// A run over a stream, and what comes of it.
+struct Row {
+    name: &'static str,
+    subcommand: Subcommand,
+    input: Parts,
+    source: Source,
+    room: usize,
+    status: u8,
+    printed: Parts,
+    told: &'static str,
 }
 
+/// How a reader gives its bytes, and what comes behind them.
+#[derive(Clone, Copy, PartialEq, Eq)]
+enum Source {
+    /// All at once, and then the end.
+    Whole,
+    /// One a read, and an interruption before each.
+    Drops,
+    /// All at once, and then an error.
+    Breaks,
+    /// All at once, and then zeros without end.
+    Endless,
+}
+
+/// A row that is done with success over all of its input at once.
+const DONE: Row = Row {
+    name: "",
+    subcommand: Subcommand::Frame,
+    input: &[],
+    source: Source::Whole,
+    room: ROOM,
+    status: 0,
+    printed: &[],
+    told: "",
+};
+
+static STREAMS: [Row; 11] = [
+    Row {
+        name: "a read that fails ends the run before any line",
+        subcommand: Subcommand::Reply,
+        input: &[(1, b"req 00000000\n")],
+        source: Source::Breaks,
+        status: 1,
+        told: "reading the input: broken pipe\n",
+        ..DONE
+    },
+    Row {
+        name: "a read that fails ends the run before any frame",
+        input: &[(1, b"00000000\n")],
+        source: Source::Breaks,
+        status: 1,
+        told: "reading the input: broken pipe\n",
+        ..DONE
+    },
+    Row {
+        name: "lines may come in parts",
+        subcommand: Subcommand::Reply,
+        input: &[(2, b"req 00000000\n")],
+        source: Source::Drops,
+        printed: &[(2, b"close\n")],
+        ..DONE
+    },
+    Row {
+        name: "frames may come in parts",
+        input: &[(2, b"00000000\n")],
+        source: Source::Drops,
+        printed: &[(2, b"fault 1 1\n")],
+        ..DONE
+    },
+    Row {
+        name: "lines without end are not begun",
+        subcommand: Subcommand::Reply,
+        input: &[(1, b"req 00000000\n")],
+        source: Source::Endless,
+        status: 1,
+        told: "the input is longer than 67108864 bytes\n",
+        ..DONE
+    },
+    Row {
+        name: "frames without end are not begun",
+        input: &[(1, b"00000000\n")],
+        source: Source::Endless,
+        status: 1,
+        told: "the input is longer than 67108864 bytes\n",
+        ..DONE
+    },
+    Row {
+        name: "a write that fails ends the run",
+        subcommand: Subcommand::Reply,
+        input: &[(2, b"req 00000000\n")],
+        room: 10,
+        status: 1,
+        printed: &[(1, b"close\nclos")],
+        told: "writing the output: write zero\n",
+        ..DONE
+    },
+    Row {
+        name: "a write that fails before a bad line ends the run",
+        subcommand: Subcommand::Reply,
+        input: &[(2, b"req 00000000\n"), (1, b"tick\n")],
+        room: 10,
+        status: 1,
+        printed: &[(1, b"close\nclos")],
+        told: "writing the output: write zero\n",
+        ..DONE
+    },
+    Row {
+        name: "a write that fails between two frames ends the run",
+        input: &[(2, b"00000000\n")],
+        room: 10,
+        status: 1,
+        printed: &[(1, b"fault 1 1\n")],
+        told: "writing the output: write zero\n",
+        ..DONE
+    },
+    Row {
+        name: "a write that fails at a frame before a bad line ends the run",
+        input: &[(1, b"00\n00000000\ntick\n")],
+        room: 10,
+        status: 1,
+        printed: &[(1, b"fault size")],
+        told: "writing the output: write zero\n",
+        ..DONE
+    },
+    Row {
+        name: "many lines are written in pieces",
+        input: &[(7_000, b"00000000\n")],
+        room: 69_999,
+        status: 1,
+        printed: &[(6_999, b"fault 1 1\n"), (1, b"fault 1 1")],
+        told: "writing the output: write zero\n",
+        ..DONE
+    },
+];
+
+static LONG: [Row; 3] = [
+    Row {
+        name: "a name has at most 32,767 bytes",
+        subcommand: Subcommand::Reply,
+        input: &[
+            (1, b"image "),
+            (32_767, b"n"),
+            (1, b" 11111111-1111-1111-1111-111111111111 1"),
+        ],
+        ..DONE
+    },
+    Row {
+        name: "a name of 32,768 bytes is bad",
+        subcommand: Subcommand::Reply,
+        input: &[
+            (1, b"req 00000000\nimage "),
+            (32_768, b"n"),
+            (
+                1,
+                b" 11111111-1111-1111-1111-111111111111 1\nreq 00000000\n",
+            ),
+        ],
+        status: 2,
+        printed: &[(1, b"close\n")],
+        told: "bad line 2\n",
+        ..DONE
+    },
+    // Over the length that a request's body may have, 8,388,608 bytes: the header has one tagged field of 8,388,574 bytes.
+    Row {
+        name: "a long body is printed",
+        input: &[
+            (1, b"008000010044000000000007ffff0100deffff03"),
+            (8_388_574, b"00"),
+            (1, b"0267010000000000000000ea60020274000100"),
+        ],
+        printed: &[(
+            1,
+            b"heartbeat correlation 7 client null\n\
+            group x67\n\
+            member x\n\
+            epoch 0\n\
+            instance null\n\
+            rack null\n\
+            timeout 60000\n\
+            topics x74\n\
+            assignor null\n\
+            owned\n\
+            tags 1\n",
+        )],
+        ..DONE
+    },
+];
+
 #[test]
-fn a_read_that_fails_ends_the_run_before_any_line(rt: HostRuntime) -> Result<(), Fail> {
-    for (subcommand, line, _) in LINES {
-        let ran = ran!(&rt, subcommand, Cursor::new(line.as_bytes()).chain(Broken));
-        assert_eq!(rt;
-            ran.told.as_slice(),
-            b"reading the input: broken pipe\n".as_slice()
-        );
-        assert_eq!(rt; ran.printed.as_slice(), b"".as_slice());
-        assert_eq!(rt; ran.status, 1);
+fn streams_may_fail(rt: HostRuntime) -> Result<(), Fail> {
+    let wrong = wrong_rows(&rt, &STREAMS)?;
+    assert_eq!(rt; wrong.as_str(), "");
+    Ok(())
+}
+
+/// Apart from the other rows, since these take some time where the code isn't optimized.
+#[test]
+fn long_lines_are_done(rt: HostRuntime) -> Result<(), Fail> {
+    let wrong = wrong_rows(&rt, &LONG)?;
+    assert_eq!(rt; wrong.as_str(), "");
+    Ok(())
+}
+
+/// The names of the rows of which something else comes.
+fn wrong_rows(rt: &(impl AllocGlobal + RandomSource), rows: &[Row]) -> io::Result<String> {
+    let hasher = RandomState::new(rt)?;
+    let mut wrong = String::new(rt.alloc());
+    for row in rows {
+        look(rt.alloc(), hasher, row, &mut wrong)?;
+    }
+    Ok(wrong)
+}
+
+/// Tells a row of which something else comes. Where memory was refused, it is gone through once more.
+fn look(
+    alloc: Global,
+    hasher: RandomState,
+    row: &Row,
+    wrong: &mut String,
+) -> Result<(), AllocError> {
+    let runner = Runner {
+        alloc,
+        hasher,
+        subcommand: row.subcommand,
+    };
+    if !row.is_right(&runner).or_else(|_| row.is_right(&runner))? {
+        writeln!(wrong, "{}", row.name)?;
     }
     Ok(())
 }
 
-/// A reader that gives one byte a read, and is interrupted before each.
-#[derive(Drop)]
-struct Drops<'a> {
-    rest: &'a [u8],
-    is_next: bool,
-}
-
-impl Drops<'_> {
-    fn of(text: &str) -> Drops<'_> {
-        Drops {
-            rest: text.as_bytes(),
-            is_next: true,
+impl Row {
+    /// Whether what comes of the row is what it says. A run that is out of memory is to have printed what comes first,
+    /// and is made once more.
+    fn is_right(&self, runner: &Runner) -> Result<bool, AllocError> {
+        let input = text_of(runner.alloc, self.input)?;
+        let printed = text_of(runner.alloc, self.printed)?;
+        let mut ran = self.run(runner, input.as_slice())?;
+        let mut is_right = true;
+        if ran.is_out_of_memory() {
+            is_right = printed.starts_with(ran.printed.as_slice());
+            ran = self.run(runner, input.as_slice())?;
         }
+        Ok(is_right && ran.is(self.status, printed.as_slice(), self.told.as_bytes()))
+    }
+
+    fn run(&self, runner: &Runner, input: &[u8]) -> Result<Ran, AllocError> {
+        let mut stream = Stream {
+            rest: input,
+            drops: input.len() / 2,
+            source: self.source,
+            is_next: true,
+        };
+        runner.run(&mut stream, self.room)
     }
 }
 
-impl Read for Drops<'_> {
-    fn read(&mut self, buf: &mut [u8]) -> io::Result<usize> {
+/// The text of some parts.
+fn text_of(alloc: Global, parts: &[(usize, &[u8])]) -> Result<Vec<u8>, AllocError> {
+    let mut text = Vec::new(alloc);
+    for (times, part) in parts {
+        for _ in 0..*times {
+            text.extend_from_slice(part)?;
+        }
+    }
+    Ok(text)
+}
+
+/// A reader of bytes, as a row wants it.
+#[derive(Drop)]
+struct Stream<'a> {
+    rest: &'a [u8],
+    /// How many bytes come one by one, where some do.
+    drops: usize,
+    source: Source,
+    is_next: bool,
+}
+
+impl Stream<'_> {
+    /// What comes behind the last byte.
+    fn end(&self, room: usize) -> io::Result<usize>
+        ensures { IfOk result (λ count. count ≤ room) }
+    {
+        match self.source {
+            Source::Breaks => Err(Error::from(ErrorKind::BrokenPipe)),
+            Source::Endless => Ok(room),
+            Source::Whole | Source::Drops => Ok(0),
+        }
+    }
+
+    /// The most bytes that the next read gives.
+    fn next_most(&mut self) -> io::Result<usize>
+        ensures { self.new.rest ≡ self.old.rest }
+    {
+        if self.source != Source::Drops || self.drops == 0 {
+            return Ok(usize::MAX);
+        }
         self.is_next = !self.is_next;
         if self.is_next {
             return Err(Error::from(ErrorKind::Interrupted));
         }
-        let (Some((first, rest)), Some(place)) = (self.rest.split_first(), buf.first_mut()) else {
-            return Ok(0);
-        };
-        *place = *first;
-        self.rest = rest;
+        self.drops -= 1;
         Ok(1)
     }
 }
 
-#[test]
-fn an_input_may_come_in_parts(rt: HostRuntime) -> Result<(), Fail> {
-    for (subcommand, line, printed) in LINES {
-        let ran = ran!(
-            &rt,
-            subcommand,
-            Drops::of(line).chain(Cursor::new(line.as_bytes()))
-        );
-        assert_eq!(rt; ran.told.as_slice(), b"".as_slice());
-        assert_eq!(rt; ran.status, 0);
-        assert_eq!(rt; ran.printed.len(), 2 * printed.len());
-        assert!(rt; ran.printed.starts_with(printed.as_bytes()));
-        assert!(rt; ran.printed.ends_with(printed.as_bytes()));
-    }
-    Ok(())
-}
-
-#[test]
-fn a_write_that_fails_ends_the_run(rt: HostRuntime) -> Result<(), Fail> {
-    for (subcommand, input, written) in [
-        (
-            Subcommand::Reply,
-            b"req 00000000\nreq 00000000\n".as_slice(),
-            b"close\nclos",
-        ),
-        (
-            Subcommand::Reply,
-            b"req 00000000\nreq 00000000\ntick\n",
-            b"close\nclos",
-        ),
-        (Subcommand::Frame, b"00000000\n00000000\n", b"fault 1 1\n"),
-        (Subcommand::Frame, b"00\n00000000\ntick\n", b"fault size"),
-    ] {
-        let mut small = [0; 10];
-        let told = into_small(&rt, subcommand, input, &mut small)?;
-        assert_eq!(rt;
-            told.as_slice(),
-            b"writing the output: write zero\n".as_slice()
-        );
-        assert_eq!(rt; small, *written);
-    }
-    Ok(())
-}
-
-/// What is told where the output goes into a small buffer. The run ends with the status 1.
-fn into_small(
-    rt: &(impl Abort + AllocGlobal + Eprint + RandomSource),
-    subcommand: Subcommand,
-    input: &[u8],
-    small: &mut [u8],
-) -> Result<Vec<u8>, Fail> {
-    let alloc = rt.alloc();
-    for _ in 0..2 {
-        let Ok(mut told) = Vec::with_capacity(alloc, ROOM) else {
-            eprintln!(rt; "growth refused: the room of the writers")?;
-            continue;
-        };
-        let status = match subcommand {
-            Subcommand::Reply => {
-                let hasher = RandomState::new(rt)?;
-                reply_lines(alloc, hasher, &mut &*input, &mut &mut *small, &mut told)
-            }
-            Subcommand::Frame => frame_lines(alloc, &mut &*input, &mut &mut *small, &mut told),
-        };
-        assert_eq!(rt; status, 1);
-        if told.as_slice() != b"out of memory\n".as_slice() {
-            return Ok(told);
-        }
-        eprintln!(rt; "growth refused: in the run")?;
-    }
-    panic!(rt; "two growths were refused")
-}
-
-/// A reader of zeros without end: it leaves the buffer as it is.
-#[derive(Drop)]
-struct Endless;
-
-impl Read for Endless {
+impl Read for Stream<'_> {
     fn read(&mut self, buf: &mut [u8]) -> io::Result<usize> {
-        Ok(buf.len())
+        if self.rest.is_empty() {
+            return self.end(buf.len());
+        }
+        let count = self.next_most()?.min(buf.len()).min(self.rest.len());
+        let (now, later) = self.rest.split_at(count);
+        buf[..count].copy_from_slice(now);
+        self.rest = later;
+        Ok(count)
     }
-}
-
-#[test]
-fn an_input_that_is_too_long_is_not_begun(rt: HostRuntime) -> Result<(), Fail> {
-    for (subcommand, line, _) in LINES {
-        let ran = ran!(&rt, subcommand, Cursor::new(line.as_bytes()).chain(Endless));
-        assert_eq!(rt;
-            ran.told.as_slice(),
-            b"the input is longer than 67108864 bytes\n".as_slice()
-        );
-        assert_eq!(rt; ran.printed.as_slice(), b"".as_slice());
-        assert_eq!(rt; ran.status, 1);
-    }
-    Ok(())
-}
-
-#[test]
-fn many_lines_are_written_in_pieces(rt: HostRuntime) -> Result<(), Fail> {
-    let alloc = rt.alloc();
-    let room = 70_000;
-    let mut input = Vec::with_capacity(alloc, room).or_else(|_| Vec::with_capacity(alloc, room))?;
-    for _ in 0..7_000 {
-        input.extend_from_slice(b"00000000\n")?;
-    }
-    assert_eq!(rt; input.len(), 63_000);
-    let told = into_small(&rt, Subcommand::Frame, input.as_slice(), &mut [0; 69_999])?;
-    assert_eq!(rt;
-        told.as_slice(),
-        b"writing the output: write zero\n".as_slice()
-    );
-    Ok(())
 }

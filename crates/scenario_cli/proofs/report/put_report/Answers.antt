@@ -19,7 +19,7 @@ returns-in-Err c =
     (λ put other.
     fault_put c.in-Some.body.now c.args.bytes.now c.args.page.now c.put_fault.new.page c.in-Err.fault c.in-Some.ensures.some
     (fault_is c.in-Some.body.now c.read_request.result c.in-Err.fault c.in-Err.is other
-    c.read_request.ensures.unknown_api c.read_request.ensures.unknown_version c.read_request.ensures.left_over
-    c.read_request.ensures.left_over_or_no_memory c.in-Err.ensures.only)
+    c.read_request.ensures.unknown_api c.read_request.ensures.unknown_version c.read_request.ensures.field
+    c.read_request.ensures.left_over)
     put)
     c.put_fault.ensures.line c.put_fault.ensures.read

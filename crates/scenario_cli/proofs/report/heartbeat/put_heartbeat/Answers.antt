@@ -1,29 +1,13 @@
-use Rattle.std.proofs.Common.{rules, ◌≡◌, [], ◌∷◌, ◌++◌, codes, ap, ◌∙◌, to_z, of_z, w32}
 use Rattle.std.proofs.lemmas.Result.{on_ok_weaker}
-use Rattle.std.specs.Fmt.{signed_decimal}
 use Rattle.kip_msgs.specs.Views.{request_header_value, heartbeat_request_value}
-use Rattle.scenario_cli.specs.Lines.{fed}
-use Rattle.scenario_cli.specs.Reports.{text_word, nullable_word, nullable_words, topic_word, line, head_line}
-use Rattle.scenario_cli.proofs.Pages.{ten_lines_put}
+use Rattle.scenario_cli.specs.Reports.{member_lines, subscription_lines}
+use Rattle.scenario_cli.proofs.Pages.{lines_put}
 use Rattle.scenario_cli.proofs.report.heartbeat.put_heartbeat.Goals as goal
 
 pub returns : goal.returns
 returns c =
     let v = heartbeat_request_value c.args.message.now in
-    let epoch : to_z w32 (of_z w32 v.member_epoch) ≡ v.member_epoch = search rules in
-    let timeout : to_z w32 (of_z w32 v.rebalance_timeout_ms) ≡ v.rebalance_timeout_ms = search rules in
-    on_ok_weaker c.put_owned.result
-    (ten_lines_put c.args.page.now c.put_head.new.page c.text.new.self c.text-2.new.self c.number.new.self c.nullable.new.self c.nullable-2.new.self
-    c.number-2.new.self c.put_topics.new.page c.nullable-3.new.self c.put_owned.new.page
-    (head_line (codes "heartbeat") (request_header_value c.args.header.now)) (line (codes "group") (text_word v.group_id ∷ []))
-    (line (codes "member") (text_word v.member_id ∷ [])) (line (codes "epoch") (signed_decimal v.member_epoch ∷ []))
-    (line (codes "instance") (nullable_word v.instance_id ∷ [])) (line (codes "rack") (nullable_word v.rack_id ∷ []))
-    (line (codes "timeout") (signed_decimal v.rebalance_timeout_ms ∷ []))
-    (line (codes "topics") (nullable_words text_word v.subscribed_topic_names))
-    (line (codes "assignor") (nullable_word v.server_assignor ∷ [])) (line (codes "owned") (nullable_words topic_word v.topic_partitions))
-    c.in_ok-put_head.ensures c.in_ok-text.ensures c.in_ok-text-2.ensures
-    (c.in_ok-number.ensures ∙ ap (λ z. c.text-2.new.self ++ fed (line (codes "epoch") (signed_decimal z ∷ []))) epoch)
-    c.in_ok-nullable.ensures c.in_ok-nullable-2.ensures
-    (c.in_ok-number-2.ensures ∙ ap (λ z. c.nullable-2.new.self ++ fed (line (codes "timeout") (signed_decimal z ∷ []))) timeout)
-    c.in_ok-put_topics.ensures c.in_ok-nullable-3.ensures)
-    c.put_owned.ensures
+    on_ok_weaker c.put_subscription.result
+    (lines_put c.args.page.now c.put_member.new.page c.put_subscription.new.page
+    (member_lines (request_header_value c.args.header.now) v) (subscription_lines v) c.in_ok-put_member.ensures)
+    c.put_subscription.ensures

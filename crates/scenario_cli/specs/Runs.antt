@@ -1,0 +1,114 @@
+-- What a run over lines comes to: which lines it does, what it has written when it ends, and with which status.
+use Rattle.std.specs.Prelude.{◌≡◌, ◌⊎◌, ℕ, ◌+◌, List, [], ◌∷◌, ◌++◌, length, Option, Some, None, IfSome}
+use Rattle.std.specs.Io.KnownBytes.{Appends, Keeps}
+use Rattle.scenario_cli.specs.declared.fault.Fault.{Fault}
+use Rattle.scenario_cli.specs.declared.fault.Fault.TheVariants.{BadLine, Read, TooLong, Write, NoMemory}
+use Rattle.scenario_cli.specs.Inputs.{IsTooLong}
+use Rattle.scenario_cli.specs.Lines.{lines_of}
+use Rattle.scenario_cli.specs.Statuses.{status_of}
+use Rattle.scenario_cli.specs.Writing.{Grows, WritesPart}
+
+-- What a line does: the state of its subcommand before it, the line, the state after it, and the text that it prints.
+abbrev pub Effect : Type 0 → Type 1
+Effect State = State → List ℕ → State → List ℕ → Type 0
+
+-- a text that satisfies P is printed behind what was
+pub record Prints (P : List ℕ → Type 0) (before after : List ℕ) : Type 0 where
+  pub text : List ℕ
+  pub is_text : P text
+  pub printed : after ≡ before ++ text
+
+-- lines are done one after the other, and together they print the text
+abbrev pub AreDone : {State : Type 0} → Effect State → List (List ℕ) → State → State → List ℕ → Type 0
+AreDone does [] old new text = (new ≡ old) × (text ≡ [])
+AreDone {State} does (line ∷ lines) old new text =
+    (between : State) × (first : List ℕ) × (others : List ℕ)
+    × does old line between first × AreDone does lines between new others × (text ≡ first ++ others)
+
+-- lines are done, and their text is written
+pub record WritesLines {State : Type 0} (does : Effect State) (lines : List (List ℕ)) (old : State) (before after : Option (List ℕ)) : Type 0 where
+  pub new : State
+  pub text : List ℕ
+  pub done : AreDone does lines old new text
+  pub written : Appends before after text
+
+-- lines are done, and of their text the first bytes are written
+pub record WritesPartOfLines {State : Type 0} (does : Effect State) (lines : List (List ℕ)) (old : State) (before after : Option (List ℕ)) : Type 0 where
+  pub new : State
+  pub text : List ℕ
+  pub done : AreDone does lines old new text
+  pub written : WritesPart before after text
+
+-- a fault that comes before any line: of the input, or of memory
+abbrev pub IsOfReading : Fault → Type 0
+IsOfReading (BadLine number) = ⊥
+IsOfReading (Read error) = Unit {0}
+IsOfReading TooLong = Unit {0}
+IsOfReading (Write error) = ⊥
+IsOfReading NoMemory = Unit {0}
+
+-- a fault of the output
+abbrev pub IsWrite : Fault → Type 0
+IsWrite (BadLine number) = ⊥
+IsWrite (Read error) = ⊥
+IsWrite TooLong = ⊥
+IsWrite (Write error) = Unit {0}
+IsWrite NoMemory = ⊥
+
+-- How a run over lines ends: with no fault where all are done, and a fault of reading comes before any line. At a bad
+-- line, and where memory is out, the text of the lines before it is written.
+abbrev pub Ends : {State : Type 0} → Effect State → (List ℕ → Type 0) → List (List ℕ) → State → Option (List ℕ) → Option (List ℕ) → Option Fault → Type 0
+Ends does takes lines old before after None = WritesLines does lines old before after
+Ends does takes lines old before after (Some (BadLine number)) =
+    (first : List (List ℕ)) × (bad : List ℕ) × (left : List (List ℕ))
+    × (lines ≡ first ++ bad ∷ left) × (number ≡ length first + 1) × (¬ takes bad) × WritesLines does first old before after
+Ends does takes lines old before after (Some (Read error)) = Keeps before after
+Ends does takes lines old before after (Some TooLong) = Keeps before after
+Ends does takes lines old before after (Some (Write error)) =
+    (first : List (List ℕ)) × (left : List (List ℕ)) × (lines ≡ first ++ left) × WritesPartOfLines does first old before after
+Ends does takes lines old before after (Some NoMemory) =
+    (first : List (List ℕ)) × (left : List (List ℕ)) × (lines ≡ first ++ left) × WritesLines does first old before after
+
+-- the same of the lines of an input, whose bytes a reader may know
+pub record EndsOver {State : Type 0} (does : Effect State) (takes : List ℕ → Type 0) (old : State) (known before after : Option (List ℕ)) (fault : Option Fault) : Type 0 where
+  pub input : List ℕ
+  pub is_input : IfSome known (λ bytes. input ≡ bytes)
+  pub ends : Ends does takes (lines_of input) old before after fault
+
+-- the status is that of the fault, or 1 where memory was out for the fault's text
+abbrev pub IsStatus : Option Fault → ℕ → Type 0
+IsStatus None status = status ≡ 0
+IsStatus (Some fault) status = (status ≡ status_of fault) ⊎ (status ≡ 1)
+
+-- the bytes that a run may read, and those that its two outputs hold before and after it, where they are known
+pub record Streams : Type 0 where
+  pub input : Option (List ℕ)
+  pub output_before : Option (List ℕ)
+  pub output_after : Option (List ℕ)
+  pub errors_before : Option (List ℕ)
+  pub errors_after : Option (List ℕ)
+
+-- A run of a subcommand, whose lines have an effect, and which takes some lines. An input that is too long isn't begun,
+-- and nothing is told of a run without a fault.
+pub record RunsLines {State : Type 0} (does : Effect State) (takes : List ℕ → Type 0) (old : State) (s : Streams) (status : ℕ) : Type 0 where
+  pub fault : Option Fault
+  pub ends : EndsOver does takes old s.input s.output_before s.output_after fault
+  pub is_status : IsStatus fault status
+  pub too_long : IsTooLong s.input → (status ≡ 1) × Keeps s.output_before s.output_after
+  pub told : Grows s.errors_before s.errors_after
+  pub quiet : status ≡ 0 → Keeps s.errors_before s.errors_after
+
+-- How one line ends in a run, by the text that is printed and not yet written before and after it: a line that is done
+-- is printed. What is held is written before the run ends at the line.
+abbrev pub LineEnds : {State : Type 0} → Effect State → (List ℕ → Type 0) → State → List ℕ → ℕ → State → List ℕ → List ℕ → Option (List ℕ) → Option (List ℕ) → Option Fault → Type 0
+LineEnds does takes old line number new held held_after before after None =
+    (text : List ℕ) × (written : List ℕ)
+    × does old line new text × Appends before after written × (held ++ text ≡ written ++ held_after)
+LineEnds does takes old line number new held held_after before after (Some (BadLine bad)) =
+    (bad ≡ number) × (¬ takes line) × Appends before after held
+LineEnds does takes old line number new held held_after before after (Some (Read error)) = ⊥
+LineEnds does takes old line number new held held_after before after (Some TooLong) = ⊥
+LineEnds {State} does takes old line number new held held_after before after (Some (Write error)) =
+    WritesPart before after held
+    ⊎ ((between : State) × (text : List ℕ) × does old line between text × WritesPart before after (held ++ text))
+LineEnds does takes old line number new held held_after before after (Some NoMemory) = Appends before after held
