@@ -2,6 +2,7 @@
 ghost use Rattle.std.specs.Prelude.{◌≡◌};
 ghost use Rattle.scenario_cli.specs.declared.fault.LineFault.TheVariants.{NoMemory};
 
+use crate::input::LONGEST_INPUT;
 use std::alloc::{AllocError, AllocFailed};
 use std::io;
 use thiserror::Error;
@@ -23,7 +24,7 @@ pub enum Fault {
     BadLine(usize),
     #[error("reading the input: {0}")]
     Read(io::Error),
-    #[error("the input is longer than 67108864 bytes")]
+    #[error("the input is longer than {} bytes", LONGEST_INPUT)]
     TooLong,
     #[error("writing the output: {0}")]
     Write(io::Error),

@@ -1,6 +1,6 @@
 //! The input, read whole.
 ghost use Rattle.std.specs.Prelude.{◌≡◌, ◌<◌, ◌≤◌, length, vec_len, IfOk, OnOk, IfErr, IsErr, IfSome};
-ghost use Rattle.scenario_cli.specs.Inputs.{IsTooLong};
+ghost use Rattle.scenario_cli.specs.Inputs.{IsLong, IsTooLong};
 ghost use Rattle.scenario_cli.specs.Runs.{IsOfReading};
 
 use crate::fault::Fault;
@@ -16,7 +16,7 @@ pub fn read_whole<R: Read>(alloc: Global, reader: &mut R) -> Result<Vec<u8>, Fau
     ensures short { IfOk result (λ input. vec_len input ≤ LONGEST_INPUT) }
     ensures refused { IsTooLong (R.remaining reader.old) → IsErr result }
     ensures failed { IfErr result IsOfReading }
-    ensures too_long { result ≡ Err Fault.TooLong → IfSome (R.remaining reader.old) (λ bytes. LONGEST_INPUT < length bytes) }
+    ensures too_long { result ≡ Err Fault.TooLong → IfSome (R.remaining reader.old) IsLong }
 {
     let mut input = Vec::new(alloc);
     let limit = LONGEST_INPUT as u64 + 1;
