@@ -101,49 +101,72 @@ abbrev settled_cell : Cell → Bool → Bool → Option Cell → Option Cell
 settled_cell new mine wanted None = cond wanted (Some new) None
 settled_cell new mine wanted (Some c) = cond wanted (Some c) (cond mine None (Some c))
 
-module _ (ms us ws : MemberTable) (cells after : Cells) (m : Text) (epoch n : ℕ) (number : Option ℕ) (target next : Partitions)
-    (consistent : AreConsistent ms cells) (before : IsNumberOf ms m number) (kept : KeepsMembers ms us) (parts : KeepsParts ms us) (of_m : IsNumberOf us m (Some n))
-    (is_next : IsNext cells number target next) (sets : SetsParts us ws n next)
-    (changed : (p : Partition) → finite.get after p ≡ cond (has next p) (cond (is_some (finite.get cells p)) (finite.get cells p) (Some (record { holder = n; since = epoch }))) (cond (has (parts_of us n) p) None (finite.get cells p))) where
-  abbrev new_cell : Cell
-  new_cell = record { holder = n; since = epoch }
+-- the tables before a settling, the member table once the member has its number, and the tables after it
+pub record Settling : Type 0 where
+  pub before : MemberTable
+  pub numbered : MemberTable
+  pub after : MemberTable
+  pub cells_before : Cells
+  pub cells_after : Cells
+  pub member : Text
+  pub number : ℕ
+  pub target : Partitions
+  pub next : Partitions
+  pub epoch : ℕ
 
-  consistent_us : AreConsistent us cells
-  consistent_us = AreConsistent-kept ms us cells consistent kept parts
+-- what each step of it does
+pub record IsSettling (s : Settling) : Type 0 where
+  pub consistent : AreConsistent s.before s.cells_before
+  pub found : Option ℕ
+  pub of_member : IsNumberOf s.before s.member found
+  pub is_next : IsNext s.cells_before found s.target s.next
+  pub kept : KeepsMembers s.before s.numbered
+  pub parts : KeepsParts s.before s.numbered
+  pub of_number : IsNumberOf s.numbered s.member (Some s.number)
+  pub changed : (p : Partition) → finite.get s.cells_after p
+      ≡ cond (has s.next p) (cond (is_some (finite.get s.cells_before p)) (finite.get s.cells_before p) (Some (record { holder = s.number; since = s.epoch }))) (cond (has (parts_of s.numbered s.number) p) None (finite.get s.cells_before p))
+  pub sets : SetsParts s.numbered s.after s.number s.next
+
+module _ (s : Settling) (facts : IsSettling s) where
+  abbrev new_cell : Cell
+  new_cell = record { holder = s.number; since = s.epoch }
+
+  consistent_numbered : AreConsistent s.numbered s.cells_before
+  consistent_numbered = AreConsistent-kept s.before s.numbered s.cells_before facts.consistent facts.kept facts.parts
 
   -- a cell is the member's by its number as by the id
-  mine : (p : Partition) (c : Cell) → finite.get cells p ≡ Some c → eq_by_cmp text_cmp m (id_of ms c.holder) ≡ (c.holder == n)
+  mine : (p : Partition) (c : Cell) → finite.get s.cells_before p ≡ Some c → eq_by_cmp text_cmp s.member (id_of s.before c.holder) ≡ (c.holder == s.number)
   mine p c is =
-      ap (eq_by_cmp text_cmp m) (sym (same_holder ms us cells consistent kept parts p c is))
-      ∙ named-known us m c.holder (known us cells consistent_us p c is)
-      ∙ of_m c.holder
+      ap (eq_by_cmp text_cmp s.member) (sym (same_holder s.before s.numbered s.cells_before facts.consistent facts.kept facts.parts p c is))
+      ∙ named-known s.numbered s.member c.holder (known s.numbered s.cells_before consistent_numbered p c is)
+      ∙ facts.of_number c.holder
 
-  was_mine : (p : Partition) (c : Cell) → finite.get cells p ≡ Some c → is_number number c.holder ≡ (c.holder == n)
-  was_mine p c is = sym (before c.holder) ∙ sym (named-known ms m c.holder (known ms cells consistent p c is)) ∙ mine p c is
+  was_mine : (p : Partition) (c : Cell) → finite.get s.cells_before p ≡ Some c → is_number facts.found c.holder ≡ (c.holder == s.number)
+  was_mine p c is = sym (facts.of_member c.holder) ∙ sym (named-known s.before s.member c.holder (known s.before s.cells_before facts.consistent p c is)) ∙ mine p c is
 
-  next_at_none : (p : Partition) → finite.get cells p ≡ None → has next p ≡ has target p
-  next_at_none p is = is_next p ∙ ap (λ o. has target p && option_map_or (λ c. is_number number c.holder) o true) is ∙ and_true (has target p)
+  next_at_none : (p : Partition) → finite.get s.cells_before p ≡ None → has s.next p ≡ has s.target p
+  next_at_none p is = facts.is_next p ∙ ap (λ o. has s.target p && option_map_or (λ c. is_number facts.found c.holder) o true) is ∙ and_true (has s.target p)
     where
       and_true : (b : Bool) → (b && true) ≡ b
       and_true true = refl
       and_true false = refl
 
-  next_at_some : (p : Partition) (c : Cell) → finite.get cells p ≡ Some c → has next p ≡ (has target p && (c.holder == n))
+  next_at_some : (p : Partition) (c : Cell) → finite.get s.cells_before p ≡ Some c → has s.next p ≡ (has s.target p && (c.holder == s.number))
   next_at_some p c is =
-      is_next p ∙ ap (λ o. has target p && option_map_or (λ c. is_number number c.holder) o true) is ∙ ap (λ b. has target p && b) (was_mine p c is)
+      facts.is_next p ∙ ap (λ o. has s.target p && option_map_or (λ c. is_number facts.found c.holder) o true) is ∙ ap (λ b. has s.target p && b) (was_mine p c is)
 
-  after_at : (p : Partition) (o : Option Cell) → finite.get cells p ≡ o → finite.get after p ≡ settled_cell new_cell (option_map_or (λ c. c.holder == n) o false) (has target p) o
+  after_at : (p : Partition) (o : Option Cell) → finite.get s.cells_before p ≡ o → finite.get s.cells_after p ≡ settled_cell new_cell (option_map_or (λ c. c.holder == s.number) o false) (has s.target p) o
   after_at p None is =
-      changed p ∙ (λ i. cond (next_at_none p is i) (cond (is_some (is i)) (is i) (Some new_cell)) (cond (has (parts_of us n) p) None (is i)))
-      ∙ ap (cond (has target p) (Some new_cell)) (either (has (parts_of us n) p) None)
+      facts.changed p ∙ (λ i. cond (next_at_none p is i) (cond (is_some (is i)) (is i) (Some new_cell)) (cond (has (parts_of s.numbered s.number) p) None (is i)))
+      ∙ ap (cond (has s.target p) (Some new_cell)) (either (has (parts_of s.numbered s.number) p) None)
     where
       either : (b : Bool) (o : Option Cell) → cond b o o ≡ o
       either true o = refl
       either false o = refl
   after_at p (Some c) is =
-      changed p
-      ∙ (λ i. cond (next_at_some p c is i) (cond (is_some (is i)) (is i) (Some new_cell)) (cond ((consistent_us n p ∙ ap (λ o. option_map_or (λ c. c.holder == n) o false) is) i) None (is i)))
-      ∙ simpler (has target p) (c.holder == n)
+      facts.changed p
+      ∙ (λ i. cond (next_at_some p c is i) (cond (is_some (is i)) (is i) (Some new_cell)) (cond ((consistent_numbered s.number p ∙ ap (λ o. option_map_or (λ c. c.holder == s.number) o false) is) i) None (is i)))
+      ∙ simpler (has s.target p) (c.holder == s.number)
     where
       simpler : (t e : Bool) → cond (t && e) (Some c) (cond e None (Some c)) ≡ cond t (Some c) (cond e None (Some c))
       simpler true true = refl
@@ -151,89 +174,89 @@ module _ (ms us ws : MemberTable) (cells after : Cells) (m : Text) (epoch n : �
       simpler false e = refl
 
   -- the ids stay, and the member has its new set
-  same_ids : (k : ℕ) → id_of ws k ≡ id_of us k
-  same_ids k = ap (λ o. option_map_or (λ m. m.id) o []) (sets k) ∙ at (k == n) (get us k)
+  same_ids : (k : ℕ) → id_of s.after k ≡ id_of s.numbered k
+  same_ids k = ap (λ o. option_map_or (λ m. m.id) o []) (facts.sets k) ∙ at (k == s.number) (get s.numbered k)
     where
-      at : (b : Bool) (o : Option Member) → option_map_or (λ m. m.id) (cond b (option_map (with_parts next) o) o) [] ≡ option_map_or (λ m. m.id) o []
+      at : (b : Bool) (o : Option Member) → option_map_or (λ m. m.id) (cond b (option_map (with_parts s.next) o) o) [] ≡ option_map_or (λ m. m.id) o []
       at true None = refl
       at true (Some m) = refl
       at false o = refl
 
-  parts_set : (k : ℕ) → parts_of ws k ≡ cond (k == n) next (parts_of us k)
-  parts_set k = ap (λ o. option_map_or (λ m. m.parts) o nothing) (sets k) ∙ at (k == n) (get us k) (λ same. ap (λ l. is_some (get us l)) ((Decides-eqb k n).0 same) ∙ there)
+  parts_set : (k : ℕ) → parts_of s.after k ≡ cond (k == s.number) s.next (parts_of s.numbered k)
+  parts_set k = ap (λ o. option_map_or (λ m. m.parts) o nothing) (facts.sets k) ∙ at (k == s.number) (get s.numbered k) (λ same. ap (λ l. is_some (get s.numbered l)) ((Decides-eqb k s.number).0 same) ∙ there)
     where
-      there : is_some (get us n) ≡ true
-      there = (has_id-is us m n (of_m n ∙ (Decides-eqb n n).1 refl)).0
+      there : is_some (get s.numbered s.number) ≡ true
+      there = (has_id-is s.numbered s.member s.number (facts.of_number s.number ∙ (Decides-eqb s.number s.number).1 refl)).0
 
       at : (b : Bool) (o : Option Member) → (b ≡ true → is_some o ≡ true)
-          → option_map_or (λ m. m.parts) (cond b (option_map (with_parts next) o) o) nothing ≡ cond b next (option_map_or (λ m. m.parts) o nothing)
+          → option_map_or (λ m. m.parts) (cond b (option_map (with_parts s.next) o) o) nothing ≡ cond b s.next (option_map_or (λ m. m.parts) o nothing)
       at true None some = absurd (true≢false (sym (some refl)))
       at true (Some m) some = refl
       at false o some = refl
 
-  pub AreConsistent-settled : AreConsistent ws after
+  pub AreConsistent-settled : AreConsistent s.after s.cells_after
   AreConsistent-settled k p =
       ap (λ s. has s p) (parts_set k)
-      ∙ at (k == n) refl (finite.get cells p) refl
-      ∙ sym (ap (λ o. option_map_or (λ c. c.holder == k) o false) (after_at p (finite.get cells p) refl))
+      ∙ at (k == s.number) refl (finite.get s.cells_before p) refl
+      ∙ sym (ap (λ o. option_map_or (λ c. c.holder == k) o false) (after_at p (finite.get s.cells_before p) refl))
     where
-      granted : (t b : Bool) → (k == n) ≡ b → cond b t false ≡ option_map_or (λ c. c.holder == k) (cond t (Some new_cell) None) false
-      granted true true same = sym (turned n k ∙ same)
-      granted true false other = sym (turned n k ∙ other)
+      granted : (t b : Bool) → (k == s.number) ≡ b → cond b t false ≡ option_map_or (λ c. c.holder == k) (cond t (Some new_cell) None) false
+      granted true true same = sym (turned s.number k ∙ same)
+      granted true false other = sym (turned s.number k ∙ other)
       granted false true same = refl
       granted false false other = refl
 
-      held : (c : Cell) (t e b : Bool) → (k == n) ≡ b → (c.holder == n) ≡ e → cond b (t && e) (c.holder == k) ≡ option_map_or (λ c. c.holder == k) (cond t (Some c) (cond e None (Some c))) false
-      held c true e true same is = sym (ap (λ l. c.holder == l) ((Decides-eqb k n).0 same) ∙ is)
+      held : (c : Cell) (t e b : Bool) → (k == s.number) ≡ b → (c.holder == s.number) ≡ e → cond b (t && e) (c.holder == k) ≡ option_map_or (λ c. c.holder == k) (cond t (Some c) (cond e None (Some c))) false
+      held c true e true same is = sym (ap (λ l. c.holder == l) ((Decides-eqb k s.number).0 same) ∙ is)
       held c false true true same is = refl
-      held c false false true same is = sym (ap (λ l. c.holder == l) ((Decides-eqb k n).0 same) ∙ is)
+      held c false false true same is = sym (ap (λ l. c.holder == l) ((Decides-eqb k s.number).0 same) ∙ is)
       held c true e false other is = refl
-      held c false true false other is = ap (λ l. l == k) ((Decides-eqb c.holder n).0 is) ∙ turned n k ∙ other
+      held c false true false other is = ap (λ l. l == k) ((Decides-eqb c.holder s.number).0 is) ∙ turned s.number k ∙ other
       held c false false false other is = refl
 
       in_set : (b : Bool) (s t : Partitions) → has (cond b s t) p ≡ cond b (has s p) (has t p)
       in_set true s t = refl
       in_set false s t = refl
 
-      at : (b : Bool) → (k == n) ≡ b → (o : Option Cell) → finite.get cells p ≡ o
-          → has (cond b next (parts_of us k)) p ≡ option_map_or (λ c. c.holder == k) (settled_cell new_cell (option_map_or (λ c. c.holder == n) o false) (has target p) o) false
+      at : (b : Bool) → (k == s.number) ≡ b → (o : Option Cell) → finite.get s.cells_before p ≡ o
+          → has (cond b s.next (parts_of s.numbered k)) p ≡ option_map_or (λ c. c.holder == k) (settled_cell new_cell (option_map_or (λ c. c.holder == s.number) o false) (has s.target p) o) false
       at b same None is =
-          in_set b next (parts_of us k)
-          ∙ (λ i. cond b (next_at_none p is i) ((consistent_us k p ∙ ap (λ o. option_map_or (λ c. c.holder == k) o false) is) i))
-          ∙ granted (has target p) b same
+          in_set b s.next (parts_of s.numbered k)
+          ∙ (λ i. cond b (next_at_none p is i) ((consistent_numbered k p ∙ ap (λ o. option_map_or (λ c. c.holder == k) o false) is) i))
+          ∙ granted (has s.target p) b same
       at b same (Some c) is =
-          in_set b next (parts_of us k)
-          ∙ (λ i. cond b (next_at_some p c is i) ((consistent_us k p ∙ ap (λ o. option_map_or (λ c. c.holder == k) o false) is) i))
-          ∙ held c (has target p) (c.holder == n) b same refl
+          in_set b s.next (parts_of s.numbered k)
+          ∙ (λ i. cond b (next_at_some p c is i) ((consistent_numbered k p ∙ ap (λ o. option_map_or (λ c. c.holder == k) o false) is) i))
+          ∙ held c (has s.target p) (c.holder == s.number) b same refl
 
-  pub Settles-settled : Settles (holders_of ms cells) m target epoch (holders_of ws after)
+  pub Settles-settled : Settles (holders_of s.before s.cells_before) s.member s.target s.epoch (holders_of s.after s.cells_after)
   Settles-settled p =
-      get-holders_of ws after p
-      ∙ ap (option_map (held_by ws)) (after_at p (finite.get cells p) refl)
-      ∙ at (finite.get cells p) refl
-      ∙ ap (settled_holder m epoch (has target p)) (sym (get-holders_of ms cells p))
+      get-holders_of s.after s.cells_after p
+      ∙ ap (option_map (held_by s.after)) (after_at p (finite.get s.cells_before p) refl)
+      ∙ at (finite.get s.cells_before p) refl
+      ∙ ap (settled_holder s.member s.epoch (has s.target p)) (sym (get-holders_of s.before s.cells_before p))
     where
-      granted : (t : Bool) → option_map (held_by ws) (cond t (Some new_cell) None) ≡ settled_holder m epoch t None
-      granted true = ap (λ id. Some (record { member = id; since = epoch })) (same_ids n ∙ (has_id-is us m n (of_m n ∙ (Decides-eqb n n).1 refl)).1)
+      granted : (t : Bool) → option_map (held_by s.after) (cond t (Some new_cell) None) ≡ settled_holder s.member s.epoch t None
+      granted true = ap (λ id. Some (record { member = id; since = s.epoch })) (same_ids s.number ∙ (has_id-is s.numbered s.member s.number (facts.of_number s.number ∙ (Decides-eqb s.number s.number).1 refl)).1)
       granted false = refl
 
-      same : (c : Cell) → finite.get cells p ≡ Some c → held_by ws c ≡ held_by ms c
-      same c is = ap (λ id. record { member = id; since = c.since }) (same_ids c.holder ∙ same_holder ms us cells consistent kept parts p c is)
+      same : (c : Cell) → finite.get s.cells_before p ≡ Some c → held_by s.after c ≡ held_by s.before c
+      same c is = ap (λ id. record { member = id; since = c.since }) (same_ids c.holder ∙ same_holder s.before s.numbered s.cells_before facts.consistent facts.kept facts.parts p c is)
 
-      held : (c : Cell) → finite.get cells p ≡ Some c → (t e : Bool)
-          → option_map (held_by ws) (cond t (Some c) (cond e None (Some c))) ≡ cond t (Some (held_by ms c)) (cond e None (Some (held_by ms c)))
+      held : (c : Cell) → finite.get s.cells_before p ≡ Some c → (t e : Bool)
+          → option_map (held_by s.after) (cond t (Some c) (cond e None (Some c))) ≡ cond t (Some (held_by s.before c)) (cond e None (Some (held_by s.before c)))
       held c is true e = ap Some (same c is)
       held c is false true = refl
       held c is false false = ap Some (same c is)
 
-      settled : (c : Cell) (t : Bool) → cond t (Some (held_by ms c)) (cond (eq_by_cmp text_cmp m (id_of ms c.holder)) None (Some (held_by ms c))) ≡ settled_holder m epoch t (Some (held_by ms c))
+      settled : (c : Cell) (t : Bool) → cond t (Some (held_by s.before c)) (cond (eq_by_cmp text_cmp s.member (id_of s.before c.holder)) None (Some (held_by s.before c))) ≡ settled_holder s.member s.epoch t (Some (held_by s.before c))
       settled c true = refl
       settled c false = refl
 
-      at : (o : Option Cell) → finite.get cells p ≡ o
-          → option_map (held_by ws) (settled_cell new_cell (option_map_or (λ c. c.holder == n) o false) (has target p) o) ≡ settled_holder m epoch (has target p) (option_map (held_by ms) o)
-      at None is = granted (has target p)
+      at : (o : Option Cell) → finite.get s.cells_before p ≡ o
+          → option_map (held_by s.after) (settled_cell new_cell (option_map_or (λ c. c.holder == s.number) o false) (has s.target p) o) ≡ settled_holder s.member s.epoch (has s.target p) (option_map (held_by s.before) o)
+      at None is = granted (has s.target p)
       at (Some c) is =
-          held c is (has target p) (c.holder == n)
-          ∙ ap (λ e. cond (has target p) (Some (held_by ms c)) (cond e None (Some (held_by ms c)))) (sym (mine p c is))
-          ∙ settled c (has target p)
+          held c is (has s.target p) (c.holder == s.number)
+          ∙ ap (λ e. cond (has s.target p) (Some (held_by s.before c)) (cond e None (Some (held_by s.before c)))) (sym (mine p c is))
+          ∙ settled c (has s.target p)

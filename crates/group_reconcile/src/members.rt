@@ -1,13 +1,11 @@
 //! The members that hold something, by their numbers.
 
-ghost use Rattle.std.specs.Prelude.{ℕ, ◌≡◌, ◌<◌, ◌≤◌, ◌+◌, IfOk, None, Some, IsSome, Err, length, vec_capacity, vec_len};
+ghost use Rattle.std.specs.Prelude.{ℕ, ◌≡◌, ◌<◌, IfOk, IsSome, vec_capacity, vec_len};
 ghost use Rattle.std.specs.Option.{option_copied, option_map};
-ghost use Rattle.std.specs.Ordering.{on};
 ghost use Rattle.std.specs.List.Sorted.{IsStrictlySortedBy};
 ghost use Rattle.slab.specs.Slab.{HasRoomFor, get};
 ghost use Rattle.group_types.specs.Text.{text_cmp};
-ghost use Rattle.group_types.specs.Sets.{nothing};
-ghost use Rattle.group_reconcile.specs.Members.{Changes, IsGap, IsIdOrder, IsIdOrderBut, IsNumberOf, IsPlace, KeepsMembers, KeepsParts, RenamesMember, SetsParts, TakesMember, by_id, id_of, with_id};
+ghost use Rattle.group_reconcile.specs.Members.{Changes, IsIdOrder, IsIdOrderBut, IsNumberOf, IsPlace, KeepsMembers, KeepsParts, RenamesMember, SetsParts, TakesMember, by_id, id_of, with_id};
 
 use group_types::{MemberId, PartSet};
 use slab::Slab;

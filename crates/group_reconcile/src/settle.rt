@@ -7,7 +7,7 @@ ghost use Rattle.slab.specs.Slab.{get};
 ghost use Rattle.group_types.specs.Sets.{in_order, minus, nothing};
 ghost use Rattle.group_types.specs.Settle.{may_move};
 ghost use Rattle.group_reconcile.specs.Members.{SetsParts, parts_of};
-ghost use Rattle.group_reconcile.specs.Tables.{HasRoom, IsAtLeastZero, KeepsRoom};
+ghost use Rattle.group_reconcile.specs.Tables.{HasRoom, IsAtLeastZero};
 ghost use Rattle.group_reconcile.specs.Settling.{IsNext, cells_cleared, cells_put, cells_without, is_kept, may_take, put_where_free, taken_of, with_if_free};
 
 use crate::cell::Cell;

@@ -11,7 +11,7 @@ use std::collections::BTreeMap;
 use std::marker::Model;
 use uuid::Uuid;
 
-/// The cells of all partitions: a table a topic id, indexed by partition.
+/// The cells of all partitions: a table a topic id, indexed by partition. Tables never shrink, and none is taken out.
 #[derive(Drop)]
 pub struct Table {
     topics: BTreeMap<Uuid, Vec<Option<Cell>>>,

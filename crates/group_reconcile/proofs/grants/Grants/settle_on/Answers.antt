@@ -9,7 +9,7 @@ use Rattle.group_reconcile.specs.Members.{IsNumberOf, parts_of}
 use Rattle.group_reconcile.specs.Settling.{cells_cleared, cells_put}
 use Rattle.group_reconcile.specs.Tables.{Cells}
 use Rattle.group_reconcile.proofs.Settled.{settling_is}
-use Rattle.group_reconcile.proofs.Settles.{AreConsistent-settled, Settles-settled, holders_of-kept, indexed-next}
+use Rattle.group_reconcile.proofs.Settles.{AreConsistent-settled, IsSettling, Settling, Settles-settled, holders_of-kept, indexed-next}
 use Rattle.group_reconcile.proofs.grants.Grants.settle_on.Goals as goal
 
 on_err : {T E : Type 0} {P : Type 0} (r : Result T E) → P → OnErr r P
@@ -37,34 +37,40 @@ returns-in_err-number-clause-err c =
     ∙ holders_of-kept c.self.inside.members us c.self.inside.table.cells c.self.invariant c.number_for.ensures.members c.number_for.ensures.parts
     ∙ c.self.view_is)
 
+abbrev settling : goal.After-settle → Settling
+settling c =
+    record {
+      before = c.self.inside.members;
+      numbered = c.number_for.new.self;
+      after = c.settle.new.members;
+      cells_before = c.self.inside.table.cells;
+      cells_after = c.settle.new.table.cells;
+      member = c.args.member.now;
+      number = c.in_ok-number.number;
+      target = c.args.target.now.partitions;
+      next = c.in_ok-next.next;
+      epoch = c.args.target.now.epoch;
+    }
+
+is_settling : (c : goal.After-settle) → IsSettling (settling c)
+is_settling c =
+    let s = settling c in
+    record {
+      consistent = c.self.invariant;
+      found = c.find-number.result;
+      of_member = subst (λ id. IsNumberOf s.before id c.find-number.result) c.as_str.ensures.value c.find-number.ensures;
+      is_next = c.in_ok-next.ensures;
+      kept = c.number_for.ensures.members;
+      parts = c.number_for.ensures.parts;
+      of_number = c.in_ok-number.ensures.number;
+      changed = changed s.cells_before c.make_room_for.new.table.cells s.cells_after (parts_of s.numbered s.number) s.next s.number c.epoch.result s.epoch c.make_room_for.ensures.cells c.epoch.ensures c.settle.ensures.cells;
+      sets = c.settle.ensures.members;
+    }
+
 pub invariant_of-self-2 : goal.invariant_of-self-2
-invariant_of-self-2 c =
-    let ms = c.self.inside.members in
-    let us = c.number_for.new.self in
-    let cells = c.self.inside.table.cells in
-    let after = c.settle.new.table.cells in
-    let m = c.args.member.now in
-    let n = c.in_ok-number.number in
-    let next = c.in_ok-next.next in
-    let epoch = c.args.target.now.epoch in
-    AreConsistent-settled ms us c.settle.new.members cells after m epoch n c.find-number.result c.args.target.now.partitions next
-    c.self.invariant (subst (λ id. IsNumberOf ms id c.find-number.result) c.as_str.ensures.value c.find-number.ensures)
-    c.number_for.ensures.members c.number_for.ensures.parts c.in_ok-number.ensures.number c.in_ok-next.ensures c.settle.ensures.members
-    (changed cells c.make_room_for.new.table.cells after (parts_of us n) next n c.epoch.result epoch c.make_room_for.ensures.cells c.epoch.ensures c.settle.ensures.cells)
+invariant_of-self-2 c = AreConsistent-settled (settling c) (is_settling c)
 
 pub returns-clause-settled : goal.returns-clause-settled
 returns-clause-settled c =
-    let ms = c.self.inside.members in
-    let us = c.number_for.new.self in
-    let ws = c.settle.new.members in
-    let cells = c.self.inside.table.cells in
-    let after = c.settle.new.table.cells in
-    let m = c.args.member.now in
-    let n = c.in_ok-number.number in
-    let next = c.in_ok-next.next in
-    let epoch = c.args.target.now.epoch in
-    subst (λ h. Settles h m c.args.target.now.partitions epoch (holders_of ws after)) c.self.view_is
-    (Settles-settled ms us ws cells after m epoch n c.find-number.result c.args.target.now.partitions next
-    c.self.invariant (subst (λ id. IsNumberOf ms id c.find-number.result) c.as_str.ensures.value c.find-number.ensures)
-    c.number_for.ensures.members c.number_for.ensures.parts c.in_ok-number.ensures.number c.in_ok-next.ensures c.settle.ensures.members
-    (changed cells c.make_room_for.new.table.cells after (parts_of us n) next n c.epoch.result epoch c.make_room_for.ensures.cells c.epoch.ensures c.settle.ensures.cells))
+    subst (λ h. Settles h c.args.member.now c.args.target.now.partitions c.args.target.now.epoch (holders_of c.settle.new.members c.settle.new.table.cells)) c.self.view_is
+    (Settles-settled (settling c) (is_settling c))

@@ -1,18 +1,14 @@
-use Rattle.std.proofs.Common.{◌≡◌, sym, ap, subst, ◌∙◌}
+use Rattle.std.proofs.Common.{rules, ◌≡◌, sym, ap, subst, ◌∙◌}
 use Rattle.group_reconcile.specs.Tables.{KeepsRoom, cells_in, sizes_in}
 use Rattle.group_reconcile.proofs.Writes.{cells-opened, sizes-opened, topic-opened, topic-there, none_of_absent}
 use Rattle.group_reconcile.proofs.table.Table.open.Goals as goal
-use Rattle.group_reconcile.proofs.table.Table.open.Goals.{in-Some-1, in-None-1}
 
 pub returns-in_ok-insert : goal.returns-in_ok-insert
 returns-in_ok-insert c =
     let before = c.self.inside.topics.entries in
     let after = c.insert.new.self.entries in
     let topic = c.args.topic.now in
-    let is : c.match-branch-2.self ≡ record { cells = cells_in after; sizes = sizes_in after } = elim c.match-branch-2.branch [
-      | in-Some-1 w ↦ w.self-is
-      | in-None-1 w ↦ w.self-is
-    ] in
+    let is : c.match-branch-2.self ≡ record { cells = cells_in after; sizes = sizes_in after } = search rules in
     let updates = c.in_ok-insert.ensures.updates.0 in
     let was = none_of_absent _ (sym c.contains_key.ensures ∙ c.if-not-contains_key.true) in
     record {
