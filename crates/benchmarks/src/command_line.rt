@@ -14,12 +14,34 @@ pub enum Mode {
     Times,
 }
 
+/// What the program does.
+#[derive(Clone, Copy, Debug, PartialEq, Eq)]
+pub enum Task {
+    /// It prints what is measured.
+    Measure(Mode),
+    /// It prints so many random small groups, from a seed, and the owners of their partitions.
+    Spreads { seed: u64, inputs: u64 },
+}
+
 /// What the program's command line asks for.
 ///
 /// Faults: `CommandLine` where it is wrong; want of memory, and a command line that can't be read.
-pub fn read(rt: &(impl AllocGlobal + Env)) -> Result<Mode, Fault> {
+pub fn read(rt: &(impl AllocGlobal + Env)) -> Result<Task, Fault> {
     let arguments: Vec<String> = std::env::args(rt)?.skip(1).collect(rt.alloc())?;
-    mode_of(arguments.as_slice())
+    match arguments.as_slice() {
+        [word, seed, inputs] if word.as_str() == "spreads" => {
+            spreads_of(seed.as_str(), inputs.as_str())
+        }
+        other => Ok(Task::Measure(mode_of(other)?)),
+    }
+}
+
+/// The random groups that two numbers ask for.
+fn spreads_of(seed: &str, inputs: &str) -> Result<Task, Fault> {
+    let (Ok(seed), Ok(inputs)) = (seed.parse(), inputs.parse()) else {
+        return Err(Fault::CommandLine);
+    };
+    Ok(Task::Spreads { seed, inputs })
 }
 
 /// What the arguments ask for: counts where there are none, times where there is `times` alone.
