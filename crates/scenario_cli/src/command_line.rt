@@ -44,23 +44,25 @@ impl CommandLineFault {
     }
 }
 
-/// The subcommand that the program's command line names.
-pub fn read(rt: &(impl Env + AllocGlobal)) -> Result<Subcommand, CommandLineFault> {
-    let words = words_of(rt).map_err(CommandLineFault::Unread)?;
-    subcommand_of(rt.alloc(), words.as_slice()).map_err(CommandLineFault::Refused)
+/// The subcommand that the words of the program's command line name, where they could be read.
+///
+/// Faults: the words could not be read; they name no subcommand, or ask for help.
+pub fn asked(
+    alloc: Global,
+    words: io::Result<Vec<String>>,
+) -> Result<Subcommand, CommandLineFault> {
+    let words = words.map_err(CommandLineFault::Unread)?;
+    subcommand_of(alloc, words.as_slice()).map_err(CommandLineFault::Refused)
 }
 
-/// The words of the program's command line.
-fn words_of(rt: &(impl Env + AllocGlobal)) -> io::Result<Vec<String>> {
+/// The words of the program's command line, its own name first.
+pub fn words_of(rt: &(impl Env + AllocGlobal)) -> io::Result<Vec<String>> {
     Ok(std::env::args(rt)?.collect(rt.alloc())?)
 }
 
 /// The subcommand that the words name, the program's own name first. A call for help is an error too, whose text is
 /// the help.
-pub fn subcommand_of<'a, S: AsStr>(
-    alloc: Global,
-    words: &'a [S],
-) -> Result<Subcommand, clap::Error> {
+fn subcommand_of<'a, S: AsStr>(alloc: Global, words: &'a [S]) -> Result<Subcommand, clap::Error> {
     let matches = command(alloc)?.try_get_matches_from(words)?;
     Ok(match matches.subcommand_name() {
         Some("frame") => Subcommand::Frame,

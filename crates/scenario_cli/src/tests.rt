@@ -7,20 +7,21 @@ mod sink;
 mod streams;
 mod table;
 
-use crate::command_line::Subcommand;
-use crate::frames::frame_lines;
-use crate::reply::reply_lines;
+use crate::program;
 use sink::Sink;
 use std::alloc::{AllocError, Global};
 use std::collections::hash_map::RandomState;
-use std::io::Read;
+use std::io;
+use std::io::{Error, ErrorKind, Read};
 
-/// Runs a subcommand.
+/// Runs the program.
 #[derive(Clone, Copy)]
-struct Runner {
+struct Runner<'a> {
     alloc: Global,
-    hasher: RandomState,
-    subcommand: Subcommand,
+    keys: RandomState,
+    /// The words behind the program's name, or none where they can't be read.
+    words: Option<&'a str>,
+    has_keys: bool,
 }
 
 /// What a run has written when it ends, and its status.
@@ -34,28 +35,53 @@ struct Ran {
 /// How much a run may print and tell, where a test doesn't say otherwise.
 const ROOM: usize = 8_192;
 
-impl Runner {
-    /// Runs the subcommand over a reader, with room for so many bytes of output.
+impl Runner<'_> {
+    /// Runs the program over a reader, with room for so many bytes of output.
     fn run<R: Read>(&self, reader: &mut R, room: usize) -> Result<Ran, AllocError> {
-        let alloc = self.alloc;
-        let mut printed = Sink::with_room(alloc, room)?;
-        let mut told = Sink::with_room(alloc, ROOM)?;
-        let status = match self.subcommand {
-            Subcommand::Reply => reply_lines(alloc, self.hasher, reader, &mut printed, &mut told),
-            Subcommand::Frame => frame_lines(alloc, reader, &mut printed, &mut told),
-        };
+        let words = self.words()?;
+        let mut printed = Sink::with_room(self.alloc, room)?;
+        let mut told = Sink::with_room(self.alloc, ROOM)?;
+        let status = program::run(
+            self.alloc,
+            words,
+            self.keys(),
+            reader,
+            &mut printed,
+            &mut told,
+        );
         Ok(Ran {
             status,
             printed: printed.into_bytes(),
             told: told.into_bytes(),
         })
     }
+
+    /// The words of the command line.
+    fn words(&self) -> Result<io::Result<Vec<String>>, AllocError> {
+        let Some(words) = self.words else {
+            return Ok(Err(Error::from(ErrorKind::BrokenPipe)));
+        };
+        let mut all = Vec::new(self.alloc);
+        all.push(String::from_str(self.alloc, "coord")?)?;
+        for word in words.split_whitespace() {
+            all.push(String::from_str(self.alloc, word)?)?;
+        }
+        Ok(Ok(all))
+    }
+
+    fn keys(&self) -> io::Result<RandomState> {
+        if self.has_keys {
+            Ok(self.keys)
+        } else {
+            Err(Error::from(ErrorKind::BrokenPipe))
+        }
+    }
 }
 
 impl Ran {
     /// Whether the run ended for want of memory.
     fn is_out_of_memory(&self) -> bool {
-        self.status == 1 && self.told.as_slice() == b"out of memory\n".as_slice()
+        self.status == 1 && self.told.ends_with(b"out of memory\n")
     }
 
     /// Whether the run ended so.

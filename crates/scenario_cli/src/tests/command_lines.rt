@@ -1,57 +1,138 @@
-//! Command lines.
+//! Which command lines there are. What is told of the others is as clap tells it.
 
-use crate::command_line::{Subcommand, subcommand_of};
-use clap::error::ErrorKind;
-use std::alloc::{AllocError, Global};
+use super::Runner;
+use super::table::{Subject, wrong_rows};
+use std::collections::hash_map::RandomState;
 use std::test::Fail;
-
-/// The words of a command line, ` = `, and the subcommand that they name.
-const TABLE: &str = "\
-coord reply = Some(Reply)
-coord frame = Some(Frame)
-coord = None
-coord frames = None
-coord reply frame = None
-coord frame more = None
-coord reply more = None
-coord --help = None
-coord help = None
-coord reply --help = None
-coord --version = None";
 
 #[test]
 fn command_lines_name_subcommands(rt: HostRuntime) -> Result<(), Fail> {
-    let alloc = rt.alloc();
-    let wrong = wrong_rows(alloc).or_else(|_| wrong_rows(alloc))?;
+    let subject = Subject {
+        runner: Runner {
+            alloc: rt.alloc(),
+            keys: RandomState::new(&rt)?,
+            words: Some(""),
+            has_keys: true,
+        },
+        line: b"",
+        printed: b"",
+    };
+    let wrong = wrong_rows(&subject, TABLE)?;
     assert_eq!(rt; wrong.as_str(), "");
     Ok(())
 }
 
-/// The rows of which something else comes, each with what does.
-fn wrong_rows(alloc: Global) -> Result<String, AllocError> {
-    let mut wrong = String::new(alloc);
-    for row in TABLE.lines() {
-        look(alloc, row, &mut wrong)?;
-    }
-    Ok(wrong)
-}
+const TABLE: &[u8] = b"\
+# requests are answered
+$ reply
+< req 00000000
+> close
+= 0
 
-/// Tells a row of which something else comes.
-fn look(alloc: Global, row: &str, wrong: &mut String) -> Result<(), AllocError> {
-    let (words, named) = row.split_once(" = ").unwrap_or((row, ""));
-    let found = format!(in alloc; "{:?}", named_by(alloc, words)?)?;
-    if found.as_str() != named {
-        writeln!(wrong, "{row}, but {found}")?;
-    }
-    Ok(())
-}
+# frames are printed
+$ frame
+< 00000000
+> fault 1 1
+= 0
 
-/// The subcommand that the words of a line name, where they name one.
-fn named_by(alloc: Global, line: &str) -> Result<Option<Subcommand>, AllocError> {
-    let words: Vec<&str> = line.split(' ').collect(alloc)?;
-    match subcommand_of(alloc, words.as_slice()) {
-        Ok(subcommand) => Ok(Some(subcommand)),
-        Err(error) if error.kind() == ErrorKind::OutOfMemory => Err(AllocError),
-        Err(_) => Ok(None),
-    }
-}
+# a subcommand is wanted
+< 00000000
+! error: 'coord' requires a subcommand but one was not provided
+!   [subcommands: reply, frame, help]
+!
+! Usage: coord <COMMAND>
+!
+! For more information, try '--help'.
+= 2
+
+# another subcommand
+$ frames
+< 00000000
+! error: unrecognized subcommand 'frames'
+!
+!   tip: a similar subcommand exists: 'frame'
+!
+! Usage: coord <COMMAND>
+!
+! For more information, try '--help'.
+= 2
+
+# two subcommands
+$ reply frame
+< req 00000000
+! error: unexpected argument 'frame' found
+!
+! Usage: coord reply
+!
+! For more information, try '--help'.
+= 2
+
+# a word behind frame
+$ frame more
+< 00000000
+! error: unexpected argument 'more' found
+!
+! Usage: coord frame
+!
+! For more information, try '--help'.
+= 2
+
+# a word behind reply
+$ reply more
+< req 00000000
+! error: unexpected argument 'more' found
+!
+! Usage: coord reply
+!
+! For more information, try '--help'.
+= 2
+
+# help
+$ --help
+! The coordinator of consumer groups, on lines of text
+!
+! Usage: coord <COMMAND>
+!
+! Commands:
+!   reply  Answers the request frames on standard input
+!   frame  Prints the fields of the request frames on standard input
+!   help   Print this message or the help of the given subcommand(s)
+!
+! Options:
+!   -h, --help  Print help
+= 2
+
+# help as a subcommand
+$ help
+! The coordinator of consumer groups, on lines of text
+!
+! Usage: coord <COMMAND>
+!
+! Commands:
+!   reply  Answers the request frames on standard input
+!   frame  Prints the fields of the request frames on standard input
+!   help   Print this message or the help of the given subcommand(s)
+!
+! Options:
+!   -h, --help  Print help
+= 2
+
+# help for a subcommand
+$ reply --help
+! Answers the request frames on standard input
+!
+! Usage: coord reply
+!
+! Options:
+!   -h, --help  Print help
+= 2
+
+# there is no word for the version
+$ --version
+! error: unexpected argument '--version' found
+!
+! Usage: coord <COMMAND>
+!
+! For more information, try '--help'.
+= 2
+";

@@ -2,7 +2,6 @@
 
 use super::Runner;
 use super::table::{Subject, wrong_rows};
-use crate::command_line::Subcommand;
 use std::collections::hash_map::RandomState;
 use std::test::Fail;
 
@@ -11,8 +10,9 @@ fn frames_are_printed(rt: HostRuntime) -> Result<(), Fail> {
     let subject = Subject {
         runner: Runner {
             alloc: rt.alloc(),
-            hasher: RandomState::new(&rt)?,
-            subcommand: Subcommand::Frame,
+            keys: RandomState::new(&rt)?,
+            words: Some("frame"),
+            has_keys: true,
         },
         line: b"00000000",
         printed: b"fault 1 1",
@@ -172,6 +172,27 @@ const TABLE: &[u8] = b"\
 < 00000000
 > fault 1 1
 < 0000000144
+> fault 1 1
+= 0
+
+# the largest count, of which nothing is there, takes no memory
+| names
+< 0000001d0044000000000007ffff000267010000000000000000ea60ffffffff0f
+> fault 1 1
+| owned topics
+< 0000001f0044000000000007ffff000267010000000000000000ea600000ffffffff0f
+> fault 1 1
+| indexes of an owned topic
+< 000000300044000000000007ffff000267010000000000000000ea6000000211111111111111111111111111111111ffffffff0f
+> fault 1 1
+| topics of a commit
+< 000000180008000900000008ffff000267000000020100ffffffff0f
+> fault 1 1
+| partitions of a commit
+< 0000001b0008000900000008ffff000267000000020100020274ffffffff0f
+> fault 1 1
+| tagged fields
+< 0000000f0044000000000007ffffffffffff0f
 > fault 1 1
 = 0
 

@@ -2,7 +2,6 @@
 
 use super::Runner;
 use super::table::{Subject, wrong_rows};
-use crate::command_line::Subcommand;
 use std::collections::hash_map::RandomState;
 use std::test::Fail;
 
@@ -11,8 +10,9 @@ fn lines_are_answered(rt: HostRuntime) -> Result<(), Fail> {
     let subject = Subject {
         runner: Runner {
             alloc: rt.alloc(),
-            hasher: RandomState::new(&rt)?,
-            subcommand: Subcommand::Reply,
+            keys: RandomState::new(&rt)?,
+            words: Some("reply"),
+            has_keys: true,
         },
         line: b"req 00000000",
         printed: b"close",
@@ -69,6 +69,27 @@ const TABLE: &[u8] = b"\
 < req ffffffffff
 > close
 < req 00000001ff
+> close
+= 0
+
+# the largest count, of which nothing is there, takes no memory
+| names
+< req 0000001d0044000000000007ffff000267010000000000000000ea60ffffffff0f
+> close
+| owned topics
+< req 0000001f0044000000000007ffff000267010000000000000000ea600000ffffffff0f
+> close
+| indexes of an owned topic
+< req 000000300044000000000007ffff000267010000000000000000ea6000000211111111111111111111111111111111ffffffff0f
+> close
+| topics of a commit
+< req 000000180008000900000008ffff000267000000020100ffffffff0f
+> close
+| partitions of a commit
+< req 0000001b0008000900000008ffff000267000000020100020274ffffffff0f
+> close
+| tagged fields
+< req 0000000f0044000000000007ffffffffffff0f
 > close
 = 0
 

@@ -3,7 +3,6 @@
 ghost use Rattle.std.specs.Prelude.{◌≡◌, ◌≤◌, IfOk};
 
 use super::{ROOM, Ran, Runner};
-use crate::command_line::Subcommand;
 use std::alloc::{AllocError, Global};
 use std::collections::hash_map::RandomState;
 use std::io;
@@ -17,7 +16,8 @@ type Parts = &'static [(usize, &'static [u8])];
 /// A run over a stream, and what comes of it.
 struct Row {
     name: &'static str,
-    subcommand: Subcommand,
+    words: Option<&'static str>,
+    has_keys: bool,
     input: Parts,
     source: Source,
     room: usize,
@@ -35,6 +35,8 @@ enum Source {
     Drops,
     /// All at once, and then an error.
     Breaks,
+    /// All at once, and then an error for want of memory.
+    LacksMemory,
     /// All at once, and then zeros without end.
     Endless,
 }
@@ -42,7 +44,8 @@ enum Source {
 /// A row that is done with success over all of its input at once.
 const DONE: Row = Row {
     name: "",
-    subcommand: Subcommand::Frame,
+    words: Some("frame"),
+    has_keys: true,
     input: &[],
     source: Source::Whole,
     room: ROOM,
@@ -51,10 +54,10 @@ const DONE: Row = Row {
     told: "",
 };
 
-static STREAMS: [Row; 11] = [
+static STREAMS: [Row; 15] = [
     Row {
         name: "a read that fails ends the run before any line",
-        subcommand: Subcommand::Reply,
+        words: Some("reply"),
         input: &[(1, b"req 00000000\n")],
         source: Source::Breaks,
         status: 1,
@@ -70,8 +73,40 @@ static STREAMS: [Row; 11] = [
         ..DONE
     },
     Row {
+        name: "a read for which there is no memory ends the run before any frame",
+        input: &[(1, b"00000000\n")],
+        source: Source::LacksMemory,
+        status: 1,
+        told: "out of memory\n",
+        ..DONE
+    },
+    Row {
+        name: "words that can't be read are a bad command line",
+        words: None,
+        input: &[(1, b"00000000\n")],
+        status: 2,
+        told: "reading the command line: broken pipe\n",
+        ..DONE
+    },
+    Row {
+        name: "requests want random keys",
+        words: Some("reply"),
+        has_keys: false,
+        input: &[(1, b"req 00000000\n")],
+        status: 1,
+        told: "drawing random keys: broken pipe\n",
+        ..DONE
+    },
+    Row {
+        name: "frames want no keys",
+        has_keys: false,
+        input: &[(1, b"00000000\n")],
+        printed: &[(1, b"fault 1 1\n")],
+        ..DONE
+    },
+    Row {
         name: "lines may come in parts",
-        subcommand: Subcommand::Reply,
+        words: Some("reply"),
         input: &[(2, b"req 00000000\n")],
         source: Source::Drops,
         printed: &[(2, b"close\n")],
@@ -86,7 +121,7 @@ static STREAMS: [Row; 11] = [
     },
     Row {
         name: "lines without end are not begun",
-        subcommand: Subcommand::Reply,
+        words: Some("reply"),
         input: &[(1, b"req 00000000\n")],
         source: Source::Endless,
         status: 1,
@@ -103,7 +138,7 @@ static STREAMS: [Row; 11] = [
     },
     Row {
         name: "a write that fails ends the run",
-        subcommand: Subcommand::Reply,
+        words: Some("reply"),
         input: &[(2, b"req 00000000\n")],
         room: 10,
         status: 1,
@@ -113,7 +148,7 @@ static STREAMS: [Row; 11] = [
     },
     Row {
         name: "a write that fails before a bad line ends the run",
-        subcommand: Subcommand::Reply,
+        words: Some("reply"),
         input: &[(2, b"req 00000000\n"), (1, b"tick\n")],
         room: 10,
         status: 1,
@@ -150,10 +185,10 @@ static STREAMS: [Row; 11] = [
     },
 ];
 
-static LONG: [Row; 3] = [
+static LONG: [Row; 5] = [
     Row {
         name: "a name has at most 32,767 bytes",
-        subcommand: Subcommand::Reply,
+        words: Some("reply"),
         input: &[
             (1, b"image "),
             (32_767, b"n"),
@@ -163,7 +198,7 @@ static LONG: [Row; 3] = [
     },
     Row {
         name: "a name of 32,768 bytes is bad",
-        subcommand: Subcommand::Reply,
+        words: Some("reply"),
         input: &[
             (1, b"req 00000000\nimage "),
             (32_768, b"n"),
@@ -175,6 +210,22 @@ static LONG: [Row; 3] = [
         status: 2,
         printed: &[(1, b"close\n")],
         told: "bad line 2\n",
+        ..DONE
+    },
+    Row {
+        name: "the line after ten thousand is done",
+        words: Some("reply"),
+        input: &[(10_000, b"now 0\n"), (1, b"req 00\n")],
+        printed: &[(1, b"close\n")],
+        ..DONE
+    },
+    Row {
+        name: "a bad line after ten thousand has its number",
+        words: Some("reply"),
+        input: &[(10_000, b"now 0\n"), (1, b"req 00\n"), (1, b"tick\n")],
+        status: 2,
+        printed: &[(1, b"close\n")],
+        told: "bad line 10002\n",
         ..DONE
     },
     // Over the length that a request's body may have, 8,388,608 bytes: the header has one tagged field of 8,388,574 bytes.
@@ -220,25 +271,21 @@ fn long_lines_are_done(rt: HostRuntime) -> Result<(), Fail> {
 
 /// The names of the rows of which something else comes.
 fn wrong_rows(rt: &(impl AllocGlobal + RandomSource), rows: &[Row]) -> io::Result<String> {
-    let hasher = RandomState::new(rt)?;
+    let keys = RandomState::new(rt)?;
     let mut wrong = String::new(rt.alloc());
     for row in rows {
-        look(rt.alloc(), hasher, row, &mut wrong)?;
+        look(rt.alloc(), keys, row, &mut wrong)?;
     }
     Ok(wrong)
 }
 
 /// Tells a row of which something else comes. Where memory was refused, it is gone through once more.
-fn look(
-    alloc: Global,
-    hasher: RandomState,
-    row: &Row,
-    wrong: &mut String,
-) -> Result<(), AllocError> {
+fn look(alloc: Global, keys: RandomState, row: &Row, wrong: &mut String) -> Result<(), AllocError> {
     let runner = Runner {
         alloc,
-        hasher,
-        subcommand: row.subcommand,
+        keys,
+        words: row.words,
+        has_keys: row.has_keys,
     };
     if !row.is_right(&runner).or_else(|_| row.is_right(&runner))? {
         writeln!(wrong, "{}", row.name)?;
@@ -249,7 +296,7 @@ fn look(
 impl Row {
     /// Whether what comes of the row is what it says. A run that is out of memory is to have printed what comes first,
     /// and is made once more.
-    fn is_right(&self, runner: &Runner) -> Result<bool, AllocError> {
+    fn is_right(&self, runner: &Runner<'_>) -> Result<bool, AllocError> {
         let input = text_of(runner.alloc, self.input)?;
         let printed = text_of(runner.alloc, self.printed)?;
         let mut ran = self.run(runner, input.as_slice())?;
@@ -261,7 +308,7 @@ impl Row {
         Ok(is_right && ran.is(self.status, printed.as_slice(), self.told.as_bytes()))
     }
 
-    fn run(&self, runner: &Runner, input: &[u8]) -> Result<Ran, AllocError> {
+    fn run(&self, runner: &Runner<'_>, input: &[u8]) -> Result<Ran, AllocError> {
         let mut stream = Stream {
             rest: input,
             drops: input.len() / 2,
@@ -300,6 +347,7 @@ impl Stream<'_> {
     {
         match self.source {
             Source::Breaks => Err(Error::from(ErrorKind::BrokenPipe)),
+            Source::LacksMemory => Err(Error::from(ErrorKind::OutOfMemory)),
             Source::Endless => Ok(room),
             Source::Whole | Source::Drops => Ok(0),
         }

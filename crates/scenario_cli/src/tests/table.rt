@@ -3,6 +3,7 @@
 //! | Byte | The line has |
 //! |---|---|
 //! | `#` | the name of the row that begins here |
+//! | `$` | the words of the command line, where they are others than the table's |
 //! | `<` | a line of the input |
 //! | `+` | a part of the input that ends no line |
 //! | `>` | a line that is printed for the line of the input above |
@@ -19,7 +20,7 @@ use std::io::Cursor;
 /// What a table is for: a subcommand, and for the rows of bad lines one that it does, with what it prints.
 #[derive(Clone, Copy)]
 pub(super) struct Subject {
-    pub runner: Runner,
+    pub runner: Runner<'static>,
     pub line: &'static [u8],
     pub printed: &'static [u8],
 }
@@ -28,6 +29,7 @@ pub(super) struct Subject {
 #[derive(Drop)]
 struct Row {
     name: Vec<u8>,
+    words: String,
     input: Vec<u8>,
     printed: Vec<u8>,
     told: Vec<u8>,
@@ -88,9 +90,23 @@ fn look(subject: &Subject, row: &Row, status: u8, wrong: &mut String) -> Result<
 }
 
 impl Subject {
+    /// The words of a row, or the table's where it has none.
+    fn words<'a>(&self, row: &'a Row) -> Option<&'a str> {
+        if row.words.is_empty() {
+            return self.runner.words;
+        }
+        Some(row.words.as_str())
+    }
+
     fn run(&self, row: &Row) -> Result<Ran, AllocError> {
         let mut reader = Cursor::new(row.input.as_slice());
-        self.runner.run(&mut reader, ROOM)
+        let runner = Runner {
+            alloc: self.runner.alloc,
+            keys: self.runner.keys,
+            words: self.words(row),
+            has_keys: self.runner.has_keys,
+        };
+        runner.run(&mut reader, ROOM)
     }
 }
 
@@ -98,6 +114,7 @@ impl Row {
     fn new(alloc: Global) -> Row {
         Row {
             name: Vec::new(alloc),
+            words: String::new(alloc),
             input: Vec::new(alloc),
             printed: Vec::new(alloc),
             told: Vec::new(alloc),
@@ -107,6 +124,7 @@ impl Row {
 
     fn clear(&mut self) {
         self.name.clear();
+        self.words.clear();
         self.input.clear();
         self.printed.clear();
         self.told.clear();
@@ -120,15 +138,18 @@ impl Row {
         };
         let text = text.strip_prefix(b" ".as_slice()).unwrap_or(text);
         match *mark {
-            b'#' => self.name.extend_from_slice(text)?,
-            b'<' => self.put_line(text)?,
-            b'+' => self.put_part(text)?,
-            b'>' => put_fed(&mut self.printed, text)?,
-            b'!' => put_fed(&mut self.told, text)?,
-            b'-' => self.put_bad(subject, text)?,
-            b'=' | b'|' => {}
-            _ => self.put_bad(subject, line)?,
-        }
+            b'#' => self.name.extend_from_slice(text),
+            b'$' => self
+                .words
+                .push_str(str::from_utf8(text).unwrap_or_default()),
+            b'<' => self.put_line(text),
+            b'+' => self.put_part(text),
+            b'>' => put_fed(&mut self.printed, text),
+            b'!' => put_fed(&mut self.told, text),
+            b'-' => self.put_bad(subject, text),
+            b'=' | b'|' => Ok(()),
+            _ => self.put_bad(subject, line),
+        }?;
         Ok(status_at(*mark, text))
     }
 
@@ -170,7 +191,7 @@ fn status_at(mark: u8, text: &[u8]) -> Option<u8> {
     match (mark, text) {
         (b'=', [digit]) => Some(digit.wrapping_sub(b'0')),
         (b'-', _) => Some(2),
-        (b'#' | b'<' | b'+' | b'>' | b'!' | b'|', _) => None,
+        (b'#' | b'$' | b'<' | b'+' | b'>' | b'!' | b'|', _) => None,
         _ => Some(u8::MAX),
     }
 }
