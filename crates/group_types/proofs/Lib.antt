@@ -13,4 +13,11 @@ pub mod Lookups
 pub mod PastLemmas
 pub mod GrantLemmas
 pub mod Soundness
+pub mod Stored
+pub mod Settlings
+pub mod Renewals
+pub mod TakeOvers
+pub mod Senders
+pub mod Drafts
+pub mod Heartbeats
 pub mod Commits

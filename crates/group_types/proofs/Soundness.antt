@@ -40,7 +40,7 @@ get-without t m p =
     finite.get-retain_keys t (λ q. not (owns t m q)) p (λ q same. ap (λ o. not (option_map_or (λ owner. bytes_eq owner m) o false)) (finite.get_tied partition_cmp_total t p q same))
 
 -- who owns a partition still is another, and owned it before
-found_owner : (t : Spread) (m a : Text) (p : Partition) → finite.get (without_owner t m) p ≡ Some a → (finite.get t p ≡ Some a) × (a ≢ m)
+pub found_owner : (t : Spread) (m a : Text) (p : Partition) → finite.get (without_owner t m) p ≡ Some a → (finite.get t p ≡ Some a) × (a ≢ m)
 found_owner t m a p is = without (finite.get t p) m a (sym (get-without t m p) ∙ is)
 
 other_owner : (o : Option Text) (m a : Text) → o ≡ Some a → a ≢ m → cond (not (option_map_or (λ owner. bytes_eq owner m) o false)) o None ≡ Some a
@@ -55,7 +55,7 @@ kept_owner : (t : Spread) (m a : Text) (p : Partition) → finite.get t p ≡ So
 kept_owner t m a p is other = get-without t m p ∙ other_owner (finite.get t p) m a is other
 
 -- who holds a partition still is another, and held it before
-still_holds : (grants : Grants) (m a : Text) (p : Partition) → IsTrue (has (grants_of_others grants m) (a, p)) → IsTrue (has grants (a, p)) × (a ≢ m)
+pub still_holds : (grants : Grants) (m a : Text) (p : Partition) → IsTrue (has (grants_of_others grants m) (a, p)) → IsTrue (has grants (a, p)) × (a ≢ m)
 still_holds grants m a p there = by (tie m a)
   where
     answer : (not (eq_by_cmp text_cmp m a) && has grants (a, p)) ≡ true
@@ -229,16 +229,16 @@ abbrev Leaves : Records → List (Text × Record) → Type 0
 Leaves records [] = Unit {0}
 Leaves records (e ∷ es) = (finite.get records e.0 ≡ Some e.1) × Differ e.0 es × Leaves records es
 
-first_part : (a b : Bool) → T (a && b) → T a
+pub first_part : (a b : Bool) → T (a && b) → T a
 first_part true b h = tt
 first_part false b h = absurd h
 
-second_part : (a b : Bool) → T (a && b) → T b
+pub second_part : (a b : Bool) → T (a && b) → T b
 second_part true b h = h
 second_part false b h = absurd h
 
 -- a key below another is another
-below_differs : (k n : Text) → T (is_lt (text_cmp k n)) → n ≢ k
+pub below_differs : (k n : Text) → T (is_lt (text_cmp k n)) → n ≢ k
 below_differs k n below same =
     subst (λ r. T (is_lt r)) (ap (text_cmp k) same ∙ text_cmp-itself k) below
 

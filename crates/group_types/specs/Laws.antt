@@ -13,7 +13,7 @@ use Rattle.group_types.specs.Commit.{Commit, CommitReply, CommitStep, refusal_of
 use Rattle.group_types.specs.Sound.{IsSound}
 use Rattle.group_types.specs.Request.{kind_of}
 use Rattle.group_types.specs.Checks.{Verdict, Overtaken, sender_of, verdict_on}
-use Rattle.group_types.specs.HeartbeatStep.{Replied, Closes, Reply, Arrival, HeartbeatStep}
+use Rattle.group_types.specs.HeartbeatStep.{Answer, Replied, Closes, Reply, Arrival, HeartbeatStep}
 
 -- what the checks of a heartbeat come to in a group
 abbrev pub verdict_in : Group → Arrival → Verdict
@@ -56,3 +56,8 @@ CommitsAreAtEpoch =
     (g : Group) (c : Commit) (epoch : ℕ)
     → c.epoch ≡ pos epoch → refusal_of_commit g.records c.member c.epoch ≡ None
     → (r : Record) × IsMember g c.member r × (r.epoch ≡ At epoch)
+
+-- a heartbeat leaves a sound group, whatever it is and whatever is answered
+abbrev pub HeartbeatsAreSound : Type 0
+HeartbeatsAreSound =
+    (g : Group) (a : Arrival) (answer : Answer) (new : Group) → HeartbeatStep g a answer new → IsSound g → IsSound new
