@@ -20,8 +20,7 @@ use Rattle.group_types.specs.Sound.{IsSound}
 use Rattle.group_types.proofs.Orders.{text_cmp_total}
 use Rattle.group_types.proofs.Lookups.{not_none}
 use Rattle.group_types.proofs.PastLemmas.{few_without, past_without}
-use Rattle.group_types.proofs.Stored.{IsFit, few_kept, put_is_sound, put_none}
-use Rattle.group_types.proofs.Settlings.{fit_as_before}
+use Rattle.group_types.proofs.Stored.{IsFit, few_kept, fit_as_before, put_is_sound, put_none}
 use Rattle.group_types.proofs.Senders.{named_fresh, named_own, no_other, other_is, own_is, own_none}
 
 -- ---- the epoch of a record

@@ -19,8 +19,8 @@ use Rattle.group_types.specs.Sound.{IsSound}
 use Rattle.group_types.specs.Laws.{HeartbeatsAreSound}
 use Rattle.group_types.proofs.Lookups.{Tie, ties, differs, tie, not_none, get-insert_other}
 use Rattle.group_types.proofs.Soundness.{gone_away_is_sound, left_is_sound}
-use Rattle.group_types.proofs.Stored.{kept_is_sound}
-use Rattle.group_types.proofs.Settlings.{fit_as_before, settled_is_sound}
+use Rattle.group_types.proofs.Stored.{fit_as_before, kept_is_sound}
+use Rattle.group_types.proofs.Settlings.{settled_is_sound}
 use Rattle.group_types.proofs.Renewals.{changed_is_sound, renewed_is_sound}
 use Rattle.group_types.proofs.TakeOvers.{taken_over_is_sound}
 use Rattle.group_types.proofs.Senders.{own_is}

@@ -1,63 +1,23 @@
 -- A member that is offered its target leaves a sound group.
-use Rattle.std.proofs.Common.{◌≡◌, ℕ, ◌≤◌, ◌==◌, Bool, true, false, cond, not, ◌&&◌, ◌||◌, List, [], ◌∷◌, Option, Some, None, is_some, IsTrue, refl, sym, ap, subst, ◌∙◌, arith, true≢false}
-use Rattle.std.specs.List.{list_any}
+use Rattle.std.proofs.Common.{◌≡◌, ℕ, ◌==◌, Bool, true, false, cond, ◌&&◌, ◌||◌, Option, Some, None, is_some, IsTrue, refl, sym, ap, subst, ◌∙◌, arith}
 use Rattle.std.specs.Ordering.{eq_by_cmp}
-use Rattle.std.specs.Cmp.{Equal-is, eq_by_cmp_equiv}
+use Rattle.std.specs.Cmp.{first_so, second_so}
 use Rattle.std.specs.FinMap as finite
 use Rattle.std.proofs.lemmas.Bool.Decides.{Decides-eqb}
 use Rattle.group_types.specs.declared.epoch.Epoch.{Epoch}
 use Rattle.group_types.specs.declared.epoch.Epoch.TheVariants.{At, Away}
 use Rattle.group_types.specs.declared.partition.Partition.{Partition}
 use Rattle.group_types.specs.Text.{Text, text_cmp}
-use Rattle.group_types.specs.Sets.{has, in_order}
-use Rattle.group_types.specs.Partition.{partition_cmp, Partitions}
-use Rattle.group_types.specs.Group.{Record, Grant, Grants, Group, grant_cmp, wanted}
+use Rattle.group_types.specs.Sets.{has}
+use Rattle.group_types.specs.Partition.{Partitions}
+use Rattle.group_types.specs.Group.{Record, Grants, Group, wanted}
 use Rattle.group_types.specs.Leave.{last_epoch, last_epoch_at}
 use Rattle.group_types.specs.Settle.{is_free_for, moved, arrived, asked, may_settle, settled_by, settled}
 use Rattle.group_types.specs.Sound.{IsSound}
-use Rattle.group_types.proofs.Orders.{partition_cmp_total}
-use Rattle.group_types.proofs.SetLemmas.{has-in_order}
 use Rattle.group_types.proofs.SpreadLemmas.{has-share_of, owns-get}
-use Rattle.group_types.proofs.GrantLemmas.{grant_cmp-IsAntisymmetric, has-moved}
+use Rattle.group_types.proofs.GrantLemmas.{free_is, has-moved}
 use Rattle.group_types.proofs.Lookups.{Tie, ties, differs, tie, text_ties, not_none}
-use Rattle.group_types.proofs.Stored.{IsFit, kept_is_sound}
-
--- ---- on truth values
-
-first : (a b : Bool) → (a && b) ≡ true → a ≡ true
-first true b so = refl
-first false b so = absurd (true≢false (sym so))
-
-second : (a b : Bool) → (a && b) ≡ true → b ≡ true
-second true b so = so
-second false b so = absurd (true≢false (sym so))
-
--- ---- a partition that is free
-
--- a test of pairs is met by some where a pair meets it
-met : (f : Grant → Bool) (k : Grant) (ks : List Grant) → f k ≡ true → list_any (eq_by_cmp grant_cmp k) ks ≡ true → list_any f ks ≡ true
-met f k [] so there = there
-met f k (g ∷ ks) so there = at (met f k ks so) (eq_by_cmp grant_cmp k g) refl there
-  where
-    either : (b : Bool) → (b || true) ≡ true
-    either true = refl
-    either false = refl
-
-    at : (list_any (eq_by_cmp grant_cmp k) ks ≡ true → list_any f ks ≡ true) → (t : Bool) → eq_by_cmp grant_cmp k g ≡ t → (t || list_any (eq_by_cmp grant_cmp k) ks) ≡ true → (f g || list_any f ks) ≡ true
-    at rest true same there = ap (λ b. b || list_any f ks) (ap f (sym (grant_cmp-IsAntisymmetric k g ((Equal-is (grant_cmp k g)).0 same))) ∙ so)
-    at rest false same there = ap (λ b. f g || b) (rest there) ∙ either (f g)
-
--- who holds a free partition is the member itself
-pub free_is : (grants : Grants) (m : Text) (p : Partition) → is_free_for grants m p ≡ true → (n : Text) → IsTrue (has grants (n, p)) → n ≡ m
-free_is grants m p free n holds = by (tie m n)
-  where
-    by : Tie m n → n ≡ m
-    by (ties same) = sym same
-    by (differs other apart) =
-        let meets : (eq_by_cmp partition_cmp p p && not (eq_by_cmp text_cmp m n)) ≡ true = (λ i. (eq_by_cmp_equiv partition_cmp_total).refl p i && not (apart i)) in
-        let taken : list_any (λ (g : Grant). eq_by_cmp partition_cmp p g.1 && not (eq_by_cmp text_cmp m g.0)) (in_order grants) ≡ true =
-        met (λ (g : Grant). eq_by_cmp partition_cmp p g.1 && not (eq_by_cmp text_cmp m g.0)) (n, p) (in_order grants) meets (sym (has-in_order grants (n, p)) ∙ holds) in
-        absurd (true≢false (sym free ∙ ap not taken))
+use Rattle.group_types.proofs.Stored.{fit_as_before, kept_is_sound}
 
 -- ---- the grants of a member that moved
 
@@ -81,11 +41,11 @@ module _ (g : Group) (sound : IsSound g) (m : Text) (r : Record) (kept : finite.
   -- what it holds is of its target
   pub moved_within : (p : Partition) → IsTrue (has Moved (m, p)) → finite.get g.target p ≡ Some m
   moved_within p holds =
-      (owns-get g.target m p).0 (sym (has-share_of g.target m p) ∙ first (has Part p) _ (sym (moved_own p) ∙ holds))
+      (owns-get g.target m p).0 (sym (has-share_of g.target m p) ∙ first_so (has Part p) _ (sym (moved_own p) ∙ holds))
 
   -- nobody else held it
   moved_gets : (p : Partition) → IsTrue (has Moved (m, p)) → (n : Text) → IsTrue (has g.grants (n, p)) → n ≡ m
-  moved_gets p there n holds = by (has g.grants (m, p)) refl (second (has Part p) _ (sym (moved_own p) ∙ there))
+  moved_gets p there n holds = by (has g.grants (m, p)) refl (second_so (has Part p) _ (sym (moved_own p) ∙ there))
     where
       by : (b : Bool) → has g.grants (m, p) ≡ b → (b || is_free_for g.grants m p) ≡ true → n ≡ m
       by true own so = sound.one_holder n m p holds own
@@ -158,17 +118,6 @@ asked_epoch r (Some deadline) now = refl
 asked_instance : (r : Record) (o : Option ℕ) (now : ℕ) → (asked r o now).instance ≡ r.instance
 asked_instance r None now = refl
 asked_instance r (Some deadline) now = refl
-
--- a record with the epoch and the instance of the one that was there
-pub fit_as_before : (g : Group) → IsSound g → (m : Text) (r after : Record) → finite.get g.records m ≡ Some r
-    → last_epoch after ≡ last_epoch r → after.instance ≡ r.instance → IsFit g m after
-fit_as_before g sound m r after kept same_epoch same_instance =
-    record {
-      id = λ is. not_none r (sym sound.named ∙ ap (finite.get g.records) (sym is) ∙ kept);
-      epoch = subst (λ e. e ≤ g.target_epoch) (sym same_epoch) (sound.epochs m r kept);
-      settled = λ p same holds. sound.settled m r p kept (sym same_epoch ∙ same) holds;
-      instance = λ n s i other there is also. other (sound.instances n m s r i there kept also (sym same_instance ∙ is));
-    }
 
 -- ---- the settling
 

@@ -19,6 +19,17 @@ pub record IsFit (g : Group) (m : Text) (after : Record) : Type 0 where
   pub settled : (p : Partition) → last_epoch after ≡ g.target_epoch → IsTrue (has g.grants (m, p)) → finite.get g.target p ≡ Some m
   pub instance : (n : Text) (s : Record) (i : Text) → n ≢ m → finite.get g.records n ≡ Some s → after.instance ≡ Some i → s.instance ≡ Some i → ⊥
 
+-- a record with the epoch and the instance of the one that was there
+pub fit_as_before : (g : Group) → IsSound g → (m : Text) (r after : Record) → finite.get g.records m ≡ Some r
+    → last_epoch after ≡ last_epoch r → after.instance ≡ r.instance → IsFit g m after
+fit_as_before g sound m r after kept same_epoch same_instance =
+    record {
+      id = λ is. not_none r (sym sound.named ∙ ap (finite.get g.records) (sym is) ∙ kept);
+      epoch = subst (λ e. e ≤ g.target_epoch) (sym same_epoch) (sound.epochs m r kept);
+      settled = λ p same holds. sound.settled m r p kept (sym same_epoch ∙ same) holds;
+      instance = λ n s i other there is also. other (sound.instances n m s r i there kept also (sym same_instance ∙ is));
+    }
+
 module _ (g : Group) (sound : IsSound g) (m : Text) (after : Record) (fit : IsFit g m after) where
   abbrev pub Put : Records
   Put = finite.insert g.records m after

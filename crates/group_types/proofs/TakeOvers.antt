@@ -1,44 +1,29 @@
 -- A member that takes over leaves a sound group: it has all that the former id had.
-use Rattle.std.proofs.Common.{◌≡◌, ◌≢◌, ◌≤◌, ◌+◌, ◌-◌, Bool, true, false, cond, ◌&&◌, ◌||◌, List, [], ◌∷◌, map, Option, Some, None, is_some, IsTrue, refl, sym, ap, subst, ◌∙◌, arith, true≢false}
+use Rattle.std.proofs.Common.{◌≡◌, ◌≢◌, ◌≤◌, ◌+◌, ◌-◌, Bool, true, false, cond, ◌&&◌, ◌||◌, [], Option, Some, None, is_some, IsTrue, refl, sym, ap, subst, ◌∙◌, arith, true≢false}
 use Rattle.std.specs.Option.{option_map}
 use Rattle.std.specs.Ordering.{eq_by_cmp}
 use Rattle.std.specs.Str.{bytes_eq}
 use Rattle.std.specs.FinMap as finite
-use Rattle.std.specs.FinMap.Entries.{find}
 use Rattle.std.proofs.lemmas.Slice.Eq.{bytes_eq-Decides}
 use Rattle.group_types.specs.declared.partition.Partition.{Partition}
 use Rattle.group_types.specs.declared.stamp.Stamp.{Stamp}
 use Rattle.group_types.specs.Text.{Text, text_cmp}
 use Rattle.group_types.specs.Sets.{has, in_order}
-use Rattle.group_types.specs.Partition.{partition_cmp}
-use Rattle.group_types.specs.Owners.{Spread, renamed, renamed_id}
+use Rattle.group_types.specs.Owners.{renamed, renamed_id}
 use Rattle.group_types.specs.Group.{Record, Records, Grants, Target, Group, held}
 use Rattle.group_types.specs.Members.{members_of, taken_over, with_members, without_past}
 use Rattle.group_types.specs.Leave.{last_epoch}
 use Rattle.group_types.specs.Settle.{granting, grants_of_others}
 use Rattle.group_types.specs.Sound.{IsSound}
-use Rattle.group_types.proofs.Orders.{partition_cmp_total, text_cmp_total}
+use Rattle.group_types.proofs.Orders.{text_cmp_total}
 use Rattle.group_types.proofs.SetLemmas.{has-in_order}
+use Rattle.group_types.proofs.SpreadLemmas.{get-renamed}
 use Rattle.group_types.proofs.GrantLemmas.{has-granting, has-held}
 use Rattle.group_types.proofs.Lookups.{Tie, ties, differs, tie, text_ties, not_none, some_is, found_without, none_without, removed_is_none, has_other, Found, this, another, found, get-inserted, get-insert_other}
 use Rattle.group_types.proofs.PastLemmas.{few_remembered, not_past, past_remembering, past_without, stamp_without}
 use Rattle.group_types.proofs.Soundness.{still_holds}
 
 -- ---- the owners under another id
-
-find-renamed : (f : Text → Text) (es : List (Partition × Text)) (p : Partition) → find partition_cmp p (map (λ e. (e.0, f e.1)) es) ≡ option_map f (find partition_cmp p es)
-find-renamed f [] p = refl
-find-renamed f (e ∷ es) p =
-    elim (eq_by_cmp partition_cmp p e.0) as (λ b. cond b (Some (f e.1)) (find partition_cmp p (map (λ e. (e.0, f e.1)) es)) ≡ option_map f (cond b (Some e.1) (find partition_cmp p es))) [
-      | true ↦ refl
-      | false ↦ find-renamed f es p
-    ]
-
-get-renamed : (spread : Spread) (old new : Text) (p : Partition) → finite.get (renamed spread old new) p ≡ option_map (renamed_id old new) (finite.get spread p)
-get-renamed spread old new p =
-    finite.get-from_entries partition_cmp_total _ p
-    ∙ find-renamed (renamed_id old new) (finite.entries spread) p
-    ∙ ap (option_map (renamed_id old new)) (sym (finite.get-entries spread p))
 
 renamed_itself : (old new : Text) → renamed_id old new old ≡ new
 renamed_itself old new = ap (λ b. cond b new old) ((bytes_eq-Decides old old).1 refl)

@@ -1,5 +1,5 @@
 //! Laws of the machine's definitions, proved where nothing runs.
-ghost use Rattle.group_types.specs.Laws.{ClosesOnlyOvertaken, CommitsAreAtEpoch, CommitsAreSound, HeartbeatsAreSound, LeavesAreSound, RefusalsChangeNothing, TicksAreSound};
+ghost use Rattle.group_types.specs.Laws.{ClosesOnlyOvertaken, CommitsAreAtEpoch, CommitsAreSound, EveryGroupIsSound, HeartbeatsAreSound, LeavesAreSound, RefusalsChangeNothing, TicksAreSound};
 ghost use Rattle.group_types.specs.Limits.{ConstantsAreTheLimits};
 
 /// Each constant of the code is the literal that the definitions cite.
@@ -40,4 +40,9 @@ pub fn commits_are_sound()
 /// A member's commit is taken at its present epoch alone.
 pub fn commits_are_at_epoch()
     ensures { CommitsAreAtEpoch }
+{}
+
+/// Whatever came to a group since it was new, it is sound: no two members hold one partition, among others.
+pub fn every_group_is_sound()
+    ensures { EveryGroupIsSound }
 {}
