@@ -25,7 +25,7 @@ module _ (g : Group) (sound : IsSound g) (m : Text) (r : Record) (kept : finite.
   abbrev Part : Partitions
   Part = wanted g.target m
 
-  abbrev pub Moved : Grants
+  abbrev Moved : Grants
   Moved = moved g.grants m Part
 
   moved_other : (n : Text) (p : Partition) → eq_by_cmp text_cmp n m ≡ false → has Moved (n, p) ≡ has g.grants (n, p)
@@ -39,7 +39,7 @@ module _ (g : Group) (sound : IsSound g) (m : Text) (r : Record) (kept : finite.
       ∙ ap (λ b. cond b (has Part p && (has g.grants (m, p) || is_free_for g.grants m p)) (has g.grants (m, p))) (text_ties m)
 
   -- what it holds is of its target
-  pub moved_within : (p : Partition) → IsTrue (has Moved (m, p)) → finite.get g.target p ≡ Some m
+  moved_within : (p : Partition) → IsTrue (has Moved (m, p)) → finite.get g.target p ≡ Some m
   moved_within p holds =
       (owns-get g.target m p).0 (sym (has-share_of g.target m p) ∙ first_so (has Part p) _ (sym (moved_own p) ∙ holds))
 
@@ -63,7 +63,7 @@ module _ (g : Group) (sound : IsSound g) (m : Text) (r : Record) (kept : finite.
       by (differs a_not a_apart) (ties b_is) = moved_gets p (subst (λ k. IsTrue (has Moved (k, p))) b_is other) a (before a a_apart one) ∙ sym b_is
       by (differs a_not a_apart) (differs b_not b_apart) = sound.one_holder a b p (before a a_apart one) (before b b_apart other)
 
-  pub moved_is_sound : IsSound (record g { grants = Moved })
+  moved_is_sound : IsSound (record g { grants = Moved })
   moved_is_sound =
       record {
         one_holder = one_holder;

@@ -44,7 +44,7 @@ get-without t m p =
     finite.get-retain_keys t (λ q. not (owns t m q)) p (λ q same. ap (λ o. not (option_map_or (λ owner. bytes_eq owner m) o false)) (finite.get_tied partition_cmp_total t p q same))
 
 -- who owns a partition still is another, and owned it before
-pub found_owner : (t : Spread) (m a : Text) (p : Partition) → finite.get (without_owner t m) p ≡ Some a → (finite.get t p ≡ Some a) × (a ≢ m)
+found_owner : (t : Spread) (m a : Text) (p : Partition) → finite.get (without_owner t m) p ≡ Some a → (finite.get t p ≡ Some a) × (a ≢ m)
 found_owner t m a p is = without (finite.get t p) m a (sym (get-without t m p) ∙ is)
 
 other_owner : (o : Option Text) (m a : Text) → o ≡ Some a → a ≢ m → cond (not (option_map_or (λ owner. bytes_eq owner m) o false)) o None ≡ Some a

@@ -34,7 +34,7 @@ module _ (g : Group) (sound : IsSound g) (m : Text) (after : Record) (fit : IsFi
   abbrev pub Put : Records
   Put = finite.insert g.records m after
 
-  pub put_has : (a : Text) → IsTrue (finite.contains_key g.records a) → IsTrue (finite.contains_key Put a)
+  put_has : (a : Text) → IsTrue (finite.contains_key g.records a) → IsTrue (finite.contains_key Put a)
   put_has a there = by (tie a m)
     where
       by : Tie a m → IsTrue (finite.contains_key Put a)
