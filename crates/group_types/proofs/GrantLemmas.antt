@@ -1,5 +1,5 @@
 -- What members hold, by the pairs of the grants.
-use Rattle.std.proofs.Common.{◌≡◌, Bool, true, false, cond, not, ◌&&◌, ◌||◌, List, [], ◌∷◌, map, refl, sym, ap, ◌∙◌, Option, None, is_some}
+use Rattle.std.proofs.Common.{◌≡◌, Bool, true, false, cond, not, ◌&&◌, ◌||◌, List, [], ◌∷◌, map, refl, sym, ap, ◌∙◌, Option, None, is_some, IsTrue, true≢false}
 use Rattle.std.specs.declared.cmp.Ordering.{Ordering}
 use Rattle.std.specs.declared.cmp.Ordering.TheVariants.{Less, Equal, Greater}
 use Rattle.std.specs.List.{list_any, filter}
@@ -17,6 +17,7 @@ use Rattle.group_types.specs.Group.{Grant, Grants, grant_cmp, held}
 use Rattle.group_types.specs.Settle.{granting, grants_of_others, moved, is_free_for}
 use Rattle.group_types.proofs.Orders.{text_cmp_total, text_cmp-IsAntisymmetric, partition_cmp_total, partition_cmp-IsAntisymmetric}
 use Rattle.group_types.proofs.SetLemmas.{has-with_one, has-of_list, has-in_order}
+use Rattle.group_types.proofs.Lookups.{Tie, ties, differs, tie}
 
 pub grant_cmp_total : IsTotalOrder grant_cmp
 grant_cmp_total = then_total (on_total (λ g. g.0) text_cmp_total) (on_total (λ g. g.1) partition_cmp_total)
@@ -104,3 +105,30 @@ has-moved grants m target x q =
     ∙ (λ i. (eq_by_cmp text_cmp x m && listed i) || has-others grants m x q i)
     ∙ ap (λ b. (eq_by_cmp text_cmp x m && (has target q && test q)) || (not b && has grants (x, q))) ((eq_by_cmp_equiv text_cmp_total).symm m x)
     ∙ settled_bool (eq_by_cmp text_cmp x m) (has grants (m, q)) (has target q) (test q) (has grants (x, q))
+
+-- ---- a partition that is free
+
+-- a test of pairs is met by some where a pair meets it
+met : (f : Grant → Bool) (k : Grant) (ks : List Grant) → f k ≡ true → list_any (eq_by_cmp grant_cmp k) ks ≡ true → list_any f ks ≡ true
+met f k [] so there = there
+met f k (g ∷ ks) so there = at (met f k ks so) (eq_by_cmp grant_cmp k g) refl there
+  where
+    either : (b : Bool) → (b || true) ≡ true
+    either true = refl
+    either false = refl
+
+    at : (list_any (eq_by_cmp grant_cmp k) ks ≡ true → list_any f ks ≡ true) → (t : Bool) → eq_by_cmp grant_cmp k g ≡ t → (t || list_any (eq_by_cmp grant_cmp k) ks) ≡ true → (f g || list_any f ks) ≡ true
+    at rest true same there = ap (λ b. b || list_any f ks) (ap f (sym (grant_cmp-IsAntisymmetric k g ((Equal-is (grant_cmp k g)).0 same))) ∙ so)
+    at rest false same there = ap (λ b. f g || b) (rest there) ∙ either (f g)
+
+-- who holds a free partition is the member itself
+pub free_is : (grants : Grants) (m : Text) (p : Partition) → is_free_for grants m p ≡ true → (n : Text) → IsTrue (has grants (n, p)) → n ≡ m
+free_is grants m p free n holds = by (tie m n)
+  where
+    by : Tie m n → n ≡ m
+    by (ties same) = sym same
+    by (differs other apart) =
+        let meets : (eq_by_cmp partition_cmp p p && not (eq_by_cmp text_cmp m n)) ≡ true = (λ i. (eq_by_cmp_equiv partition_cmp_total).refl p i && not (apart i)) in
+        let taken : list_any (λ (g : Grant). eq_by_cmp partition_cmp p g.1 && not (eq_by_cmp text_cmp m g.0)) (in_order grants) ≡ true =
+        met (λ (g : Grant). eq_by_cmp partition_cmp p g.1 && not (eq_by_cmp text_cmp m g.0)) (n, p) (in_order grants) meets (sym (has-in_order grants (n, p)) ∙ holds) in
+        absurd (true≢false (sym free ∙ ap not taken))

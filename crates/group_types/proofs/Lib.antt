@@ -12,5 +12,15 @@ pub mod Answering
 pub mod Lookups
 pub mod PastLemmas
 pub mod GrantLemmas
+pub mod Entries
+pub mod Stored
 pub mod Soundness
+pub mod Settlings
+pub mod TargetOwners
+pub mod Renewals
+pub mod TakeOvers
+pub mod Senders
+pub mod Drafts
+pub mod Heartbeats
+pub mod Runs
 pub mod Commits

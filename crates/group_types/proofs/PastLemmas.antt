@@ -1,5 +1,5 @@
 -- The ids of former members: what remembering one more keeps.
-use Rattle.std.proofs.Common.{◌≡◌, ◌≢◌, ℕ, zero, suc, ◌-◌, ◌≤◌, true, false, cond, [], ◌∷◌, ◌++◌, length, drop, Some, None, refl, sym, ap, ◌∙◌, arith}
+use Rattle.std.proofs.Common.{◌≡◌, ◌≢◌, ℕ, zero, suc, ◌-◌, ◌≤◌, true, false, cond, not, [], ◌∷◌, ◌++◌, length, drop, Some, None, refl, sym, ap, subst, ◌∙◌, arith}
 use Rattle.std.specs.Ordering.{eq_by_cmp}
 use Rattle.std.specs.FinMap as finite
 use Rattle.std.proofs.lemmas.List.{length-drop}
@@ -7,9 +7,9 @@ use Rattle.group_types.specs.Limits.{MOST_PAST_MEMBERS}
 use Rattle.group_types.specs.declared.stamp.Stamp.{Stamp}
 use Rattle.group_types.specs.Text.{Text, text_cmp}
 use Rattle.group_types.specs.Group.{Record, Records, Past}
-use Rattle.group_types.specs.Members.{past_stamp, remembering}
+use Rattle.group_types.specs.Members.{past_stamp, remembering, without_past}
 use Rattle.group_types.specs.Sound.{IsPast}
-use Rattle.group_types.proofs.Lookups.{Tie, ties, differs, tie, not_none}
+use Rattle.group_types.proofs.Lookups.{Tie, ties, differs, tie, text_ties, not_none}
 
 -- the first one is another, and the rest hasn't it
 first_differs : (past : Past) (e : Text × Stamp) (m : Text) → past_stamp (e ∷ past) m ≡ None → (eq_by_cmp text_cmp m e.0 ≡ false) × (past_stamp past m ≡ None)
@@ -65,3 +65,36 @@ few_remembered past m stamp =
     let all : Past = past ++ (m, stamp) ∷ [] in
     let long = length-drop (length all - MOST_PAST_MEMBERS) all in
     omega (arith, long)
+
+-- ---- an id that has a record again
+
+pub stamp_without : (past : Past) (m k : Text) → past_stamp past k ≡ None → past_stamp (without_past past m) k ≡ None
+stamp_without [] m k none = none
+stamp_without (e ∷ past) m k none =
+    let there = first_differs past e k none in
+    let rest = stamp_without past m k there.1 in
+    elim (eq_by_cmp text_cmp m e.0) as (λ b. past_stamp (cond (not b) (e ∷ without_past past m) (without_past past m)) k ≡ None) [
+      | true ↦ rest
+      | false ↦ ap (λ b. cond b (Some e.1) (past_stamp (without_past past m) k)) there.0 ∙ rest
+    ]
+
+pub past_without : (records new : Records) (past : Past) (m : Text) → ((k : Text) → k ≢ m → finite.get records k ≡ None → finite.get new k ≡ None)
+    → IsPast records past → IsPast new (without_past past m)
+past_without records new [] m none is = tt
+past_without records new (e ∷ past) m none is = by (past_without records new past m none is.3) (tie m e.0)
+  where
+    by : IsPast new (without_past past m) → Tie m e.0 → IsPast new (without_past (e ∷ past) m)
+    by rest (ties same) =
+        subst (λ b. IsPast new (cond (not b) (e ∷ without_past past m) (without_past past m))) (sym (sym (ap (eq_by_cmp text_cmp m) same) ∙ text_ties m)) rest
+    by rest (differs other apart) =
+        subst (λ b. IsPast new (cond (not b) (e ∷ without_past past m) (without_past past m))) (sym apart)
+        (none e.0 (λ same. other (sym same)) is.0, is.1, stamp_without past m e.0 is.2, rest)
+
+pub few_without : (past : Past) (m : Text) → length (without_past past m) ≤ length past
+few_without [] m = omega arith
+few_without (e ∷ past) m =
+    let rest = few_without past m in
+    elim (eq_by_cmp text_cmp m e.0) as (λ b. length (cond (not b) (e ∷ without_past past m) (without_past past m)) ≤ suc (length past)) [
+      | true ↦ omega (arith, rest)
+      | false ↦ omega (arith, rest)
+    ]

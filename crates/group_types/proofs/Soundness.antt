@@ -1,11 +1,11 @@
 -- What keeps a group sound: members that leave, that go away, ticks and commits.
-use Rattle.std.proofs.Common.{◌≡◌, ◌≢◌, ℕ, ◌≤◌, ◌<◌, ◌+◌, ◌-◌, Bool, true, false, cond, not, ◌&&◌, nat_lt, if◌then◌else◌, List, [], ◌∷◌, Option, Some, None, is_some, IsTrue, refl, sym, ap, subst, ◌∙◌, arith, true≢false, max}
+use Rattle.std.proofs.Common.{◌≡◌, ◌≢◌, ℕ, ◌≤◌, ◌<◌, ◌+◌, ◌-◌, Bool, true, false, cond, not, ◌&&◌, nat_lt, if◌then◌else◌, List, [], ◌∷◌, Option, Some, None, IsTrue, refl, sym, ap, subst, ◌∙◌, arith, true≢false, max}
 use Rattle.std.specs.Option.{option_map_or}
 use Rattle.std.specs.Str.{bytes_eq}
-use Rattle.std.specs.List.{filter}
-use Rattle.std.specs.Ordering.{eq_by_cmp, is_lt}
+use Rattle.std.specs.List.{AllByRecursion, filter}
+use Rattle.std.specs.Ordering.{eq_by_cmp}
 use Rattle.std.specs.FinMap as finite
-use Rattle.std.specs.FinMap.Entries.{below_all, find, is_sorted}
+use Rattle.std.specs.FinMap.Entries.{below_all, is_sorted}
 use lib.Dec.{T}
 use Rattle.std.proofs.lemmas.Bool.Decides.{Decides-ltb}
 use Rattle.std.proofs.lemmas.Slice.Eq.{bytes_eq-Decides}
@@ -14,15 +14,19 @@ use Rattle.group_types.specs.declared.partition.Partition.{Partition}
 use Rattle.group_types.specs.declared.stamp.Stamp.{Stamp}
 use Rattle.group_types.specs.Text.{Text, text_cmp}
 use Rattle.group_types.specs.Sets.{has}
+use Rattle.group_types.specs.Topics.{Topics}
 use Rattle.group_types.specs.Owners.{Spread, owns, without_owner}
 use Rattle.group_types.specs.Group.{Record, Records, Grants, Offsets, Group}
 use Rattle.group_types.specs.Settle.{grants_of_others}
-use Rattle.group_types.specs.Leave.{risen, last_epoch, without_member, left, away, gone_away}
+use Rattle.group_types.specs.Leave.{risen, without_member, left, away, gone_away}
+use Rattle.group_types.specs.Commit.{Commit, CommitReply, CommitStep, offsets_after, refusal_of_commit}
 use Rattle.group_types.specs.Tick.{at_moment, due, expired, is_due, ticked, without_members}
 use Rattle.group_types.specs.Sound.{IsSound}
-use Rattle.group_types.proofs.Orders.{partition_cmp_total, text_cmp_total, text_cmp-itself}
+use Rattle.group_types.proofs.Orders.{partition_cmp_total, text_cmp_total}
+use Rattle.group_types.proofs.Entries.{below_differs, entries_found, first_part, second_part}
 use Rattle.group_types.proofs.GrantLemmas.{has-others}
-use Rattle.group_types.proofs.Lookups.{Tie, ties, differs, tie, text_ties, some_is, not_none, found_without, none_without, removed_is_none, has_other, Found, this, another, found, get-inserted, get-insert_other}
+use Rattle.group_types.proofs.Lookups.{Tie, ties, differs, tie, text_ties, some_is, not_none, found_without, none_without, removed_is_none, has_other}
+use Rattle.group_types.proofs.Stored.{fit_as_before, kept_is_sound}
 use Rattle.group_types.proofs.PastLemmas.{not_past, past_of_fewer, past_remembering, few_remembered}
 
 -- ---- the target and the grants without a member
@@ -55,7 +59,7 @@ kept_owner : (t : Spread) (m a : Text) (p : Partition) → finite.get t p ≡ So
 kept_owner t m a p is other = get-without t m p ∙ other_owner (finite.get t p) m a is other
 
 -- who holds a partition still is another, and held it before
-still_holds : (grants : Grants) (m a : Text) (p : Partition) → IsTrue (has (grants_of_others grants m) (a, p)) → IsTrue (has grants (a, p)) × (a ≢ m)
+pub still_holds : (grants : Grants) (m a : Text) (p : Partition) → IsTrue (has (grants_of_others grants m) (a, p)) → IsTrue (has grants (a, p)) × (a ≢ m)
 still_holds grants m a p there = by (tie m a)
   where
     answer : (not (eq_by_cmp text_cmp m a) && has grants (a, p)) ≡ true
@@ -103,8 +107,10 @@ pub clocked_is_sound : (g : Group) (now : ℕ) → IsSound g → IsSound (record
 clocked_is_sound g now sound = sound_with g g.epoch now g.offsets sound sound.target_epoch sound.epoch
 
 -- after a commit
-pub committed_is_sound : (g : Group) (offsets : Offsets) → IsSound g → IsSound (record g { offsets = offsets })
-committed_is_sound g offsets sound = sound_with g g.epoch g.clock offsets sound sound.target_epoch sound.epoch
+pub committed_is_sound : (g : Group) (c : Commit) (image : Topics) (reply : CommitReply) (new : Group) → CommitStep g c image reply new → IsSound g → IsSound new
+committed_is_sound g c image reply new step sound =
+    let offsets = offsets_after (refusal_of_commit g.records c.member c.epoch) g.offsets c image in
+    subst IsSound (sym step.stores) (sound_with g g.epoch g.clock offsets sound sound.target_epoch sound.epoch)
 
 -- ---- a member leaves
 
@@ -152,70 +158,15 @@ left_is_sound g sound m r kept stamp moment =
     let rises : Group = record clocked { epoch = risen g.epoch } in
     leaving_is_sound rises (risen_is_sound clocked (clocked_is_sound g (max g.clock moment) sound)) m r kept stamp
 
--- ---- a member goes away for a while, or another record comes under an id that has one
-
-module _ (g : Group) (sound : IsSound g) (m : Text) (r after : Record) (kept : finite.get g.records m ≡ Some r)
-    (same_epoch : last_epoch after ≡ last_epoch r) (same_instance : after.instance ≡ r.instance) where
-  abbrev Stored : Records
-  Stored = finite.insert g.records m after
-
-  -- what is found is the record that was there, up to what isn't looked at
-  before : (a : Text) (s : Record) → finite.get Stored a ≡ Some s → (was : Record) × (finite.get g.records a ≡ Some was) × (last_epoch s ≡ last_epoch was) × (s.instance ≡ was.instance)
-  before a s there = by (found g.records m after a s there)
-    where
-      by : Found g.records m after a s → (was : Record) × (finite.get g.records a ≡ Some was) × (last_epoch s ≡ last_epoch was) × (s.instance ≡ was.instance)
-      by (this same is) = (
-        r,
-        ap (finite.get g.records) same ∙ kept,
-        ap last_epoch is ∙ same_epoch,
-        ap (λ (x : Record). x.instance) is ∙ same_instance,
-      )
-      by (another other apart was) = (s, was, refl, refl)
-
-  still_there : (a : Text) → IsTrue (finite.contains_key g.records a) → IsTrue (finite.contains_key Stored a)
-  still_there a there = by (tie a m)
-    where
-      by : Tie a m → IsTrue (finite.contains_key Stored a)
-      by (ties same) = ap (λ t. is_some (finite.get Stored t)) same ∙ ap is_some (get-inserted g.records m after)
-      by (differs other apart) = ap is_some (get-insert_other g.records m after a apart) ∙ there
-
-  still_none : (a : Text) → finite.get g.records a ≡ None → finite.get Stored a ≡ None
-  still_none a none = by (tie a m)
-    where
-      by : Tie a m → finite.get Stored a ≡ None
-      by (ties same) = absurd (not_none r (sym none ∙ ap (finite.get g.records) same ∙ kept))
-      by (differs other apart) = get-insert_other g.records m after a apart ∙ none
-
-  as_many : finite.len Stored ≡ finite.len g.records
-  as_many =
-      finite.len-insert text_cmp_total g.records m after
-      ∙ ap (λ o. cond (is_some o) (finite.len g.records) (finite.len g.records + 1)) kept
-
-  pub stored_is_sound : (clock : ℕ) → IsSound (record g { clock = clock; records = Stored })
-  stored_is_sound clock =
-      record {
-        one_holder = sound.one_holder;
-        holders = λ a p holds. still_there a (sound.holders a p holds);
-        owners = λ a p owns. still_there a (sound.owners a p owns);
-        owned = sound.owned;
-        epochs = λ a s there. let was = before a s there in subst (λ e. e ≤ g.target_epoch) (sym was.2) (sound.epochs a was.0 was.1);
-        settled = λ a s p there same holds. let was = before a s there in sound.settled a was.0 p was.1 (sym was.2 ∙ same) holds;
-        target_epoch = sound.target_epoch;
-        epoch = sound.epoch;
-        instances = λ a b s t i one other is also.
-            let first = before a s one in
-            let second = before b t other in
-            sound.instances a b first.0 second.0 i first.1 second.1 (sym first.3 ∙ is) (sym second.3 ∙ also);
-        named = still_none [] sound.named;
-        past = past_of_fewer g.records Stored g.past still_none sound.past;
-        few_members = subst (λ n. n ≤ MOST_MEMBERS) (sym as_many) sound.few_members;
-        few_past = sound.few_past;
-      }
+-- ---- a member goes away for a while
 
 -- at member epoch -2
 pub gone_away_is_sound : (g : Group) → IsSound g → (m : Text) (r : Record) → finite.get g.records m ≡ Some r → (stamp : Stamp) (moment : ℕ) → IsSound (gone_away g m r stamp moment)
 gone_away_is_sound g sound m r kept stamp moment =
-    stored_is_sound g sound m r (away r stamp (max g.clock moment)) kept refl refl (max g.clock moment)
+    let now = max g.clock moment in
+    let clocked : Group = record g { clock = now } in
+    let is_sound = clocked_is_sound g now sound in
+    kept_is_sound clocked is_sound m (away r stamp now) (fit_as_before clocked is_sound m r (away r stamp now) kept refl refl) r kept
 
 -- ---- a tick
 
@@ -229,19 +180,6 @@ abbrev Leaves : Records → List (Text × Record) → Type 0
 Leaves records [] = Unit {0}
 Leaves records (e ∷ es) = (finite.get records e.0 ≡ Some e.1) × Differ e.0 es × Leaves records es
 
-first_part : (a b : Bool) → T (a && b) → T a
-first_part true b h = tt
-first_part false b h = absurd h
-
-second_part : (a b : Bool) → T (a && b) → T b
-second_part true b h = h
-second_part false b h = absurd h
-
--- a key below another is another
-below_differs : (k n : Text) → T (is_lt (text_cmp k n)) → n ≢ k
-below_differs k n below same =
-    subst (λ r. T (is_lt r)) (ap (text_cmp k) same ∙ text_cmp-itself k) below
-
 module _ (test : Text × Record → Bool) where
   differ_of_below : (k : Text) (es : List (Text × Record)) → T (below_all text_cmp k es) → Differ k (filter test es)
   differ_of_below k [] below = tt
@@ -252,30 +190,15 @@ module _ (test : Text × Record → Bool) where
       ]
 
   -- those of the sorted entries that pass
-  leaves_of_sorted : (records : Records) (es : List (Text × Record)) → T (is_sorted text_cmp es)
-      → ((q : Text) (x : Record) → find text_cmp q es ≡ Some x → finite.get records q ≡ Some x) → Leaves records (filter test es)
+  leaves_of_sorted : (records : Records) (es : List (Text × Record)) → T (is_sorted text_cmp es) → AllByRecursion (λ e. finite.get records e.0 ≡ Some e.1) es
+      → Leaves records (filter test es)
   leaves_of_sorted records [] sorted there = tt
   leaves_of_sorted records (e ∷ es) sorted there =
-      let first : finite.get records e.0 ≡ Some e.1 = there e.0 e.1 (ap (λ b. cond b (Some e.1) (find text_cmp e.0 es)) (text_ties e.0)) in
-      let rest : Leaves records (filter test es) = leaves_of_sorted records es (second_part _ _ sorted) (λ q x is. there q x (behind q x is (tie q e.0))) in
+      let rest : Leaves records (filter test es) = leaves_of_sorted records es (second_part _ _ sorted) there.1 in
       elim (test e) as (λ b. Leaves records (cond b (e ∷ filter test es) (filter test es))) [
-        | true ↦ (first, differ_of_below e.0 es (first_part _ _ sorted), rest)
+        | true ↦ (there.0, differ_of_below e.0 es (first_part _ _ sorted), rest)
         | false ↦ rest
       ]
-    where
-      nowhere : (xs : List (Text × Record)) → T (below_all text_cmp e.0 xs) → find text_cmp e.0 xs ≡ None
-      nowhere [] below = refl
-      nowhere (x ∷ xs) below =
-          ap (λ b. cond b (Some x.1) (find text_cmp e.0 xs)) (other (tie e.0 x.0) (below_differs e.0 x.0 (first_part _ _ below)))
-          ∙ nowhere xs (second_part _ _ below)
-        where
-          other : Tie e.0 x.0 → x.0 ≢ e.0 → eq_by_cmp text_cmp e.0 x.0 ≡ false
-          other (ties same) apart = absurd (apart (sym same))
-          other (differs _ so) apart = so
-
-      behind : (q : Text) (x : Record) → find text_cmp q es ≡ Some x → Tie q e.0 → find text_cmp q (e ∷ es) ≡ Some x
-      behind q x is (ties same) = absurd (not_none x (sym (ap (λ k. find text_cmp k es) same ∙ nowhere es (first_part _ _ sorted)) ∙ is))
-      behind q x is (differs other apart) = ap (λ b. cond b (Some e.1) (find text_cmp q es)) apart ∙ is
 
 leaves_after : (records : Records) (k : Text) (es : List (Text × Record)) → Differ k es → Leaves records es → Leaves (finite.remove records k) es
 leaves_after records k [] differ leaves = tt
@@ -305,5 +228,4 @@ pub ticked_is_sound : (g : Group) → IsSound g → (moment : ℕ) → IsSound (
 ticked_is_sound g sound moment =
     let now : Group = at_moment g moment in
     expired_is_sound (due now) now (clocked_is_sound g (max g.clock moment) sound)
-    (leaves_of_sorted (λ m. is_due now.clock m.1) g.records (finite.entries g.records) (finite.entries_sorted g.records)
-    (λ q x is. finite.get-entries g.records q ∙ is))
+    (leaves_of_sorted (λ m. is_due now.clock m.1) g.records (finite.entries g.records) (finite.entries_sorted g.records) (entries_found g.records))

@@ -1,14 +1,16 @@
 -- What a member owns, as a set.
-use Rattle.std.proofs.Common.{◌≡◌, ◌↔◌, Bool, true, false, cond, IsTrue, Option, Some, None, MatchOption, refl, sym, ap, ◌∙◌, true≢false}
+use Rattle.std.proofs.Common.{◌≡◌, ◌↔◌, Bool, true, false, cond, IsTrue, Option, Some, None, MatchOption, List, [], ◌∷◌, map, refl, sym, ap, ◌∙◌, true≢false}
 use Rattle.std.specs.Option.{is_some, option_map, option_map_or, unwrap_or}
+use Rattle.std.specs.Ordering.{eq_by_cmp}
 use Rattle.std.specs.Str.{bytes_eq}
 use Rattle.std.specs.FinMap as finite
+use Rattle.std.specs.FinMap.Entries.{find}
 use Rattle.std.proofs.lemmas.Slice.Eq.{bytes_eq-Decides}
 use Rattle.group_types.specs.declared.partition.Partition.{Partition}
 use Rattle.group_types.specs.Text.{Text}
 use Rattle.group_types.specs.Sets.{nothing, has}
 use Rattle.group_types.specs.Partition.{partition_cmp, Partitions}
-use Rattle.group_types.specs.Owners.{Spread, IsShare, owns, share_of}
+use Rattle.group_types.specs.Owners.{Spread, IsShare, owns, renamed, renamed_id, share_of}
 use Rattle.group_types.proofs.Orders.{partition_cmp_total, partition_cmp-IsAntisymmetric}
 use Rattle.group_types.proofs.SetLemmas.{has-of_list, has-nothing, same_set}
 
@@ -55,3 +57,19 @@ share-is set_of spread id None none =
 share-is set_of spread id (Some a) is =
     same_set partition_cmp_total partition_cmp-IsAntisymmetric (set_of a) (share_of spread id)
     (λ q. same_truth (has (set_of a) q) (owns spread id q) (finite.get spread q ≡ Some id) (is q) (owns-get spread id q) ∙ sym (has-share_of spread id q))
+
+-- ---- the owners once one of them has another id
+
+find-renamed : (f : Text → Text) (es : List (Partition × Text)) (p : Partition) → find partition_cmp p (map (λ e. (e.0, f e.1)) es) ≡ option_map f (find partition_cmp p es)
+find-renamed f [] p = refl
+find-renamed f (e ∷ es) p =
+    elim (eq_by_cmp partition_cmp p e.0) as (λ b. cond b (Some (f e.1)) (find partition_cmp p (map (λ e. (e.0, f e.1)) es)) ≡ option_map f (cond b (Some e.1) (find partition_cmp p es))) [
+      | true ↦ refl
+      | false ↦ find-renamed f es p
+    ]
+
+pub get-renamed : (spread : Spread) (old new : Text) (p : Partition) → finite.get (renamed spread old new) p ≡ option_map (renamed_id old new) (finite.get spread p)
+get-renamed spread old new p =
+    finite.get-from_entries partition_cmp_total _ p
+    ∙ find-renamed (renamed_id old new) (finite.entries spread) p
+    ∙ ap (option_map (renamed_id old new)) (sym (finite.get-entries spread p))

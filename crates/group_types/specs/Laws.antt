@@ -1,19 +1,20 @@
 -- What the definitions of the machine come to, whatever the group and the heartbeat.
-use Rattle.std.specs.Prelude.{◌≡◌, ◌≢◌, ℕ, pos, Some, None}
+use Rattle.std.specs.Prelude.{◌≡◌, ◌≢◌, ℕ, ◌≤◌, pos, List, [], ◌∷◌, Some, None}
 use Rattle.std.specs.FinMap as finite
 use Rattle.group_types.specs.declared.code.Code.TheVariants.{NoError}
 use Rattle.group_types.specs.declared.epoch.Epoch.TheVariants.{At}
 use Rattle.group_types.specs.declared.stamp.Stamp.{Stamp}
+use Rattle.group_types.specs.Limits.{GREATEST_EPOCH}
 use Rattle.group_types.specs.Text.{Text}
 use Rattle.group_types.specs.Topics.{Topics}
-use Rattle.group_types.specs.Group.{Record, Group}
+use Rattle.group_types.specs.Group.{Record, Group, starting_group}
 use Rattle.group_types.specs.Leave.{left, gone_away}
 use Rattle.group_types.specs.Tick.{ticked}
 use Rattle.group_types.specs.Commit.{Commit, CommitReply, CommitStep, refusal_of_commit}
 use Rattle.group_types.specs.Sound.{IsSound}
 use Rattle.group_types.specs.Request.{kind_of}
 use Rattle.group_types.specs.Checks.{Verdict, Overtaken, sender_of, verdict_on}
-use Rattle.group_types.specs.HeartbeatStep.{Replied, Closes, Reply, Arrival, HeartbeatStep}
+use Rattle.group_types.specs.HeartbeatStep.{Answer, Replied, Closes, Reply, Arrival, HeartbeatStep}
 
 -- what the checks of a heartbeat come to in a group
 abbrev pub verdict_in : Group → Arrival → Verdict
@@ -56,3 +57,32 @@ CommitsAreAtEpoch =
     (g : Group) (c : Commit) (epoch : ℕ)
     → c.epoch ≡ pos epoch → refusal_of_commit g.records c.member c.epoch ≡ None
     → (r : Record) × IsMember g c.member r × (r.epoch ≡ At epoch)
+
+-- a heartbeat leaves a sound group, whatever it is and whatever is answered
+abbrev pub HeartbeatsAreSound : Type 0
+HeartbeatsAreSound =
+    (g : Group) (a : Arrival) (answer : Answer) (new : Group) → HeartbeatStep g a answer new → IsSound g → IsSound new
+
+-- ---- all that comes to a group
+
+-- one heartbeat, tick or commit, with its answer where it has one
+pub data GroupEvent : Type 0 where
+  OfHeartbeat : Arrival → Answer → GroupEvent
+  OfTick : ℕ → GroupEvent
+  OfCommit : Commit → Topics → CommitReply → GroupEvent
+
+abbrev pub IsGroupStep : Group → GroupEvent → Group → Type 0
+IsGroupStep g (OfHeartbeat a answer) new = HeartbeatStep g a answer new
+IsGroupStep g (OfTick moment) new = new ≡ ticked g moment
+IsGroupStep g (OfCommit c image reply) new = CommitStep g c image reply new
+
+-- one event after the other
+abbrev pub IsGroupRun : Group → List GroupEvent → Group → Type 0
+IsGroupRun g [] new = new ≡ g
+IsGroupRun g (event ∷ events) new = (next : Group) × IsGroupStep g event next × IsGroupRun next events new
+
+-- whatever came to a group since it was new, it is sound
+abbrev pub EveryGroupIsSound : Type 0
+EveryGroupIsSound =
+    (salt epoch : ℕ) → epoch ≤ GREATEST_EPOCH
+    → (events : List GroupEvent) (g : Group) → IsGroupRun (starting_group salt epoch) events g → IsSound g

@@ -23,7 +23,8 @@ pub use code::Code;
 pub use epoch::{Epoch, EpochNumber};
 pub use laws::{
     closes_only_overtaken, commits_are_at_epoch, commits_are_sound, constants_are_the_limits,
-    leaves_are_sound, refusals_change_nothing, ticks_are_sound,
+    every_group_is_sound, heartbeats_are_sound, leaves_are_sound, refusals_change_nothing,
+    ticks_are_sound,
 };
 pub use member_id::{MemberId, made_ids_differ};
 pub use moment::Moment;

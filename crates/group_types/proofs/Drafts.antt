@@ -1,0 +1,158 @@
+-- A draft of a sound group is sound: the record of a member that joins, rejoins, takes over or beats is put in.
+use Rattle.std.proofs.Common.{◌≡◌, ◌≢◌, ℕ, ◌≤◌, ◌+◌, false, cond, [], nat_le, Option, Some, None, is_some, IsTrue, refl, sym, ap, subst, ◌∙◌, arith, true≢false}
+use Rattle.std.specs.FinMap as finite
+use Rattle.std.proofs.lemmas.Bool.{leb-false}
+use Rattle.group_types.specs.Limits.{MOST_MEMBERS}
+use Rattle.group_types.specs.declared.epoch.Epoch.{Epoch}
+use Rattle.group_types.specs.declared.epoch.Epoch.TheVariants.{At, Away}
+use Rattle.group_types.specs.declared.partition.Partition.{Partition}
+use Rattle.group_types.specs.declared.stamp.Stamp.{Stamp}
+use Rattle.group_types.specs.Text.{Text}
+use Rattle.group_types.specs.Sets.{has}
+use Rattle.group_types.specs.Request.{Heartbeat}
+use Rattle.group_types.specs.Group.{Record, Group}
+use Rattle.group_types.specs.Members.{without_past}
+use Rattle.group_types.specs.Leave.{last_epoch, last_epoch_at}
+use Rattle.group_types.specs.Join.{Name, IsNamed, joined, record_of_beat, record_of_join, returned, returned_at, updated}
+use Rattle.group_types.specs.Checks.{Member, is_too_many, is_unreleased, other_with, record_under}
+use Rattle.group_types.specs.HeartbeatStep.{Draft, Heir, draft_of_beat, draft_of_join}
+use Rattle.group_types.specs.Sound.{IsSound}
+use Rattle.group_types.proofs.Orders.{text_cmp_total}
+use Rattle.group_types.proofs.Lookups.{not_none}
+use Rattle.group_types.proofs.PastLemmas.{few_without, past_without}
+use Rattle.group_types.proofs.Stored.{IsFit, few_kept, fit_as_before, put_is_sound, put_none}
+use Rattle.group_types.proofs.Senders.{named_fresh, named_own, no_other, other_is, own_is, own_none}
+
+-- ---- the epoch of a record
+
+pub same_last_epoch : (e : Epoch) (r s : Record) → r.previous_epoch ≡ s.previous_epoch → last_epoch_at e r ≡ last_epoch_at e s
+same_last_epoch (At e) r s same = refl
+same_last_epoch Away r s same = same
+
+returned_epoch : (r : Record) (e : Epoch) → r.epoch ≡ e → last_epoch (returned_at e r) ≡ last_epoch r
+returned_epoch r (At e) is = refl
+returned_epoch r Away is = sym (ap (λ x. last_epoch_at x r) is)
+
+module _ (r : Record) (q : Heartbeat) (stamp : Stamp) (now : ℕ) where
+  beat_epoch : last_epoch (record_of_beat r q stamp now) ≡ last_epoch r
+  beat_epoch = same_last_epoch r.epoch (record_of_beat r q stamp now) r refl
+
+  join_epoch : last_epoch (record_of_join (Some r) q stamp now) ≡ last_epoch r
+  join_epoch =
+      same_last_epoch (returned r).epoch (joined (updated (returned r) q stamp now) q.instance) (returned r) refl
+      ∙ returned_epoch r r.epoch refl
+
+-- ---- a record is put in
+
+module _ (g : Group) (sound : IsSound g) (m : Text) (after : Record) (fit : IsFit g m after) (few : finite.len (finite.insert g.records m after) ≤ MOST_MEMBERS) where
+  pub drafted_is_sound : (clock serial : ℕ) → IsSound (record g { records = finite.insert g.records m after; past = without_past g.past m; clock = clock; serial = serial })
+  drafted_is_sound =
+      put_is_sound g sound m after fit few (without_past g.past m)
+      (past_without g.records (finite.insert g.records m after) g.past m (put_none g sound m after fit) sound.past)
+      (let fewer = few_without g.past m in let most = sound.few_past in omega (arith, fewer, most))
+
+-- who takes over has no record, under an id that isn't empty
+abbrev pub IsHeir : Group → Option Heir → Type 0
+IsHeir g None = Unit {0}
+IsHeir g (Some heir) = (finite.get g.records heir.id ≡ None) × (heir.id ≢ [])
+
+-- a draft on which the change, the renewal and the settling can go on
+pub record IsReady (g : Group) (d : Draft) : Type 0 where
+  pub sound : IsSound d.group
+  pub epoch : d.group.epoch ≡ g.epoch
+  pub heir : IsHeir d.group d.heir
+
+pub beat_is_ready : (g : Group) → IsSound g → (now : ℕ) (r : Record) (q : Heartbeat) (stamp : Stamp) → finite.get g.records q.member ≡ Some r
+    → IsReady g (draft_of_beat g now r q stamp)
+beat_is_ready g sound now r q stamp kept =
+    let after = record_of_beat r q stamp now in
+    let fit = fit_as_before g sound q.member r after kept (beat_epoch r q stamp now) refl in
+    record {
+      sound = drafted_is_sound g sound q.member after fit (few_kept g sound q.member after fit r kept) now g.serial;
+      epoch = refl;
+      heir = tt;
+    }
+
+-- ---- a join
+
+module _ (g : Group) (sound : IsSound g) (now : ℕ) (q : Heartbeat) (stamp : Stamp) (name : Name) where
+  -- a new member
+  module _ (is_new : finite.get g.records name.id ≡ None) (has_id : name.id ≢ []) where
+    holds_nothing : (p : Partition) → IsTrue (has g.grants (name.id, p)) → ⊥
+    holds_nothing p holds = true≢false (sym (sound.holders name.id p holds) ∙ ap is_some is_new)
+
+    new_is_fit : (own_none : finite.get g.records q.member ≡ None) → other_with g.records q.member q.instance ≡ None → IsFit g name.id (record_of_join None q stamp now)
+    new_is_fit own_none none =
+        record {
+          id = has_id;
+          epoch = omega arith;
+          settled = λ p same holds. absurd (holds_nothing p holds);
+          instance = λ n s i other there is also.
+              no_other g.records q.member q.instance none n s i (λ same. not_none s (sym own_none ∙ ap (finite.get g.records) (sym same) ∙ there)) there is also;
+        }
+
+    few_with_new : nat_le MOST_MEMBERS (finite.len g.records) ≡ false → finite.len (finite.insert g.records name.id (record_of_join None q stamp now)) ≤ MOST_MEMBERS
+    few_with_new room =
+        let below = leb-false MOST_MEMBERS (finite.len g.records) room in
+        let more : finite.len (finite.insert g.records name.id (record_of_join None q stamp now)) ≡ finite.len g.records + 1 =
+        finite.len-insert text_cmp_total g.records name.id (record_of_join None q stamp now)
+        ∙ ap (λ o. cond (is_some o) (finite.len g.records) (finite.len g.records + 1)) is_new in
+        omega (arith, below, more)
+
+  -- the member has a record already
+  rejoin_is_fit : (r : Record) → finite.get g.records q.member ≡ Some r → other_with g.records q.member q.instance ≡ None → IsFit g q.member (record_of_join (Some r) q stamp now)
+  rejoin_is_fit r kept none =
+      record {
+        id = λ is. not_none r (sym sound.named ∙ ap (finite.get g.records) (sym is) ∙ kept);
+        epoch = subst (λ e. e ≤ g.target_epoch) (sym (join_epoch r q stamp now)) (sound.epochs q.member r kept);
+        settled = λ p same holds. sound.settled q.member r p kept (sym (join_epoch r q stamp now) ∙ same) holds;
+        instance = no_other g.records q.member q.instance none;
+      }
+
+  abbrev Drafted : Option Record → Option Member → Draft
+  Drafted own other = draft_of_join (record g { serial = name.next_serial }) now name.id own other q stamp
+
+  new_is_ready : finite.get g.records name.id ≡ None → name.id ≢ [] → finite.get g.records q.member ≡ None → other_with g.records q.member q.instance ≡ None
+      → nat_le MOST_MEMBERS (finite.len g.records) ≡ false → IsReady g (Drafted None None)
+  new_is_ready is_new has_id own_none none room =
+      record {
+        sound = drafted_is_sound g sound name.id (record_of_join None q stamp now) (new_is_fit is_new has_id own_none none) (few_with_new is_new has_id room) now name.next_serial;
+        epoch = refl;
+        heir = tt;
+      }
+
+  rejoin_is_ready : (r : Record) → finite.get g.records q.member ≡ Some r → name.id ≡ q.member → other_with g.records q.member q.instance ≡ None → (other : Option Member) → IsReady g (Drafted (Some r) other)
+  rejoin_is_ready r kept same none other =
+      let after = record_of_join (Some r) q stamp now in
+      let kept_so : finite.get g.records name.id ≡ Some r = ap (finite.get g.records) same ∙ kept in
+      let fit : IsFit g name.id after = subst (λ m. IsFit g m after) (sym same) (rejoin_is_fit r kept none) in
+      record {
+        sound = drafted_is_sound g sound name.id after fit (few_kept g sound name.id after fit r kept_so) now name.next_serial;
+        epoch = refl;
+        heir = tt;
+      }
+
+  take_over_is_ready : (old : Member) → finite.get g.records name.id ≡ None → name.id ≢ [] → other_with g.records q.member q.instance ≡ Some old → IsReady g (Drafted None (Some old))
+  take_over_is_ready old is_new has_id is =
+      let there = other_is g.records q.member q.instance old is in
+      let after = record_of_join (Some old.kept) q stamp now in
+      let fit = fit_as_before g sound old.id old.kept after there.0 (join_epoch old.kept q stamp now) (sym there.1) in
+      record {
+        sound = drafted_is_sound g sound old.id after fit (few_kept g sound old.id after fit old.kept there.0) now name.next_serial;
+        epoch = refl;
+        heir = (put_none g sound old.id after fit name.id (λ same. not_none old.kept (sym is_new ∙ ap (finite.get g.records) same ∙ there.0)) is_new, has_id);
+      }
+
+  -- by the sender
+  pub join_is_ready : IsNamed g q.member (Some name) → (own : Option Record) → record_under g.records q.member ≡ own
+      → (other : Option Member) → other_with g.records q.member q.instance ≡ other
+      → is_unreleased own other ≡ false → is_too_many own other (finite.len g.records) ≡ false → IsReady g (Drafted own other)
+  join_is_ready named None none None alone released room =
+      let fresh = named_fresh g q.member name named none in
+      new_is_ready fresh.0 fresh.1 (own_none g.records q.member sound.named none) alone room
+  join_is_ready named None none (Some old) is released room =
+      let fresh = named_fresh g q.member name named none in
+      take_over_is_ready old fresh.0 fresh.1 is
+  join_is_ready named (Some r) own None alone released room =
+      rejoin_is_ready r (own_is g.records q.member r own) (named_own g q.member name r named own) alone None
+  join_is_ready named (Some r) own (Some other) is unreleased room = absurd (true≢false unreleased)

@@ -1,0 +1,5 @@
+use Rattle.group_types.proofs.Heartbeats.{heartbeats_are_sound}
+use Rattle.group_types.proofs.laws.heartbeats_are_sound.Goals as goal
+
+pub returns : goal.returns
+returns c = heartbeats_are_sound
