@@ -1,5 +1,6 @@
 -- What becomes of the grants of a member that leaves, and of one that hands them over.
-use Rattle.std.proofs.Common.{◌≡◌, ℕ, Bool, true, false, cond, ◌==◌, [], refl, sym, ap, ◌∙◌, Option, Some, None, is_some, unwrap_or, true≢false}
+use Rattle.std.proofs.Common.{◌≡◌, ℕ, Bool, true, false, cond, not, ◌&&◌, ◌||◌, ◌==◌, [], refl, sym, ap, ◌∙◌, Option, Some, None, is_some, unwrap_or, true≢false}
+use Rattle.std.specs.List.{list_any}
 use Rattle.std.specs.Option.{option_map, option_map_or}
 use Rattle.std.specs.Ordering.{eq_by_cmp}
 use Rattle.std.specs.FinMap as finite
@@ -7,12 +8,15 @@ use Rattle.std.proofs.lemmas.Bool.Decides.{Decides-eqb}
 use Rattle.slab.specs.Slab.{get}
 use Rattle.group_types.specs.declared.partition.Partition.{Partition}
 use Rattle.group_types.specs.Text.{Text, text_cmp}
-use Rattle.group_types.specs.Sets.{nothing, has}
+use Rattle.group_types.specs.Sets.{nothing, has, in_order}
 use Rattle.group_types.specs.Partition.{Partitions, partition_cmp}
 use Rattle.group_types.specs.Group.{held}
 use Rattle.group_types.specs.Owners.{renamed_id}
+use Rattle.group_types.specs.Settle.{granting, grants_of_others}
+use Rattle.group_types.proofs.GrantLemmas.{grant_cmp_total, grant_cmp-IsAntisymmetric, has-granting, has-others}
+use Rattle.group_types.proofs.Lookups.{same_text}
 use Rattle.group_types.proofs.Orders.{partition_cmp_total, partition_cmp-IsAntisymmetric}
-use Rattle.group_types.proofs.SetLemmas.{has-nothing}
+use Rattle.group_types.proofs.SetLemmas.{has-in_order, has-nothing, same_set}
 use Rattle.group_reconcile.specs.declared.cell.Cell.{Cell}
 use Rattle.group_reconcile.specs.declared.members.Member.{Member}
 use Rattle.group_reconcile.specs.Granted.{AreConsistent, held_by, holders_of, is_holder}
@@ -21,7 +25,7 @@ use Rattle.group_reconcile.specs.Members.{IsNumberOf, MemberTable, RenamesMember
 use Rattle.group_reconcile.specs.Offers.{KeepsSince, handed, handed_over}
 use Rattle.group_reconcile.specs.Tables.{Cells}
 use Rattle.group_reconcile.proofs.Granted.{bytes_eq-ties, get-holders_of, get-mapped, known, holds-number}
-use Rattle.group_reconcile.proofs.Pairs.{has-held_pairs}
+use Rattle.group_reconcile.proofs.Pairs.{has-held_pairs, has-pairs}
 
 -- a member that lets go takes nothing else with it
 pub KeepsSince-let_go : (h n : Holders) (m : Text) → LetsGo h m n → KeepsSince h n
@@ -194,3 +198,50 @@ module _ (ms us : MemberTable) (cells : Cells) (old new : Text) (consistent : Ar
       at p (Some c) is =
           ap (λ id. Some (record { member = id; since = c.since }))
           (ap (λ o. option_map_or (λ m. m.id) o []) (renames c.holder) ∙ new_id (get ms c.holder) (known ms cells consistent p c is))
+
+-- ---- the pairs of holders of whom one has handed over
+
+pub pairs_handed_over : (h : Holders) (old new : Text) → pairs (handed_over h old new) ≡ granting (grants_of_others (pairs h) old) new (in_order (held (pairs h) old))
+pairs_handed_over h old new =
+    same_set grant_cmp_total grant_cmp-IsAntisymmetric _ _
+    (λ k. has-pairs (handed_over h old new) k.0 k.1
+    ∙ ap (λ o. option_map_or (λ d. eq_by_cmp text_cmp k.0 d.member) o false) (get-mapped (handed old new) h k.1)
+    ∙ at k.0 (finite.get h k.1)
+    ∙ (λ i. (eq_by_cmp text_cmp k.0 new && (sym (has-held_pairs h old k.1) ∙ has-in_order (held (pairs h) old) k.1) i) || (not (eq_by_cmp text_cmp old k.0) && sym (has-pairs h k.0 k.1) i))
+    ∙ ap (λ b. (eq_by_cmp text_cmp k.0 new && list_any (eq_by_cmp partition_cmp k.1) (in_order (held (pairs h) old))) || b) (sym (has-others (pairs h) old k.0 k.1))
+    ∙ sym (has-granting (grants_of_others (pairs h) old) new (in_order (held (pairs h) old)) k.0 k.1))
+  where
+    neither : (a b : Bool) → false ≡ ((a && false) || (b && false))
+    neither true true = refl
+    neither true false = refl
+    neither false true = refl
+    neither false false = refl
+
+    -- the old id's partition is the new one's now
+    given : (mine away theirs : Bool) → (theirs ≡ true → away ≡ true) → mine ≡ ((mine && true) || (not away && theirs))
+    given true away theirs is = refl
+    given false true theirs is = refl
+    given false false true is = is refl
+    given false false false is = refl
+
+    -- another's partition stays its own
+    stays : (mine away theirs : Bool) → (theirs ≡ true → away ≡ false) → theirs ≡ ((mine && false) || (not away && theirs))
+    stays true true true is = is refl
+    stays true true false is = refl
+    stays true false theirs is = refl
+    stays false true true is = is refl
+    stays false true false is = refl
+    stays false false theirs is = refl
+
+    by_holder : (x : Text) (d : Held) (b : Bool) → eq_by_cmp text_cmp old d.member ≡ b
+        → eq_by_cmp text_cmp x (cond b new d.member) ≡ ((eq_by_cmp text_cmp x new && b) || (not (eq_by_cmp text_cmp old x) && eq_by_cmp text_cmp x d.member))
+    by_holder x d true is =
+        given (eq_by_cmp text_cmp x new) (eq_by_cmp text_cmp old x) (eq_by_cmp text_cmp x d.member) (λ so. ap (eq_by_cmp text_cmp old) (same_text x d.member so) ∙ is)
+    by_holder x d false is =
+        stays (eq_by_cmp text_cmp x new) (eq_by_cmp text_cmp old x) (eq_by_cmp text_cmp x d.member) (λ so. ap (eq_by_cmp text_cmp old) (same_text x d.member so) ∙ is)
+
+    at : (x : Text) (o : Option Held)
+        → option_map_or (λ d. eq_by_cmp text_cmp x d.member) (option_map (handed old new) o) false
+        ≡ ((eq_by_cmp text_cmp x new && option_map_or (λ d. eq_by_cmp text_cmp old d.member) o false) || (not (eq_by_cmp text_cmp old x) && option_map_or (λ d. eq_by_cmp text_cmp x d.member) o false))
+    at x None = neither (eq_by_cmp text_cmp x new) (not (eq_by_cmp text_cmp old x))
+    at x (Some d) = ap (λ b. eq_by_cmp text_cmp x (cond b new d.member)) (bytes_eq-ties d.member old) ∙ by_holder x d (eq_by_cmp text_cmp old d.member) refl

@@ -1,3 +1,4 @@
+pub mod Bools
 pub mod Tests
 pub mod Pairs
 pub mod Lookups

@@ -16,6 +16,7 @@ use Rattle.group_types.proofs.GrantLemmas.{both_equal}
 use Rattle.group_types.proofs.Orders.{text_cmp_total, partition_cmp_total, partition_cmp-IsAntisymmetric}
 use Rattle.group_reconcile.specs.declared.cell.Cell.{Cell}
 use Rattle.group_reconcile.specs.Tables.{Cells, TopicCells, cell_at, with_cells, cells_in, sizes_in}
+use Rattle.group_reconcile.proofs.Bools.{same_both}
 
 -- two partitions are one where the topics and the indexes are
 pub eq-partition : (p q : Partition) → eq_by_cmp partition_cmp p q ≡ (eq_by_cmp text_cmp p.topic q.topic && eq_by_cmp int_cmp p.index q.index)
@@ -30,10 +31,6 @@ found k i (Some c ∷ cells) o = cond (eq_by_cmp int_cmp k (pos i)) (Some c) (fo
 nested : {A : Type 0} (a b : Bool) (x y o : A) → cond (a && b) x (cond a y o) ≡ cond a (cond b x y) o
 nested true b x y o = refl
 nested false b x y o = refl
-
-pub same_both : {A : Type 0} (b : Bool) (x : A) → cond b x x ≡ x
-same_both true x = refl
-same_both false x = refl
 
 pub get-with_cells : (topic : Text) (i : ℕ) (cells : List (Option Cell)) (m : Cells) (q : Partition)
     → finite.get (with_cells topic i cells m) q ≡ cond (eq_by_cmp text_cmp q.topic topic) (found q.index i cells (finite.get m q)) (finite.get m q)

@@ -19,6 +19,7 @@ use Rattle.group_types.proofs.Orders.{text_cmp_total, text_cmp-IsAntisymmetric, 
 use Rattle.group_types.proofs.RisingLists.{sorted-insert, sorted-remove}
 use Rattle.group_reconcile.specs.declared.members.Member.{Member}
 use Rattle.group_reconcile.specs.Members.{Changes, IsGap, IsIdOrder, IsIdOrderBut, IsNumberOf, IsPlace, MemberTable, RenamesMember, by_id, has_id, id_of, with_id, with_parts}
+use Rattle.group_reconcile.proofs.Bools.{or_second}
 
 -- ---- numbers of a list
 
@@ -86,25 +87,21 @@ module _ (f : ℕ → Text) (ns : List ℕ) (rise : IsStrictlySortedBy (on f tex
       taken_away (k == n) (among k (remove ns i)) (λ so. ap (λ l. among l (remove ns i)) ((Decides-eqb k n).0 so) ∙ once n i within is)
       ∙ ap (λ b. not (k == n) && b) (sym (list_any-IsPermutation (λ l. k == l) ns (n ∷ remove ns i) (IsPermutation-remove ns i n within is)))
 
-or_true : (a b : Bool) → b ≡ true → (a || b) ≡ true
-or_true true b so = refl
-or_true false b so = so
-
 -- the same ids rise alike
 module _ (f g : ℕ → Text) where
   less-same : (n : ℕ) (ns : List ℕ) → f n ≡ g n → ((k : ℕ) → among k ns ≡ true → f k ≡ g k) → AllByRecursion (λ k. on f text_cmp n k ≡ Less) ns → AllByRecursion (λ k. on g text_cmp n k ≡ Less) ns
   less-same n [] here same all = tt
   less-same n (k ∷ ks) here same all = (
     (λ i. text_cmp (sym here i) (sym (same k (ap (λ b. b || among k ks) (itself k))) i)) ∙ all.0,
-    less-same n ks here (λ l there. same l (or_true (l == k) (among l ks) there)) all.1,
+    less-same n ks here (λ l there. same l (or_second (l == k) (among l ks) there)) all.1,
   )
 
   rise-same : (ns : List ℕ) → ((k : ℕ) → among k ns ≡ true → f k ≡ g k) → IsStrictlySortedBy (on f text_cmp) ns → IsStrictlySortedBy (on g text_cmp) ns
   unfolding IsStrictlySortedBy
   rise-same [] same rise = tt
   rise-same (n ∷ ns) same rise = (
-    less-same n ns (same n (ap (λ b. b || among n ns) (itself n))) (λ k there. same k (or_true (k == n) (among k ns) there)) rise.0,
-    rise-same ns (λ k there. same k (or_true (k == n) (among k ns) there)) rise.1,
+    less-same n ns (same n (ap (λ b. b || among n ns) (itself n))) (λ k there. same k (or_second (k == n) (among k ns) there)) rise.0,
+    rise-same ns (λ k there. same k (or_second (k == n) (among k ns) there)) rise.1,
   )
 
 -- ---- a search by halves

@@ -7,18 +7,15 @@ use Rattle.group_types.specs.declared.partition.Partition.{Partition}
 use Rattle.group_types.specs.Sets.{nothing, has, with_one, common, minus, in_order, is_nothing}
 use Rattle.group_types.specs.Partition.{Partitions, partition_cmp}
 use Rattle.group_types.specs.Settle.{may_move}
-use Rattle.group_types.proofs.BoolLemmas.{or_known}
+use Rattle.group_types.proofs.BoolLemmas.{or_known, or_none}
 use Rattle.group_types.proofs.Orders.{partition_cmp_total, partition_cmp-IsAntisymmetric}
 use Rattle.group_types.proofs.SetLemmas.{entries-nothing, has-common, has-in_order, has-minus, has-nothing, has-with_one, is_nothing-Decides, same_set}
 use Rattle.group_reconcile.specs.Settling.{IsNext, is_kept, may_take, taken_of, with_if_free}
 use Rattle.group_reconcile.specs.Tables.{Cells}
 use Rattle.group_reconcile.proofs.Tests.{is_nothing-tested}
+use Rattle.group_reconcile.proofs.Bools.{and_false, and_true}
 
 -- ---- whether the member may move
-
-and_true : (b : Bool) → (b && true) ≡ b
-and_true true = refl
-and_true false = refl
 
 -- it may where nothing of what it holds is kept
 pub may_move-tested : (parts target : Partitions) (owned : Option Partitions) → may_move (minus parts target) owned ≡ not (list_any (is_kept target owned) (in_order parts))
@@ -40,14 +37,10 @@ may_move-tested parts target (Some owned) =
     regroup false true false = refl
     regroup false false c = refl
 
-    never : (b : Bool) → (b && false) ≡ false
-    never true = refl
-    never false = refl
-
     no_common : minus parts target ≡ nothing → common owned (minus parts target) ≡ nothing
     no_common none =
         same_set partition_cmp_total partition_cmp-IsAntisymmetric _ _
-        (λ q. has-common partition_cmp_total owned (minus parts target) q ∙ ap (λ b. has owned q && b) (ap (λ s. has s q) none ∙ has-nothing partition_cmp q) ∙ never (has owned q) ∙ sym (has-nothing partition_cmp q))
+        (λ q. has-common partition_cmp_total owned (minus parts target) q ∙ ap (λ b. has owned q && b) (ap (λ s. has s q) none ∙ has-nothing partition_cmp q) ∙ and_false (has owned q) ∙ sym (has-nothing partition_cmp q))
 
 pub may_move-nothing : (target : Partitions) (owned : Option Partitions) → may_move (minus nothing target) owned ≡ true
 may_move-nothing target owned =
@@ -57,11 +50,7 @@ may_move-nothing target owned =
 
 has-taken_of : (cells : Cells) (number : Option ℕ) (next : Partitions) (ps : List Partition) (q : Partition)
     → has (taken_of cells number next ps) q ≡ (has next q || (list_any (eq_by_cmp partition_cmp q) ps && may_take cells number q))
-has-taken_of cells number next [] q = sym (or_false (has next q))
-  where
-    or_false : (b : Bool) → (b || false) ≡ b
-    or_false true = refl
-    or_false false = refl
+has-taken_of cells number next [] q = sym (or_none (has next q))
 has-taken_of cells number next (p ∷ ps) q =
     has-taken_of cells number (with_if_free cells number next p) ps q
     ∙ ap (λ b. b || (list_any (eq_by_cmp partition_cmp q) ps && may_take cells number q)) (with_it (may_take cells number p))

@@ -16,6 +16,7 @@ use Rattle.group_types.proofs.GrantLemmas.{grant_cmp_total, grant_cmp-IsAntisymm
 use Rattle.group_types.proofs.SetLemmas.{has-of_list, has-in_order, same_set}
 use Rattle.group_reconcile.proofs.Tests.{met, unmet}
 use Rattle.group_reconcile.specs.Holders.{Held, Holders, holds, may_hold, holder_at, pairs, settled_holder, Settles, other_holder, LetsGo}
+use Rattle.group_reconcile.proofs.Bools.{and_false, and_true}
 
 same_id : (x y : Text) → eq_by_cmp text_cmp x y ≡ true → x ≡ y
 same_id x y so = text_cmp-IsAntisymmetric x y ((Equal-is (text_cmp x y)).0 so)
@@ -23,14 +24,10 @@ same_id x y so = text_cmp-IsAntisymmetric x y ((Equal-is (text_cmp x y)).0 so)
 same_partition : (p q : Partition) → eq_by_cmp partition_cmp p q ≡ true → p ≡ q
 same_partition p q so = partition_cmp-IsAntisymmetric p q ((Equal-is (partition_cmp p q)).0 so)
 
-none_before : (b : Bool) → (b && false) ≡ false
-none_before true = refl
-none_before false = refl
-
 -- among keys, one that ties with q passes a test of which q is sure
 any-keyed : (f : Partition → Bool) (q : Partition) (ks : List Partition)
     → list_any (λ p. f p && eq_by_cmp partition_cmp q p) ks ≡ (f q && list_any (eq_by_cmp partition_cmp q) ks)
-any-keyed f q [] = sym (none_before (f q))
+any-keyed f q [] = sym (and_false (f q))
 any-keyed f q (p ∷ ks) =
     ap (λ b. (f p && eq_by_cmp partition_cmp q p) || b) (any-keyed f q ks)
     ∙ join (f p) (f q) (eq_by_cmp partition_cmp q p) (list_any (eq_by_cmp partition_cmp q) ks) (λ so. ap f (sym (same_partition q p so)))
@@ -53,12 +50,8 @@ any-map x q h [] = refl
 any-map x q h (p ∷ ks) = λ i. eq-grant x (holder_at h p) q p i || any-map x q h ks i
 
 by_holder : (x : Text) (o : Option Held) → (eq_by_cmp text_cmp x (option_map_or (λ d. d.member) o []) && is_some o) ≡ option_map_or (λ d. eq_by_cmp text_cmp x d.member) o false
-by_holder x None = none_before _
-by_holder x (Some d) = all (eq_by_cmp text_cmp x d.member)
-  where
-    all : (b : Bool) → (b && true) ≡ b
-    all true = refl
-    all false = refl
+by_holder x None = and_false _
+by_holder x (Some d) = and_true (eq_by_cmp text_cmp x d.member)
 
 pub has-pairs : (h : Holders) (x : Text) (q : Partition) → has (pairs h) (x, q) ≡ holds h x q
 has-pairs h x q =
@@ -163,7 +156,7 @@ pairs_move h n m target epoch settles =
 
 gone_or_kept : (m x : Text) (o : Option Held)
     → option_map_or (λ d. eq_by_cmp text_cmp x d.member) (other_holder m o) false ≡ (not (eq_by_cmp text_cmp m x) && option_map_or (λ d. eq_by_cmp text_cmp x d.member) o false)
-gone_or_kept m x None = sym (none_before (not (eq_by_cmp text_cmp m x)))
+gone_or_kept m x None = sym (and_false (not (eq_by_cmp text_cmp m x)))
 gone_or_kept m x (Some d) =
     elim (eq_by_cmp text_cmp m d.member) as (λ b. eq_by_cmp text_cmp m d.member ≡ b → option_map_or (λ d. eq_by_cmp text_cmp x d.member) (cond b None (Some d)) false ≡ (not (eq_by_cmp text_cmp m x) && eq_by_cmp text_cmp x d.member)) [
       | true ↦ λ mine. gone (eq_by_cmp text_cmp m x) (eq_by_cmp text_cmp x d.member) (λ so. ap (eq_by_cmp text_cmp m) (same_id x d.member so) ∙ mine)

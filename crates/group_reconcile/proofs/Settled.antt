@@ -12,13 +12,10 @@ use Rattle.group_types.proofs.SetLemmas.{has-in_order}
 use Rattle.group_reconcile.specs.declared.cell.Cell.{Cell}
 use Rattle.group_reconcile.specs.Tables.{Cells}
 use Rattle.group_reconcile.specs.Settling.{cells_cleared, cells_put, cells_without, put_where_free}
+use Rattle.group_reconcile.proofs.Bools.{or_true, same_both}
 
 same : (p q : Partition) → eq_by_cmp partition_cmp q p ≡ true → q ≡ p
 same p q so = partition_cmp-IsAntisymmetric q p ((Equal-is (partition_cmp q p)).0 so)
-
-either_way : (b : Bool) (x : Option Cell) → cond b x x ≡ x
-either_way true x = refl
-either_way false x = refl
 
 pub get-cells_without : (m : Cells) (ps : List Partition) (q : Partition)
     → finite.get (cells_without m ps) q ≡ cond (list_any (eq_by_cmp partition_cmp q) ps) None (finite.get m q)
@@ -29,11 +26,7 @@ get-cells_without m (p ∷ ps) q =
     ∙ either (list_any (eq_by_cmp partition_cmp q) ps) (eq_by_cmp partition_cmp q p)
   where
     either : (a b : Bool) → cond a None (cond b None (finite.get m q)) ≡ cond (b || a) None (finite.get m q)
-    either true b = sym (ap (λ c. cond c None (finite.get m q)) (all b))
-      where
-        all : (b : Bool) → (b || true) ≡ true
-        all true = refl
-        all false = refl
+    either true b = sym (ap (λ c. cond c None (finite.get m q)) (or_true b))
     either false true = refl
     either false false = refl
 
@@ -55,7 +48,7 @@ get-cells_cleared m next (p ∷ ps) q =
         ends : (rest : Bool) → cond (rest && false) None o ≡ o
         ends true = refl
         ends false = refl
-    join true false b rest o is = ap (λ x. cond (rest && not x) None None) (sym (is refl)) ∙ either_way (rest && true) None ∙ ap (λ x. cond (not x) None o) (is refl)
+    join true false b rest o is = ap (λ x. cond (rest && not x) None None) (sym (is refl)) ∙ same_both (rest && true) None ∙ ap (λ x. cond (not x) None o) (is refl)
     join false true b rest o is = refl
     join false false b rest o is = refl
 

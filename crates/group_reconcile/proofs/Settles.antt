@@ -25,6 +25,7 @@ use Rattle.group_reconcile.specs.Tables.{Cells, IsAtLeastZero}
 use Rattle.group_reconcile.proofs.Granted.{get-holders_of, known}
 use Rattle.group_reconcile.proofs.Leaving.{named-known}
 use Rattle.group_reconcile.proofs.Numbers.{has_id-is}
+use Rattle.group_reconcile.proofs.Bools.{and_true, or_second, same_both}
 
 -- ---- since when
 
@@ -50,12 +51,8 @@ all_keys : (P : Partition → Type 0) (ps : List Partition) → ((p : Partition)
 all_keys P [] each = tt
 all_keys P (p ∷ ps) each = (
   each p (ap (λ b. b || list_any (eq_by_cmp partition_cmp p) ps) ((eq_by_cmp_equiv partition_cmp_total).refl p)),
-  all_keys P ps (λ q there. each q (or_true (eq_by_cmp partition_cmp q p) (list_any (eq_by_cmp partition_cmp q) ps) there)),
+  all_keys P ps (λ q there. each q (or_second (eq_by_cmp partition_cmp q p) (list_any (eq_by_cmp partition_cmp q) ps) there)),
 )
-  where
-    or_true : (a b : Bool) → b ≡ true → (a || b) ≡ true
-    or_true true b so = refl
-    or_true false b so = so
 
 -- the next partitions have the target's indexes
 pub indexed-next : (cells : Cells) (number : Option ℕ) (target next : Partitions) → AreIndexed target → IsNext cells number target next → AllByRecursion (λ p. IsAtLeastZero p.index) (in_order next)
@@ -146,10 +143,6 @@ module _ (s : Settling) (facts : IsSettling s) where
 
   next_at_none : (p : Partition) → finite.get s.cells_before p ≡ None → has s.next p ≡ has s.target p
   next_at_none p is = facts.is_next p ∙ ap (λ o. has s.target p && option_map_or (λ c. is_number facts.found c.holder) o true) is ∙ and_true (has s.target p)
-    where
-      and_true : (b : Bool) → (b && true) ≡ b
-      and_true true = refl
-      and_true false = refl
 
   next_at_some : (p : Partition) (c : Cell) → finite.get s.cells_before p ≡ Some c → has s.next p ≡ (has s.target p && (c.holder == s.number))
   next_at_some p c is =
@@ -158,11 +151,7 @@ module _ (s : Settling) (facts : IsSettling s) where
   after_at : (p : Partition) (o : Option Cell) → finite.get s.cells_before p ≡ o → finite.get s.cells_after p ≡ settled_cell new_cell (option_map_or (λ c. c.holder == s.number) o false) (has s.target p) o
   after_at p None is =
       facts.changed p ∙ (λ i. cond (next_at_none p is i) (cond (is_some (is i)) (is i) (Some new_cell)) (cond (has (parts_of s.numbered s.number) p) None (is i)))
-      ∙ ap (cond (has s.target p) (Some new_cell)) (either (has (parts_of s.numbered s.number) p) None)
-    where
-      either : (b : Bool) (o : Option Cell) → cond b o o ≡ o
-      either true o = refl
-      either false o = refl
+      ∙ ap (cond (has s.target p) (Some new_cell)) (same_both (has (parts_of s.numbered s.number) p) None)
   after_at p (Some c) is =
       facts.changed p
       ∙ (λ i. cond (next_at_some p c is i) (cond (is_some (is i)) (is i) (Some new_cell)) (cond ((consistent_numbered s.number p ∙ ap (λ o. option_map_or (λ c. c.holder == s.number) o false) is) i) None (is i)))

@@ -7,10 +7,7 @@ use Rattle.std.specs.List.{list_any}
 use Rattle.std.specs.Ordering.{eq_by_cmp}
 use Rattle.group_types.specs.Sets.{FinSet, nothing, has, in_order, is_nothing}
 use Rattle.group_types.proofs.SetLemmas.{has-in_order, has-nothing, is_nothing-Decides, same_set}
-
-or_true : (a : Bool) → (a || true) ≡ true
-or_true true = refl
-or_true false = refl
+use Rattle.group_reconcile.proofs.Bools.{or_true}
 
 module _ {K : Type 0} {R : K → K → Ordering} (total : IsTotalOrder R) (exact : IsAntisymmetric R) where
   -- a test is met by some key where one of the keys meets it

@@ -18,7 +18,8 @@ use Rattle.group_types.specs.Partition.{partition_cmp}
 use Rattle.group_types.proofs.Orders.{text_cmp_total, text_cmp-IsAntisymmetric, partition_cmp_total, partition_cmp-IsAntisymmetric}
 use Rattle.group_reconcile.specs.declared.cell.Cell.{Cell}
 use Rattle.group_reconcile.specs.Tables.{Sizes, TopicCells, cell_at, cells_in, sizes_in, IsWithin, SetsCell, KeepsRoom, size_of}
-use Rattle.group_reconcile.proofs.Lookups.{get-cells_in, get-sizes_in, lookup-items, of_topic, eq-partition, same_both, index_same, index_less, index_more}
+use Rattle.group_reconcile.proofs.Lookups.{get-cells_in, get-sizes_in, lookup-items, of_topic, eq-partition, index_same, index_less, index_more}
+use Rattle.group_reconcile.proofs.Bools.{same_both}
 
 -- the new cells have the given one at an index, and elsewhere what the old ones have
 abbrev pub Puts : List (Option Cell) → List (Option Cell) → ℤ → Option Cell → Type 0

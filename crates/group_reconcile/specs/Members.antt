@@ -1,4 +1,4 @@
--- The member table: who holds something, by numbers that stay while a member stays (ours).
+-- The member table: members and what each holds, by numbers that stay while a member stays (ours).
 use Rattle.std.specs.Prelude.{◌≡◌, ◌<◌, ◌≤◌, ℕ, Bool, false, not, ◌==◌, ◌&&◌, if◌then◌else◌, List, [], length, Option, Some, None, is_some, Result, MatchResult, refl}
 use Rattle.std.specs.Coded.{Coded, code_by, coded×, coded_ℕ, coded_list}
 use Rattle.std.specs.declared.cmp.Ordering.TheVariants.{Less, Greater}

@@ -1,4 +1,4 @@
--- KIP-848, "Reconciliation of the group": what comes of an offer, of a leave and of a hand-over.
+-- KIP-848, "Reconciliation of the group" and "Static Membership": what comes of an offer, of a leave and of a take-over.
 use Rattle.std.specs.Prelude.{◌≡◌, ◌⊎◌, map, ℕ, Bool, true, false, pos, IsTrue, Some, None}
 use Rattle.std.specs.FinMap as finite
 use Rattle.group_types.specs.declared.partition.Partition.{Partition}

@@ -3,9 +3,9 @@
 ghost use Rattle.std.specs.Prelude.{◌≡◌, IfOk, OnErr, OnOk, is_none, unwrap_or};
 ghost use Rattle.std.specs.Option.{option_copied, option_map};
 ghost use Rattle.std.specs.FinMap as finite;
-ghost use Rattle.group_types.specs.Sets.{nothing};
+ghost use Rattle.group_types.specs.Sets.{in_order, nothing};
 ghost use Rattle.group_types.specs.Group.{held};
-ghost use Rattle.group_types.specs.Settle.{grants_after, grants_of_others, may_settle};
+ghost use Rattle.group_types.specs.Settle.{granting, grants_after, grants_of_others, may_settle};
 ghost use Rattle.group_reconcile.specs.Holders.{Settles, granted_at, holds, pairs};
 ghost use Rattle.group_reconcile.specs.Offers.{AreIndexed, IsSince, KeepsSince, handed_over, verdict_of};
 
@@ -85,8 +85,8 @@ impl Grants {
         }
     }
 
-    /// What the member with this id may read: none where that is nothing. Takes no memory, and no walk over the other
-    /// members.
+    /// What the member with this id may read: none, or the empty set, where that is nothing. Takes no memory, and no walk
+    /// over the other members.
     pub fn held(&self, member: &str) -> Option<&PartSet>
         ensures { unwrap_or (option_copied result) nothing ≡ held (pairs self.now) member.now }
     {
@@ -167,7 +167,8 @@ impl Grants {
     /// partitions.
     pub fn hand_over(&mut self, old: &str, new: MemberId)
         requires { held (pairs self.old) new ≡ nothing }
-        ensures { self.new ≡ handed_over self.old old.now new }
+        ensures holders { self.new ≡ handed_over self.old old.now new }
+        ensures grants { pairs self.new ≡ granting (grants_of_others (pairs self.old) old.now) new (in_order (held (pairs self.old) old.now)) }
     {
         let _ = self.members.take(new.as_str());
         self.members.rename(old, new);

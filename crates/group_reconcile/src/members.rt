@@ -1,4 +1,4 @@
-//! The members that hold something, by their numbers.
+//! The members that were offered a target, by their numbers.
 
 ghost use Rattle.std.specs.Prelude.{ℕ, ◌≡◌, ◌<◌, IfOk, IsSome, vec_capacity, vec_len};
 ghost use Rattle.std.specs.Option.{option_copied, option_map};
@@ -20,7 +20,7 @@ pub struct Member {
     pub parts: PartSet,
 }
 
-/// The members that hold something, by numbers that stay while a member stays.
+/// The members that were offered a target, by numbers that stay while a member stays.
 #[derive(Drop)]
 pub struct Members {
     members: Slab<Member>,

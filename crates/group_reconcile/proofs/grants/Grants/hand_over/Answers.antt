@@ -5,7 +5,7 @@ use Rattle.group_reconcile.specs.Granted.{holders_of}
 use Rattle.group_reconcile.specs.Holders.{pairs}
 use Rattle.group_reconcile.specs.Members.{TakesMember}
 use Rattle.group_reconcile.specs.Offers.{handed_over}
-use Rattle.group_reconcile.proofs.Leaving.{AreConsistent-none, AreConsistent-renamed, holders_of-none, holders_of-renamed}
+use Rattle.group_reconcile.proofs.Leaving.{AreConsistent-none, AreConsistent-renamed, holders_of-none, holders_of-renamed, pairs_handed_over}
 use Rattle.group_reconcile.proofs.grants.Grants.hand_over.Goals as goal
 
 pub invariant_of-self : goal.invariant_of-self
@@ -18,8 +18,8 @@ invariant_of-self c =
     AreConsistent-renamed us c.rename.new.self cells c.args.old.now c.args.new
     (AreConsistent-none ms us cells c.args.new c.take.result c.self.invariant takes none) c.rename.ensures
 
-pub returns : goal.returns
-returns c =
+pub returns-clause-holders : goal.returns-clause-holders
+returns-clause-holders c =
     let ms = c.self.inside.members in
     let us = c.take.new.self in
     let cells = c.self.inside.table.cells in
@@ -28,3 +28,6 @@ returns c =
     holders_of-renamed us c.rename.new.self cells c.args.old.now c.args.new
     (AreConsistent-none ms us cells c.args.new c.take.result c.self.invariant takes none) c.rename.ensures
     ∙ ap (λ h. handed_over h c.args.old.now c.args.new) (holders_of-none ms us cells c.args.new c.take.result c.self.invariant takes none ∙ c.self.view_is)
+
+pub returns-clause-grants : goal.returns-clause-grants
+returns-clause-grants c = ap pairs (returns-clause-holders c) ∙ pairs_handed_over c.args.self.now c.args.old.now c.args.new
