@@ -10,7 +10,7 @@ pub mod Boards
 pub mod Counts
 pub mod Moves
 pub mod Made
-pub mod Former
+pub mod FormerOwners
 pub mod Kept
 pub mod Filled
 pub mod Fewest
@@ -20,3 +20,4 @@ pub mod Piled
 pub mod Firsts
 pub mod Ranked
 pub mod Queued
+pub mod Located

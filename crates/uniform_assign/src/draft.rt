@@ -21,7 +21,7 @@ impl Draft {
         ensures owners { IfOk result (λ draft. draft.owners.items ≡ replicate partitions None) }
         ensures counts { IfOk result (λ draft. draft.counts.items ≡ replicate members 0) }
     {
-        let owners = vec![in alloc; None; partitions]?;
+        let owners = no_owners(alloc, partitions)?;
         let counts = vec![in alloc; 0; members]?;
         Ok(Draft { owners, counts })
     }
@@ -58,4 +58,11 @@ impl Draft {
         }
         Some(best)
     }
+}
+
+/// No owner for each of so many partitions.
+pub(crate) fn no_owners(alloc: Global, partitions: usize) -> Result<Vec<Option<usize>>, AllocError>
+    ensures { IfOk result (λ owners. owners.items ≡ replicate partitions None) }
+{
+    vec![in alloc; None; partitions]
 }

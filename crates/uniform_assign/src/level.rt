@@ -1,6 +1,7 @@
 //! Moves from members that own many partitions to members that own few.
 
-ghost use Rattle.std.specs.Prelude.{◌≡◌, ◌<◌, ◌+◌, ℕ, IfOk, OnOk, Some, length, slice_get};
+ghost use Rattle.std.specs.Prelude.{◌≡◌, ◌<◌, ◌+◌, ℕ, IfOk, None, OnOk, Some, length, slice_get};
+ghost use Rattle.std.specs.Bool.{OnTrue};
 ghost use Rattle.uniform_assign.specs.Boards.{IsBoard};
 ghost use Rattle.uniform_assign.specs.Drafts.{IsDraft, IsLevelled, drawn_on};
 ghost use Rattle.uniform_assign.specs.Moves.{AreFewest, IsEarlier, IsFirstAmong, IsFirstOf, IsMoveOf, IsNext, IsNextBelow};
@@ -29,6 +30,10 @@ impl Board<'_> {
         ensures levelled { OnOk result (IsLevelled self.now.view.now self.now.subs.now
             (drawn_on self.now draft.old.owners.items) (drawn_on self.now draft.new.owners.items)) }
     {
+        let fewest = self.fewest(alloc, draft)?;
+        if self.is_level(draft, &fewest) {
+            return Ok(());
+        }
         let mut piles = self.piles(alloc, draft)?;
         while let Some(next) = self.next_move(alloc, draft, &mut piles)? {
             let topic = self.places[next.partition].topic;
@@ -36,6 +41,21 @@ impl Board<'_> {
             add(alloc, &mut piles[next.to], topic, next.partition)?;
         }
         Ok(())
+    }
+
+    /// Whether no partition can move.
+    fn is_level(&self, draft: &Draft, fewest: &[Option<usize>]) -> bool
+        requires board { IsBoard self.now }
+        requires draft { IsDraft self.now draft.now }
+        requires fewest { AreFewest self.now draft.now fewest.now }
+        ensures { OnTrue result (IsNext self.now draft.now (length self.now.places.items) None) }
+    {
+        for at in 0..self.places.len() {
+            if self.move_of(draft, fewest, at).is_some() {
+                return false;
+            }
+        }
+        true
     }
 
     /// The move that follows, if a partition can move: of the members that can give one away, the one that owns the

@@ -7,6 +7,7 @@
 mod board;
 mod draft;
 mod fill;
+mod former;
 mod keep;
 mod laws;
 mod level;

@@ -1,7 +1,7 @@
-use Rattle.std.proofs.Common.{◌≡◌, ◌<◌, ◌+◌, ℕ, length, sym, ap, subst, ◌∙◌, arith, Some, None}
+use Rattle.std.proofs.Common.{◌≡◌, ◌<◌, ◌+◌, ℕ, List, Option, get_or, length, sym, ap, subst, ◌∙◌, arith, Some, None}
 use Rattle.std.specs.FinMap as finite
 use Rattle.std.specs.List.{slice_get}
-use Rattle.std.proofs.lemmas.List.{length-map, length-replicate}
+use Rattle.std.proofs.lemmas.List.{get_or_default, length-map, length-replicate}
 use Rattle.std.proofs.lemmas.Option.{same_Some, slice_get_within}
 use Rattle.group_types.specs.declared.partition.Partition.{Partition}
 use Rattle.group_types.specs.Text.{Text}
@@ -15,6 +15,10 @@ use Rattle.uniform_assign.proofs.Kept.{AreCounts-none, AreKeptTo, AreKeptTo-give
 use Rattle.uniform_assign.proofs.Moves.{IsDraft-give}
 use Rattle.uniform_assign.proofs.board.Board.kept.Goals as goal
 use Rattle.uniform_assign.proofs.board.Board.kept.Goals.{in-Some+then-subscribes, in-Some+else-subscribes, in_default}
+
+-- the former owner that was read
+read : (owners : List (Option ℕ)) (k : ℕ) (o : Option ℕ) (m : ℕ) → k < length owners → o ≡ get_or owners k o → o ≡ Some m → get_or owners k None ≡ Some m
+read owners k o m within is same = get_or_default owners k None o within ∙ sym is ∙ same
 
 pub loop-at-init : goal.loop-at-init
 loop-at-init c =
@@ -37,9 +41,10 @@ subscribes-requires c =
     let board = c.args.self.now in
     let place = c.place-item.result in
     let at = at_place board c.requires c.loop-at.at place (place_here c.deref-place-items.result.now board.places.items c.loop-at.at place c.deref-place-items.ensures.value c.loop-at-test.true c.place-item.is) in
-    let owner = (c.in_ok-owners.ensures place.partition c.in-Some.member.now).0 (sym c.in-Some.ensures.value) in
+    let here = place_here c.deref-place-items.result.now board.places.items c.loop-at.at place c.deref-place-items.ensures.value c.loop-at-test.true c.place-item.is in
+    let owner = (c.in_ok-owners.ensures.owners c.loop-at.at c.in-Some.member place here).0 (read c.in_ok-owners.owners.items c.loop-at.at c.index.result.now c.in-Some.member (let as_many = c.in_ok-owners.ensures.as_many in let shown = ap length c.deref-place-items.ensures.value in let within = c.loop-at-test.true in omega arith) c.index.ensures c.in-Some.is) in
     record {
-      member_in = slice_get_within board.subs.now c.in-Some.member.now owner.member (ap (λ xs. slice_get xs c.in-Some.member.now) (sym c.members-members.ensures.all) ∙ owner.is_member);
+      member_in = slice_get_within board.subs.now c.in-Some.member owner.member (ap (λ xs. slice_get xs c.in-Some.member) (sym c.members-members.ensures.all) ∙ owner.is_member);
       topic_in = slice_get_within (finite.entries board.view.now) place.topic at.topic at.is_topic;
     }
 
@@ -47,8 +52,9 @@ pub give-requires : goal.give-requires
 give-requires c =
     let board = c.args.self.now in
     let place = c.place-item.result in
-    let owner = (c.in_ok-owners.ensures place.partition c.in-Some.member.now).0 (sym c.in-Some.ensures.value) in
-    let member = slice_get_within board.subs.now c.in-Some.member.now owner.member (ap (λ xs. slice_get xs c.in-Some.member.now) (sym c.members-members.ensures.all) ∙ owner.is_member) in
+    let here = place_here c.deref-place-items.result.now board.places.items c.loop-at.at place c.deref-place-items.ensures.value c.loop-at-test.true c.place-item.is in
+    let owner = (c.in_ok-owners.ensures.owners c.loop-at.at c.in-Some.member place here).0 (read c.in_ok-owners.owners.items c.loop-at.at c.index.result.now c.in-Some.member (let as_many = c.in_ok-owners.ensures.as_many in let shown = ap length c.deref-place-items.ensures.value in let within = c.loop-at-test.true in omega arith) c.index.ensures c.in-Some.is) in
+    let member = slice_get_within board.subs.now c.in-Some.member owner.member (ap (λ xs. slice_get xs c.in-Some.member) (sym c.members-members.ensures.all) ∙ owner.is_member) in
     let low = c.loop-at-test.true in
     let places = ap length c.deref-place-items.ensures.value in
     let owners = c.loop-at.invariant.0.as_many_owners in
@@ -68,11 +74,13 @@ loop-at-preserved c =
     let (draft, kept) = c.loop-at.invariant in
     let low = c.loop-at-test.true in
     let within : n < length owners = let places = ap length c.deref-place-items.ensures.value in let many = draft.as_many_owners in omega arith in
+    let here = place_here c.deref-place-items.result.now board.places.items n place c.deref-place-items.ensures.value low c.place-item.is in
+    let in_owners : n < length c.in_ok-owners.owners.items = let as_many = c.in_ok-owners.ensures.as_many in let places = ap length c.deref-place-items.ensures.value in omega arith in
     let x : Text × Partition = (at.topic.0, place.partition) in
-    elim c.match-get.branch [
+    elim c.match-index.branch [
       | in-Some+then-subscribes w ↦
-          let m = w.in-Some.member.now in
-          let owner = subst (λ ms. IsFormerOwner former ms m place.partition) c.members-members.ensures.all ((c.in_ok-owners.ensures place.partition m).0 (sym w.in-Some.ensures.value)) in
+          let m = w.in-Some.member in
+          let owner = subst (λ ms. IsFormerOwner former ms m place.partition) c.members-members.ensures.all ((c.in_ok-owners.ensures.owners n m place here).0 (read c.in_ok-owners.owners.items n c.index.result.now m in_owners c.index.ensures w.in-Some.is)) in
           let takes = sym (w.if-subscribes.ensures owner.member at.topic owner.is_member at.is_topic) in
           let keeps = Keeps-of former subs parts n m x owner.member at.is_part owner.is_member owner takes in
           let given = ap (λ (d : Draft). d.owners.items) w.draft-is ∙ w.give.ensures.owners in (
@@ -80,8 +88,8 @@ loop-at-preserved c =
             subst (AreKeptTo former subs parts (n + 1)) (sym given) (AreKeptTo-give former subs parts n m owners kept within c.requires.apart keeps),
           )
       | in-Some+else-subscribes w ↦
-          let m = w.in-Some.member.now in
-          let owner = subst (λ ms. IsFormerOwner former ms m place.partition) c.members-members.ensures.all ((c.in_ok-owners.ensures place.partition m).0 (sym w.in-Some.ensures.value)) in
+          let m = w.in-Some.member in
+          let owner = subst (λ ms. IsFormerOwner former ms m place.partition) c.members-members.ensures.all ((c.in_ok-owners.ensures.owners n m place here).0 (read c.in_ok-owners.owners.items n c.index.result.now m in_owners c.index.ensures w.in-Some.is)) in
           let away = sym (w.if-subscribes.ensures owner.member at.topic owner.is_member at.is_topic) in
           let nobody : (j : ℕ) → ¬ Keeps former subs parts n j = λ j keeps.
           let other = Keeps-owner former subs parts n j x at.is_part keeps in
@@ -95,8 +103,10 @@ loop-at-preserved c =
       | in_default w ↦
           let nobody : (j : ℕ) → ¬ Keeps former subs parts n j = λ j keeps.
           let other = subst (λ ms. IsFormerOwner former ms j place.partition) (sym c.members-members.ensures.all) (Keeps-owner former subs parts n j x at.is_part keeps) in
-          let found = (c.in_ok-owners.ensures place.partition j).1 other in
-          let none = w.in_default.ensures.value in
+          let found = (c.in_ok-owners.ensures.owners n j place here).1 other in
+          let none = w.in_default.is in
+          let shown = get_or_default c.in_ok-owners.owners.items n None c.index.result.now in_owners in
+          let value = c.index.ensures in
           cc in (
             subst (IsDraft board) (sym w.draft-is) draft,
             subst (λ (d : Draft). AreKeptTo former subs parts (n + 1) d.owners.items) (sym w.draft-is) (AreKeptTo-skip former subs parts n owners kept within nobody),

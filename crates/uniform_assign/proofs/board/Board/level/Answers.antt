@@ -104,3 +104,9 @@ returns c =
     let (is_draft, (steps, moves), are) = c.loop-piles.invariant in
     let none = subst (IsNext board draft (length board.places.items)) c.in_default.is c.in_ok-next.ensures.next in
     record { draft = is_draft; levelled = record { steps = steps; are_moves = moves; is_level = no_move-level board draft c.requires.board is_draft none } }
+
+pub returns-then-is_level : goal.returns-then-is_level
+returns-then-is_level c =
+    let board = c.args.self.now in
+    let draft = c.args.draft.now in
+    record { draft = c.requires.draft; levelled = record { steps = []; are_moves = refl; is_level = no_move-level board draft c.requires.board c.requires.draft c.if-is_level.ensures } }

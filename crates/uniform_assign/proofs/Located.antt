@@ -1,0 +1,158 @@
+-- Where partitions are in partition order: those of a topic are behind one another.
+use Rattle.std.proofs.Common.{◌≡◌, ℕ, suc, ◌<◌, ◌+◌, true, false, cond, ◌^◌, ℤ, List, [], ◌∷◌, ◌++◌, length, pos, refl, sym, ap, subst, ◌∙◌, arith, inl, inr, Some, Result, Ok, Err, nat_abs}
+use Rattle.std.specs.BTreeMap.{BTreeMap, Updates, get}
+use Rattle.std.specs.Cmp.{Equal-is}
+use Rattle.std.specs.Ordering.{is_eq}
+use Rattle.std.specs.FinMap as finite
+use Rattle.std.specs.Int.{FitsUnsignedBits}
+use Rattle.std.specs.Result.{OkIff, result_ok}
+use Rattle.std.specs.List.{flat_map, range_with_len, slice_get}
+use Rattle.std.proofs.lemmas.Bool.{cases_lt}
+use Rattle.std.proofs.lemmas.Option.{same_Some, slice_get_within}
+use Rattle.group_types.specs.declared.partition.Partition.{Partition}
+use Rattle.group_types.specs.Text.{Text, text_cmp}
+use Rattle.group_types.specs.Topics.{Topic}
+use Rattle.group_types.specs.Uniform.{partitions_of}
+use Rattle.group_types.proofs.Orders.{text_cmp-IsAntisymmetric, text_cmp-itself}
+use Rattle.uniform_assign.specs.declared.board.Board.{Board}
+use Rattle.uniform_assign.specs.declared.board.Place.{Place}
+use Rattle.uniform_assign.specs.Boards.{IsBoard}
+use Rattle.uniform_assign.specs.Former.{AreFirsts}
+use Rattle.uniform_assign.proofs.Boards.{at_place, parts_are_apart}
+use Rattle.uniform_assign.proofs.Lists.{range-at, range-from, slice_get-append_cases, slice_get-append_left, slice_get-map_at, slice_get-map_from, some_at}
+
+append-at : {X : Type 0} (xs ys : List X) (j : ℕ) (x : X) → slice_get ys j ≡ Some x → slice_get (xs ++ ys) (length xs + j) ≡ Some x
+append-at [] ys j x is = ap (slice_get ys) (let same : 0 + j ≡ j = omega arith in same) ∙ is
+append-at (y ∷ xs) ys j x is = ap (slice_get (y ∷ (xs ++ ys))) (let same : suc (length xs) + j ≡ suc (length xs + j) = omega arith in same) ∙ append-at xs ys j x is
+
+-- the first partition of a partition's topic, and its own index behind it
+record IsBehind (parts : List (Text × Partition)) (k : ℕ) (x : Text × Partition) : Type 0 where
+  first : ℕ
+  index : ℕ
+  is_index : x.1.index ≡ pos index
+  behind : first + index ≡ k
+  is_first : slice_get parts first ≡ Some (x.0, record { topic = x.1.topic; index = pos 0 })
+
+abbrev part_of : Text × Topic → ℕ → Text × Partition
+part_of t n = (t.0, record { topic = t.1.id; index = pos n })
+
+IsBehind-at : (topics : List (Text × Topic)) (k : ℕ) (x : Text × Partition) → slice_get (flat_map partitions_of topics) k ≡ Some x → IsBehind (flat_map partitions_of topics) k x
+IsBehind-at [] k x is = cc
+IsBehind-at (t ∷ ts) k x is = elim (slice_get-append_cases (partitions_of t) (flat_map partitions_of ts) k x is) [
+  | inl here ↦
+      let (n, is_n, same) = slice_get-map_from (part_of t) (range_with_len 0 t.1.count) k x here in
+      let (at, low) = range-from t.1.count k n is_n in
+      let first = slice_get-map_at (part_of t) (range_with_len 0 t.1.count) 0 0 (range-at t.1.count 0 (omega arith)) in
+      record {
+        first = 0;
+        index = n;
+        is_index = ap (λ (y : Text × Partition). y.1.index) (sym same);
+        behind = omega arith;
+        is_first = slice_get-append_left (partitions_of t) (flat_map partitions_of ts) 0 (part_of t 0) first ∙ ap (λ (y : Text × Partition). Some (y.0, record { topic = y.1.topic; index = pos 0 })) same;
+      }
+  | inr (j, at, there) ↦
+      let later = IsBehind-at ts j x there in
+      let before = later.behind in
+      record {
+        first = length (partitions_of t) + later.first;
+        index = later.index;
+        is_index = later.is_index;
+        behind = omega arith;
+        is_first = append-at (partitions_of t) (flat_map partitions_of ts) later.first _ later.is_first;
+      }
+]
+
+-- the same of a board's place
+pub record IsPlaceBehind (board : Board) (k : ℕ) (place : Place) : Type 0 where
+  pub first : ℕ
+  pub index : ℕ
+  pub is_index : place.partition.index ≡ pos index
+  pub behind : first + index ≡ k
+  pub zeroth : Place
+  pub is_zeroth : slice_get board.places.items first ≡ Some zeroth
+  pub topic : zeroth.partition.topic ≡ place.partition.topic
+  pub zero : zeroth.partition.index ≡ pos 0
+
+-- where the partition is, by what is known of its topic
+pub record IsKnown (firsts : BTreeMap (List ℕ) ℕ) (p : Partition) (k : ℕ) : Type 0 where
+  pub first : ℕ
+  pub index : ℕ
+  pub is_index : p.index ≡ pos index
+  pub behind : first + index ≡ k
+  pub is_first : get text_cmp firsts p.topic ≡ Some first
+
+module _ (board : Board) (is : IsBoard board) where
+  -- no two places have one partition
+  pub places-apart : (j k : ℕ) (one other : Place) → slice_get board.places.items j ≡ Some one → slice_get board.places.items k ≡ Some other → one.partition ≡ other.partition → j ≡ k
+  places-apart j k one other is_one is_other same =
+      let here = at_place board is j one is_one in
+      let there = at_place board is k other is_other in
+      parts_are_apart board is j k (here.topic.0, one.partition) (there.topic.0, other.partition) here.is_part there.is_part same
+
+  -- the place of a partition is its index behind its topic's first
+  pub place-behind : (k : ℕ) (place : Place) → slice_get board.places.items k ≡ Some place → IsPlaceBehind board k place
+  place-behind k place is_place =
+      let here = at_place board is k place is_place in
+      let behind = IsBehind-at (finite.entries board.view.now) k (here.topic.0, place.partition) here.is_part in
+      let sum = behind.behind in
+      let within = slice_get_within board.places.items k place is_place in
+      let (zeroth, is_zeroth) = some_at board.places.items behind.first (omega arith) in
+      let there = at_place board is behind.first zeroth is_zeroth in
+      let same : (there.topic.0, zeroth.partition) ≡ (here.topic.0, record { topic = place.partition.topic; index = pos 0 }) = same_Some _ _ (sym there.is_part ∙ behind.is_first) in
+      record {
+        first = behind.first;
+        index = behind.index;
+        is_index = behind.is_index;
+        behind = sum;
+        zeroth = zeroth;
+        is_zeroth = is_zeroth;
+        topic = ap (λ (y : Text × Partition). y.1.topic) same;
+        zero = ap (λ (y : Text × Partition). y.1.index) same;
+      }
+
+  -- the first place of a partition's topic is known
+  pub known-first : (firsts : BTreeMap (List ℕ) ℕ) → AreFirsts board.places.items firsts → (p : Partition) (k : ℕ) (place : Place) → slice_get board.places.items k ≡ Some place → place.partition ≡ p → IsKnown firsts p k
+  known-first firsts are p k place is_place same =
+      let behind = place-behind k place is_place in
+      record {
+        first = behind.first;
+        index = behind.index;
+        is_index = ap (λ (q : Partition). q.index) (sym same) ∙ behind.is_index;
+        behind = behind.behind;
+        is_first = ap (get text_cmp firsts) (ap (λ (q : Partition). q.topic) (sym same) ∙ sym behind.topic) ∙ are behind.first behind.zeroth behind.is_zeroth behind.zero;
+      }
+
+-- ---- the first places
+
+abbrev pub AreFirstsTo : List Place → ℕ → BTreeMap (List ℕ) ℕ → Type 0
+AreFirstsTo places n firsts = (k : ℕ) (place : Place) → k < n → slice_get places k ≡ Some place → place.partition.index ≡ pos 0 → get text_cmp firsts place.partition.topic ≡ Some k
+
+module _ (board : Board) (is : IsBoard board) (n : ℕ) (here : Place) (is_here : slice_get board.places.items n ≡ Some here) (old new : BTreeMap (List ℕ) ℕ) (before : AreFirstsTo board.places.items n old) where
+  pub AreFirstsTo-next : here.partition.index ≡ pos 0 → Updates text_cmp old new here.partition.topic (Some n) → AreFirstsTo board.places.items (n + 1) new
+  AreFirstsTo-next zeroth updates k place low is_place index = updates.0 place.partition.topic ∙ (elim (is_eq (text_cmp here.partition.topic place.partition.topic)) as (λ b. is_eq (text_cmp here.partition.topic place.partition.topic) ≡ b → cond b (Some n) (get text_cmp old place.partition.topic) ≡ Some k) [
+    | true ↦ λ tie.
+        let topics = text_cmp-IsAntisymmetric here.partition.topic place.partition.topic ((Equal-is (text_cmp here.partition.topic place.partition.topic)).0 tie) in
+        ap Some (places-apart board is n k here place is_here is_place (λ i. record { topic = topics i; index = (zeroth ∙ sym index) i }))
+    | false ↦ λ away. elim (cases_lt k n) [
+      | inl below ↦ before k place below is_place index
+      | inr above ↦
+          let last : n ≡ k = omega arith in
+          let same : here ≡ place = same_Some here place (sym is_here ∙ ap (slice_get board.places.items) last ∙ is_place) in
+          let itself = (Equal-is (text_cmp here.partition.topic place.partition.topic)).1 (ap (λ (p : Place). text_cmp here.partition.topic p.partition.topic) (sym same) ∙ text_cmp-itself here.partition.topic) in
+          cc
+    ]
+  ] refl)
+
+  pub AreFirstsTo-skip : (here.partition.index ≡ pos 0 → ⊥) → AreFirstsTo board.places.items (n + 1) old
+  AreFirstsTo-skip away k place low is_place index = elim (cases_lt k n) [
+    | inl below ↦ before k place below is_place index
+    | inr above ↦
+        let last : n ≡ k = omega arith in
+        let same : here ≡ place = same_Some here place (sym is_here ∙ ap (slice_get board.places.items) last ∙ is_place) in
+        absurd (away (ap (λ (p : Place). p.partition.index) same ∙ index))
+  ]
+
+-- an index as a number
+pub index-read : {E : Type 0} (r : Result ℕ E) (z : ℤ) (i : ℕ) → z ≡ pos i → i < 2 ^ 64 → OkIff r (FitsUnsignedBits 64 z) (nat_abs z) → result_ok r ≡ Some i
+index-read (Ok n) z i same low fits = ap Some (fits.1 ∙ ap nat_abs same)
+index-read (Err e) z i same low fits = absurd (fits (subst (FitsUnsignedBits 64) (sym same) low))

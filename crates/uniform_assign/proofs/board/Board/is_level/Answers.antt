@@ -1,0 +1,29 @@
+use Rattle.std.proofs.Common.{◌≡◌, false, Option, None, Some, is_some, sym, subst, ◌∙◌, arith, inl, inr}
+use Rattle.std.proofs.lemmas.Bool.{cases_lt}
+use Rattle.uniform_assign.specs.declared.level.Move.{Move}
+use Rattle.uniform_assign.specs.Moves.{CanGive, IsMoveOf}
+use Rattle.uniform_assign.proofs.board.Board.is_level.Goals as goal
+
+pub loop-at-init : goal.loop-at-init
+loop-at-init c = λ from k low can. absurd (omega arith)
+
+none : (o : Option Move) → is_some o ≡ false → o ≡ None
+none None is = λ i. None
+none (Some m) is = cc
+
+pub loop-at-preserved : goal.loop-at-preserved
+loop-at-preserved c = λ from k low can.
+    let board = c.args.self.now in
+    let draft = c.args.draft.now in
+    let nowhere = subst (IsMoveOf board draft c.loop-at.at) (none c.move_of.result (sym c.is_some.ensures ∙ c.if-is_some.false)) c.move_of.ensures in
+    elim (cases_lt k c.loop-at.at) [
+      | inl below ↦ c.loop-at.invariant from k below can
+      | inr above ↦ nowhere from (subst (CanGive board draft from) (let last : k ≡ c.loop-at.at = omega arith in last) can)
+    ]
+
+pub returns : goal.returns
+returns c = λ from k low can.
+    let ok = c.args.self.now.places.ok in
+    let last = c.loop-at-test.false in
+    let shown = c.len-at-end.ensures in
+    c.loop-at.invariant from k (omega arith) can

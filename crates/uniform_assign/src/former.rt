@@ -1,0 +1,90 @@
+//! The former owners of the partitions, found by the partitions' places.
+
+ghost use Rattle.std.specs.Prelude.{◌≡◌, IfOk, OnOk, length};
+ghost use Rattle.group_types.specs.Assignors.{IdsAreApart};
+ghost use Rattle.range_assign.specs.Members.{subscribers_in};
+ghost use Rattle.uniform_assign.specs.Boards.{IsBoard};
+ghost use Rattle.uniform_assign.specs.Former.{AreFirsts, AreFormerOwners, IsPlaceOf, IsShared};
+
+use crate::board::Board;
+use crate::draft::no_owners;
+use group_types::{PartSet, Partition};
+use range_assign::{Spread, Subscriber};
+use std::alloc::{AllocError, Global};
+use std::collections::BTreeMap;
+use uuid::Uuid;
+
+impl Board<'_> {
+    /// For each place the former owner of its partition, if it is one of the members, by its place among them.
+    pub fn former_owners(
+        &self,
+        alloc: Global,
+        former: &Spread,
+        members: &[Subscriber<'_>],
+    ) -> Result<Vec<Option<usize>>, AllocError>
+        requires board { IsBoard self.now }
+        requires apart { IdsAreApart (subscribers_in members.now) }
+        ensures as_many { IfOk result (λ owners. length owners.items ≡ length self.now.places.items) }
+        ensures owners { IfOk result (λ owners. AreFormerOwners former.now (subscribers_in members.now) self.now.places.items owners.items) }
+    {
+        let firsts = self.firsts(alloc)?;
+        let mut owners = no_owners(alloc, self.places.len())?;
+        for (at, member) in members.iter().enumerate() {
+            if let Some(set) = former.share_of(member.id.as_str()) {
+                self.add_share(&firsts, &mut owners, set, at);
+            }
+        }
+        Ok(owners)
+    }
+
+    /// The place of each topic's first partition, by the topic's id.
+    fn firsts(&self, alloc: Global) -> Result<BTreeMap<Uuid, usize>, AllocError>
+        requires { IsBoard self.now }
+        ensures { IfOk result (AreFirsts self.now.places.items) }
+    {
+        let mut firsts = BTreeMap::new(alloc);
+        for (at, place) in self.places.iter().enumerate() {
+            if place.partition.index == 0 {
+                firsts.insert(place.partition.topic, at)?;
+            }
+        }
+        Ok(firsts)
+    }
+
+    /// Gives the partitions of the set to the member at a place.
+    fn add_share(
+        &self,
+        firsts: &BTreeMap<Uuid, usize>,
+        owners: &mut Vec<Option<usize>>,
+        set: &PartSet,
+        member: usize,
+    )
+        requires board { IsBoard self.now }
+        requires firsts { AreFirsts self.now.places.items firsts.now }
+        requires as_many { length owners.old.items ≡ length self.now.places.items }
+        ensures as_many { length owners.new.items ≡ length owners.old.items }
+        ensures shared { IsShared self.now.places.items set.now member owners.old.items owners.new.items }
+    {
+        for partition in set.iter() {
+            if let Some(at) = self.place_of(firsts, partition) {
+                owners[at] = Some(member);
+            }
+        }
+    }
+
+    /// Where the partition is in partition order.
+    fn place_of(&self, firsts: &BTreeMap<Uuid, usize>, partition: &Partition) -> Option<usize>
+        requires board { IsBoard self.now }
+        requires firsts { AreFirsts self.now.places.items firsts.now }
+        ensures { IsPlaceOf self.now.places.items partition.now result }
+    {
+        let first = *firsts.get(&partition.topic)?;
+        let index = usize::try_from(partition.index).ok()?;
+        let at = first.checked_add(index)?;
+        if at < self.places.len() && self.places[at].partition.cmp(partition).is_eq() {
+            Some(at)
+        } else {
+            None
+        }
+    }
+}
