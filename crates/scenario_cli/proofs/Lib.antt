@@ -9,3 +9,4 @@ pub mod Pages
 pub mod Reported
 pub mod Running
 pub mod Commanded
+pub mod Digits

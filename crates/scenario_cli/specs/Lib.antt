@@ -10,3 +10,4 @@ pub mod Reports
 pub mod Runs
 pub mod Commands
 pub mod Reporters
+pub mod FrameLines
