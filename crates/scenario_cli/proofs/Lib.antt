@@ -7,7 +7,7 @@ pub mod CutLines
 pub mod Prints
 pub mod Pages
 pub mod Reported
-pub mod DigitTable
 pub mod FirstBytes
 pub mod Running
 pub mod Commanded
+pub mod Digits

@@ -7,7 +7,7 @@ pub mod Writing
 pub mod Requests
 pub mod Printing
 pub mod Reports
-pub mod Digits
 pub mod Runs
 pub mod Commands
 pub mod Reporters
+pub mod FrameLines

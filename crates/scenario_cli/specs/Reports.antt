@@ -1,9 +1,9 @@
 -- The lines of `coord frame`. Their forms are this program's own; the fields stand in the order of the messages (Kafka
 -- protocol guide, "Request Header v2", "OffsetCommit Request v9"; KIP-848, "ConsumerGroupHeartbeatRequest").
-use Rattle.std.specs.Prelude.{◌≡◌, ◌⊎◌, ℕ, ℤ, min, List, [], ◌∷◌, ◌++◌, Option, Some, None, codes, map, decimal, Ok}
+use Rattle.std.specs.Prelude.{◌≡◌, ◌⊎◌, ℕ, ℤ, min, List, [], ◌∷◌, ◌++◌, Option, Some, None, codes, map, decimal}
 use Rattle.std.specs.List.{flat_map}
 use Rattle.std.specs.Fmt.{signed_decimal}
-use Rattle.hex.specs.Hex.{decode_of, encode_lower}
+use Rattle.hex.specs.Hex.{encode_lower}
 use Rattle.uuid.specs.Text.{hyphenated_text, lower}
 use Rattle.flex_wire.specs.Faults.{number_of}
 use Rattle.kip_msgs.specs.declared.fault.MsgFault.{MsgFault}
@@ -15,7 +15,7 @@ use Rattle.kip_msgs.specs.Heads.{HasUnknownKey, HasUnknownVersion, HasFieldFault
 use Rattle.kip_msgs.specs.TagCount.{tags_in}
 use Rattle.coord_node.specs.Replies.{IsFrame}
 use Rattle.scenario_cli.specs.Lines.{fed}
-use Rattle.scenario_cli.specs.Words.{IsLine, words_of}
+use Rattle.scenario_cli.specs.FrameLines.{IsFrameLine}
 
 -- ---- words
 
@@ -154,22 +154,11 @@ pub record PutsReport (bytes before after : List ℕ) : Type 0 where
   pub report : IsReport bytes lines
   pub put : after ≡ before ++ flat_map fed lines
 
--- the line is one word, which spells bytes in hex
-pub record IsFrameLine (input bytes : List ℕ) : Type 0 where
-  pub is_line : IsLine input
-  pub word : List ℕ
-  pub alone : words_of input ≡ word ∷ []
-  pub spelled : decode_of word ≡ Ok bytes
-
 -- the report of the bytes that a line spells is printed
 pub record PrintsReport (input before after : List ℕ) : Type 0 where
   pub bytes : List ℕ
   pub is_frame_line : IsFrameLine input bytes
   pub puts : PutsReport bytes before after
-
--- the line spells bytes
-abbrev pub SpellsBytes : List ℕ → Type 0
-SpellsBytes input = (bytes : List ℕ) × IsFrameLine input bytes
 
 -- what a line does, whatever state there is: it prints the report
 abbrev pub DoesFrameLine : {State : Type 0} → State → List ℕ → State → List ℕ → Type 0

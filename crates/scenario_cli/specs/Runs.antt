@@ -80,23 +80,16 @@ abbrev pub IsStatus : Option Fault → ℕ → Type 0
 IsStatus None status = status ≡ 0
 IsStatus (Some fault) status = (status ≡ status_of fault) ⊎ (status ≡ 1)
 
--- the bytes that a run may read, and those that its two outputs hold before and after it, where they are known
-pub record Streams : Type 0 where
-  pub input : Option (List ℕ)
-  pub output_before : Option (List ℕ)
-  pub output_after : Option (List ℕ)
-  pub errors_before : Option (List ℕ)
-  pub errors_after : Option (List ℕ)
-
--- A run of a subcommand, whose lines have an effect, and which takes some lines. An input that is too long isn't begun,
--- and nothing is told of a run without a fault.
-pub record RunsLines {State : Type 0} (does : Effect State) (takes : List ℕ → Type 0) (old : State) (s : Streams) (status : ℕ) : Type 0 where
+-- A run of a subcommand, whose lines have an effect, and which takes some lines: over the bytes of its input, and with
+-- those that its two outputs hold before and after it, where these are known. An input that is too long isn't begun, and
+-- nothing is told of a run without a fault.
+pub record RunsLines {State : Type 0} (does : Effect State) (takes : List ℕ → Type 0) (old : State) (input : Option (List ℕ)) (output errors : Option (List ℕ) × Option (List ℕ)) (status : ℕ) : Type 0 where
   pub fault : Option Fault
-  pub ends : EndsOver does takes old s.input s.output_before s.output_after fault
+  pub ends : EndsOver does takes old input output.0 output.1 fault
   pub is_status : IsStatus fault status
-  pub too_long : IsTooLong s.input → (status ≡ 1) × Keeps s.output_before s.output_after
-  pub told : Grows s.errors_before s.errors_after
-  pub quiet : status ≡ 0 → Keeps s.errors_before s.errors_after
+  pub too_long : IsTooLong input → (status ≡ 1) × Keeps output.0 output.1
+  pub told : Grows errors.0 errors.1
+  pub quiet : status ≡ 0 → Keeps errors.0 errors.1
 
 -- How one line ends in a run, by the text that is printed and not yet written before and after it: a line that is done
 -- is printed. What is held is written before the run ends at the line.

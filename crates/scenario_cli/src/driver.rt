@@ -41,13 +41,8 @@ pub fn run<L: LineWorker, R: Read, W: Write, E: Write>(
     writer: &mut W,
     faults: &mut E,
 ) -> u8
-    ensures { RunsLines L.does L.takes worker.old (record {
-      input = R.remaining reader.old;
-      output_before = W.contents writer.old;
-      output_after = W.contents writer.new;
-      errors_before = E.contents faults.old;
-      errors_after = E.contents faults.new;
-    }) result }
+    ensures { RunsLines L.does L.takes worker.old (R.remaining reader.old)
+        (W.contents writer.old, W.contents writer.new) (E.contents faults.old, E.contents faults.new) result }
 {
     match do_lines(alloc, worker, reader, writer) {
         Ok(()) => 0,

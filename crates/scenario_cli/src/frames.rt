@@ -2,7 +2,8 @@
 ghost use Rattle.std.specs.Prelude.{◌≡◌, [], OnOk, OnErr};
 ghost use Rattle.scenario_cli.specs.declared.frames.Reporter.{Reporter};
 ghost use Rattle.scenario_cli.specs.Reporters.{new_reporter};
-ghost use Rattle.scenario_cli.specs.Reports.{DoesFrameLine, PrintsReport, SpellsBytes};
+ghost use Rattle.scenario_cli.specs.Reports.{DoesFrameLine, PrintsReport};
+ghost use Rattle.scenario_cli.specs.FrameLines.{SpellsBytes};
 ghost use Rattle.scenario_cli.specs.Runs.{Prints, RunsLines};
 
 use crate::driver::{self, LineWorker};
@@ -24,13 +25,8 @@ pub fn frame_lines<R: Read, W: Write, E: Write>(
     writer: &mut W,
     faults: &mut E,
 ) -> u8
-    ensures { RunsLines (DoesFrameLine {State = Reporter}) SpellsBytes (new_reporter alloc) (record {
-      input = R.remaining reader.old;
-      output_before = W.contents writer.old;
-      output_after = W.contents writer.new;
-      errors_before = E.contents faults.old;
-      errors_after = E.contents faults.new;
-    }) result }
+    ensures { RunsLines (DoesFrameLine {State = Reporter}) SpellsBytes (new_reporter alloc) (R.remaining reader.old)
+        (W.contents writer.old, W.contents writer.new) (E.contents faults.old, E.contents faults.new) result }
 {
     let mut reporter = Reporter::new(alloc);
     driver::run(alloc, &mut reporter, reader, writer, faults)
@@ -67,11 +63,7 @@ impl LineWorker for Reporter {
         ensures err { OnErr result (output.new ≡ output.old) }
         ensures refused { result ≡ Err LineFault.BadLine → ¬ SpellsBytes line.now }
     {
-        let words = words::words_of(self.alloc, line)?;
-        let [word] = words.as_slice() else {
-            return Err(LineFault::BadLine);
-        };
-        let bytes = words::bytes_of(self.alloc, word)?;
+        let bytes = words::bytes_of_line(self.alloc, line)?;
         self.page.clear();
         put_report(self.alloc, &mut self.page, bytes.as_slice())?;
         output.text(self.page.as_str())?;

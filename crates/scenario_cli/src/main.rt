@@ -7,7 +7,6 @@
 #![tactic(auto)]
 
 mod command_line;
-mod digits;
 mod driver;
 mod fault;
 mod frame;

@@ -19,13 +19,8 @@ pub fn reply_lines<R: Read, W: Write, E: Write>(
     writer: &mut W,
     faults: &mut E,
 ) -> u8
-    ensures { RunsLines DoesReplyLine IsReplyLine (new_interpreter alloc) (record {
-      input = R.remaining reader.old;
-      output_before = W.contents writer.old;
-      output_after = W.contents writer.new;
-      errors_before = E.contents faults.old;
-      errors_after = E.contents faults.new;
-    }) result }
+    ensures { RunsLines DoesReplyLine IsReplyLine (new_interpreter alloc) (R.remaining reader.old)
+        (W.contents writer.old, W.contents writer.new) (E.contents faults.old, E.contents faults.new) result }
 {
     let mut interpreter = Interpreter::new(alloc, hasher);
     driver::run(alloc, &mut interpreter, reader, writer, faults)

@@ -1,9 +1,9 @@
 //! The words of a line, and what they stand for.
-ghost use Rattle.std.specs.Prelude.{◌≡◌, ◌≢◌, ℕ, [], pos, All, ◌^◌, ◌<◌, ◌↔◌, map, decimal, IsTrue, IfOk, OnOk, IsErr, IfSome, IfNone};
-ghost use Rattle.hex.specs.Hex.{decode_of};
-ghost use Rattle.scenario_cli.specs.Words.{words_of, IsLine, IsName};
+ghost use Rattle.std.specs.Prelude.{◌≡◌, ◌≢◌, ℕ, [], pos, All, ◌^◌, ◌*◌, ◌<◌, ◌↔◌, length, map, decimal, IsTrue, IfOk, OnOk, IsErr, IfSome, IfNone, MatchBool};
+ghost use Rattle.hex.specs.Hex.{decode_of, decode_pairs};
+ghost use Rattle.scenario_cli.specs.Words.{words_of, IsLine, IsName, digit_value};
+ghost use Rattle.scenario_cli.specs.FrameLines.{IsFrameLine, SpellsBytes};
 
-use crate::digits::decode_into;
 use crate::fault::LineFault;
 use group_types::limits::LONGEST_STRING;
 use itoa::Buffer;
@@ -71,16 +71,79 @@ pub fn is_name(word: &str) -> bool
         && word.bytes().all(|byte| byte != b',' && byte != b':')
 }
 
-/// The bytes that a word spells in hex, in either case.
+/// The bytes that a word spells in hex, in either case. Another word is a bad line.
 pub fn bytes_of(alloc: Global, word: &str) -> Result<Vec<u8>, LineFault>
     ensures bytes { IfOk result (λ bytes. decode_of word.now ≡ Ok bytes.items) }
     ensures refused { result ≡ Err LineFault.BadLine → IsErr (decode_of word.now) }
 {
-    let digits = word.as_bytes();
-    if digits.len() % 2 == 1 {
+    decoded(alloc, word.as_bytes())
+}
+
+/// The bytes that a line spells in hex, in either case, where it is one word. Any other line is a bad line.
+pub fn bytes_of_line(alloc: Global, line: &[u8]) -> Result<Vec<u8>, LineFault>
+    ensures bytes { IfOk result (λ bytes. IsFrameLine line.now bytes.items) }
+    ensures refused { result ≡ Err LineFault.BadLine → ¬ SpellsBytes line.now }
+{
+    if line.is_empty() {
+        return Err(LineFault::BadLine);
+    }
+    decoded(alloc, line)
+}
+
+/// The bytes that digits spell in hex.
+fn decoded(alloc: Global, digits: &[u8]) -> Result<Vec<u8>, LineFault>
+    ensures bytes { IfOk result (λ bytes. decode_of digits.now ≡ Ok bytes.items) }
+    ensures refused { result ≡ Err LineFault.BadLine → IsErr (decode_of digits.now) }
+{
+    if digits.len() % 2 != 0 {
         return Err(LineFault::BadLine);
     }
     let mut bytes = vec![in alloc; 0u8; digits.len() / 2]?;
-    decode_into(digits, bytes.as_mut_slice())?;
-    Ok(bytes)
+    if decode_into(digits, bytes.as_mut_slice()) {
+        Ok(bytes)
+    } else {
+        Err(LineFault::BadLine)
+    }
 }
+
+/// Decodes two digits for each of the bytes, and says whether all were digits.
+fn decode_into(digits: &[u8], bytes: &mut [u8]) -> bool
+    requires { length digits.now ≡ 2 * length bytes.old }
+    ensures { MatchBool result (decode_pairs 0 digits.now ≡ Ok bytes.new) (IsErr (decode_pairs 0 digits.now)) }
+{
+    for i in 0..bytes.len() {
+        let high = digit_value(digits[2 * i]);
+        let low = digit_value(digits[2 * i + 1]);
+        if high >= 16 || low >= 16 {
+            return false;
+        }
+        bytes[i] = high * 16 + low;
+    }
+    true
+}
+
+/// The value of a digit, in either case, and 255 for another byte.
+#[inline]
+fn digit_value(digit: u8) -> u8
+    ensures { result ≡ digit_value digit }
+{
+    DIGIT_VALUES[digit as usize]
+}
+
+/// The values of all bytes as digits. A table has no branch that a processor could guess wrongly.
+const DIGIT_VALUES: [u8; 256] = [
+    255, 255, 255, 255, 255, 255, 255, 255, 255, 255, 255, 255, 255, 255, 255, 255, 255, 255, 255,
+    255, 255, 255, 255, 255, 255, 255, 255, 255, 255, 255, 255, 255, 255, 255, 255, 255, 255, 255,
+    255, 255, 255, 255, 255, 255, 255, 255, 255, 255, 0, 1, 2, 3, 4, 5, 6, 7, 8, 9, 255, 255, 255,
+    255, 255, 255, 255, 10, 11, 12, 13, 14, 15, 255, 255, 255, 255, 255, 255, 255, 255, 255, 255,
+    255, 255, 255, 255, 255, 255, 255, 255, 255, 255, 255, 255, 255, 255, 255, 255, 10, 11, 12, 13,
+    14, 15, 255, 255, 255, 255, 255, 255, 255, 255, 255, 255, 255, 255, 255, 255, 255, 255, 255,
+    255, 255, 255, 255, 255, 255, 255, 255, 255, 255, 255, 255, 255, 255, 255, 255, 255, 255, 255,
+    255, 255, 255, 255, 255, 255, 255, 255, 255, 255, 255, 255, 255, 255, 255, 255, 255, 255, 255,
+    255, 255, 255, 255, 255, 255, 255, 255, 255, 255, 255, 255, 255, 255, 255, 255, 255, 255, 255,
+    255, 255, 255, 255, 255, 255, 255, 255, 255, 255, 255, 255, 255, 255, 255, 255, 255, 255, 255,
+    255, 255, 255, 255, 255, 255, 255, 255, 255, 255, 255, 255, 255, 255, 255, 255, 255, 255, 255,
+    255, 255, 255, 255, 255, 255, 255, 255, 255, 255, 255, 255, 255, 255, 255, 255, 255, 255, 255,
+    255, 255, 255, 255, 255, 255, 255, 255, 255, 255, 255, 255, 255, 255, 255, 255, 255, 255, 255,
+    255, 255, 255,
+];
