@@ -1,4 +1,4 @@
--- What holds of every step of the coordinator.
+-- What holds of every step of the coordinator, and after every run.
 use Rattle.std.specs.Prelude.{◌≡◌, ◌≢◌, ℕ, pos, List, [], Some, None}
 use Rattle.std.specs.FinMap as finite
 use Rattle.kip_msgs.specs.Values.{RequestHeaderValue, HeartbeatRequestValue, heartbeat_request}
