@@ -7,3 +7,4 @@ pub mod OneAnswer
 pub mod FirstJoin
 pub mod GrowthLemmas
 pub mod AnswerLemmas
+pub mod SoundGroups

@@ -1,10 +1,13 @@
--- What holds of every step of the coordinator.
-use Rattle.std.specs.Prelude.{◌≡◌, ◌≢◌, ℕ, pos, List, [], None}
+-- What holds of every step of the coordinator, and after every run.
+use Rattle.std.specs.Prelude.{◌≡◌, ◌≢◌, ℕ, pos, List, [], Some, None}
 use Rattle.std.specs.FinMap as finite
 use Rattle.kip_msgs.specs.Values.{RequestHeaderValue, HeartbeatRequestValue, heartbeat_request}
 use Rattle.group_types.specs.declared.stamp.Stamp.{Stamp}
-use Rattle.coord_node.specs.Coordinator.{Coordinator, Event, Frame, Answer, Closes}
-use Rattle.coord_node.specs.Steps.{IsRequest, Step}
+use Rattle.group_types.specs.Text.{Text}
+use Rattle.group_types.specs.Group.{Group}
+use Rattle.group_types.specs.Sound.{IsSound}
+use Rattle.coord_node.specs.Coordinator.{Coordinator, Event, Frame, Answer, Closes, opening}
+use Rattle.coord_node.specs.Steps.{EventRelation, IsRequest, RunBy, Step}
 
 -- an event has one answer at a node, and leaves one node
 abbrev pub OneAnswer : Type 0
@@ -27,3 +30,20 @@ AnswersFirstJoins =
     (moment : ℕ) (answer : Answer) (new : Coordinator)
     → IsRequest (heartbeat_request header v) body → IsFirstJoin c v
     → Step c (Frame body stamp moment) answer new → answer ≢ Closes
+
+-- ---- each group is sound, whatever came to its coordinator
+
+abbrev pub HasSoundGroups : Coordinator → Type 0
+HasSoundGroups c = (name : Text) (g : Group) → finite.get c.groups name ≡ Some g → IsSound g
+
+-- an event leaves sound groups where there were sound ones
+abbrev pub StepsAreSound : EventRelation → Type 0
+StepsAreSound Steps =
+    (c : Coordinator) (event : Event) (answer : Answer) (new : Coordinator)
+    → Steps c event answer new → HasSoundGroups c → HasSoundGroups new
+
+-- whatever came to a coordinator since its opening, each of its groups is sound
+abbrev pub GroupsAreSound : EventRelation → Type 0
+GroupsAreSound Steps =
+    (salt : ℕ) (events : List Event) (answers : List Answer) (c : Coordinator)
+    → RunBy Steps (opening salt) events answers c → HasSoundGroups c

@@ -1,7 +1,10 @@
 //! Laws of the coordinator's steps, proved where nothing runs.
-ghost use Rattle.coord_node.specs.Laws.{AnswersFirstJoins, OneAnswer};
+ghost use Rattle.coord_node.specs.Laws.{AnswersFirstJoins, GroupsAreSound, OneAnswer, StepsAreSound};
+ghost use Rattle.coord_node.specs.Steps.{Step};
+ghost use Rattle.coord_node.specs.Today.{StepToday};
 
 use group_core::{first_joins_are_answered, heartbeats_have_one_answer};
+use group_types::{commits_are_sound, every_group_is_sound, heartbeats_are_sound, ticks_are_sound};
 use kip_msgs::one_request_a_body;
 
 /// An event has one answer at a node, and leaves one node.
@@ -18,4 +21,24 @@ pub fn path_is_answered()
 {
     one_request_a_body();
     first_joins_are_answered();
+}
+
+/// An event leaves sound groups where there were sound ones: in the whole machine, and as far as it is built.
+pub fn steps_are_sound()
+    ensures whole { StepsAreSound Step }
+    ensures built { StepsAreSound StepToday }
+{
+    every_group_is_sound();
+    heartbeats_are_sound();
+    ticks_are_sound();
+    commits_are_sound();
+}
+
+/// Whatever came to a coordinator since its opening, each of its groups is sound: in none do two members hold one
+/// partition, among others. That is so of the whole machine, and of it as far as it is built.
+pub fn groups_are_sound()
+    ensures whole { GroupsAreSound Step }
+    ensures built { GroupsAreSound StepToday }
+{
+    steps_are_sound();
 }

@@ -14,5 +14,5 @@ mod run;
 
 pub use event::{Answered, NodeEvent};
 pub use group_core::{Group, Image, Moment, Stamp};
-pub use laws::{one_answer, path_is_answered};
+pub use laws::{groups_are_sound, one_answer, path_is_answered, steps_are_sound};
 pub use node::Node;
