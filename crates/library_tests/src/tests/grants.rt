@@ -74,18 +74,36 @@ struct Granted;
 impl Answers for Granted {
     /// The verdicts of the steps' offers, and the grants after the last.
     fn answer(alloc: Global, question: &str, out: &mut String) -> Result<(), AllocError> {
-        let mut both = Both {
-            grants: Grants::new(alloc),
-            list: Vec::new(alloc),
-        };
-        for step in question.split("; ") {
-            take_step(alloc, &mut both, step, out)?;
-        }
-        for word in SHOWN {
-            tell_partition(&both, &part(word), out)?;
-        }
-        Ok(())
+        let mut both = nothing_granted(alloc);
+        take_steps(alloc, &mut both, question, out)?;
+        tell_grants(&both, out)
     }
+}
+
+fn nothing_granted(alloc: Global) -> Both {
+    Both {
+        grants: Grants::new(alloc),
+        list: Vec::new(alloc),
+    }
+}
+
+fn take_steps(
+    alloc: Global,
+    both: &mut Both,
+    steps: &str,
+    out: &mut String,
+) -> Result<(), AllocError> {
+    for step in steps.split("; ") {
+        take_step(alloc, both, step, out)?;
+    }
+    Ok(())
+}
+
+fn tell_grants(both: &Both, out: &mut String) -> Result<(), AllocError> {
+    for word in SHOWN {
+        tell_partition(both, &part(word), out)?;
+    }
+    Ok(())
 }
 
 fn take_step(
