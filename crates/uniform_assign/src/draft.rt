@@ -43,21 +43,6 @@ impl Draft {
         self.owners[partition] = Some(member);
         self.counts[member] += 1;
     }
-
-    /// Of the takers the one that owns the fewest partitions, and of several such the first.
-    pub fn fewest(&self, takers: &[usize]) -> Option<usize>
-        requires { All (λ t. t < length self.now.counts.items) takers.now }
-        ensures { IsLeastOf self.now.counts.items takers.now result }
-    {
-        let (first, others) = takers.split_first()?;
-        let mut best = *first;
-        for taker in others {
-            if self.counts[*taker] < self.counts[best] {
-                best = *taker;
-            }
-        }
-        Some(best)
-    }
 }
 
 /// No owner for each of so many partitions.
