@@ -1,7 +1,7 @@
 //! The owners of the partitions while they are worked out.
 
 ghost use Rattle.std.specs.Prelude.{◌≡◌, ◌<◌, ℕ, All, IfOk, None, Some, length, replicate, slice_get, slice_set};
-ghost use Rattle.uniform_assign.specs.Drafts.{AreCounts, IsLeastOf};
+ghost use Rattle.uniform_assign.specs.Drafts.{AreCounts};
 ghost use Rattle.uniform_assign.specs.Moves.{one_moved};
 
 use std::alloc::{AllocError, Global};
