@@ -122,7 +122,7 @@ fn print_one_topic(
     print_changes(rt, mode, setting, members, more)
 }
 
-/// Prints the groups of more members and of one member fewer, after the owners under uniform.
+/// Prints the groups of the same members, of more and of one member fewer, after the owners under uniform.
 fn print_changes(
     rt: &(impl AllocGlobal + Clock + Print),
     mode: Mode,
@@ -136,6 +136,14 @@ fn print_changes(
     let former = &spread_of(rt.alloc(), Uniform, setting, members)?;
     let setting = Setting { former, ..setting };
     let fewer = members.saturating_sub(1);
+    print_assigned(
+        rt,
+        mode,
+        "uniform, 1 topic, the same members",
+        Uniform,
+        setting,
+        members,
+    )?;
     print_assigned(
         rt,
         mode,

@@ -1,14 +1,13 @@
--- The counts of owners, where one of them is written, and the least of them.
-use Rattle.std.proofs.Common.{◌≡◌, ◌==◌, ◌⊎◌, ℕ, zero, suc, ◌<◌, ◌≤◌, ◌+◌, ◌-◌, ◌*◌, true, false, cond, List, [], ◌∷◌, ◌++◌, length, get_or, set as set_at, refl, sym, ap, subst, ◌∙◌, arith, inl, inr, Option, Some, None, length-set, get_or-set_other, get_or-set_same, sum_by}
+-- The counts of owners, where one of them is written.
+use Rattle.std.proofs.Common.{◌≡◌, ◌==◌, ◌⊎◌, ℕ, zero, suc, ◌<◌, ◌≤◌, ◌+◌, ◌-◌, ◌*◌, true, false, cond, List, [], ◌∷◌, length, get_or, set as set_at, refl, sym, ap, subst, ◌∙◌, arith, inl, inr, Option, Some, None, length-set, get_or-set_other, get_or-set_same, sum_by}
 use Rattle.std.specs.List.{count_by, slice_get}
 use Rattle.std.proofs.lemmas.Bool.{cases_order}
 use Rattle.std.proofs.lemmas.Bool.Decides.{Decides-eqb}
 use Rattle.std.proofs.lemmas.List.Sums.{count_by-le-length, get_or-le-sum_by, sum_by-set}
 use Rattle.std.proofs.lemmas.List.{get_or_read}
 use Rattle.std.proofs.lemmas.Option.{get_or_from_slice_get, same_Some, slice_get_within}
-use Rattle.uniform_assign.specs.Drafts.{AreCounts, IsLeast, is_owner}
+use Rattle.uniform_assign.specs.Drafts.{AreCounts, is_owner}
 use Rattle.uniform_assign.specs.Moves.{one_moved}
-use Rattle.uniform_assign.proofs.Lists.{pushed_at, slice_get-append_cases, slice_get-append_left}
 
 pub cases_equal : (m n : ℕ) → (m ≡ n) ⊎ (m ≡ n → ⊥)
 cases_equal m n = elim (cases_order m n) [
@@ -132,6 +131,17 @@ AreCounts-moved owners counts k from to are owns low =
           omega arith;
     }
 
+-- the two counts that changed are written once more
+pub moved-again : (counts new : List ℕ) (from to one two : ℕ) → from < length counts → to < length counts → (to ≡ from → ⊥) → new ≡ one_moved counts from to → one ≡ get_or new from 0 → two ≡ get_or new to 0
+    → set_at (set_at counts from one) to two ≡ new
+moved-again counts new from to one two from_in to_in apart same is_one is_two =
+    let less = set_at counts from (get_or counts from 0 - 1) in
+    let long = length-set counts from (get_or counts from 0 - 1) in
+    let first : one ≡ get_or counts from 0 - 1 =
+    is_one ∙ ap (λ xs. get_or xs from 0) same ∙ get_or-set_other less to from (get_or less to 0 + 1) 0 (λ equal. apart (sym equal)) ∙ get_or-set_same counts from (get_or counts from 0 - 1) 0 from_in in
+    let second : two ≡ get_or less to 0 + 1 = is_two ∙ ap (λ xs. get_or xs to 0) same ∙ get_or-set_same less to (get_or less to 0 + 1) 0 (omega arith) in
+    ap (λ n. set_at (set_at counts from n) to two) first ∙ ap (set_at less to) second ∙ sym same
+
 -- ---- the squares of the counts
 
 abbrev pub squares : List ℕ → ℕ
@@ -158,46 +168,6 @@ squares_fall counts from to from_in to_in fewer =
         let is : a ≡ b + 2 + e = omega arith in
         let less : a - 1 ≡ b + 1 + e = omega arith in
         multiplied b e s t u (sym (ap (λ n. t + n * n) is) ∙ first ∙ ap (λ n. s + n * n) less) (subst (λ n. u + n * n ≡ t + (n + 1) * (n + 1)) same second)
-
--- ---- the least
-
-module _ (counts takers : List ℕ) (m t : ℕ) (is : IsLeast counts takers m) where
-  last : (k n : ℕ) → slice_get (takers ++ t ∷ []) k ≡ Some n → (slice_get takers k ≡ Some n) ⊎ ((k ≡ length takers) × (n ≡ t))
-  last k n there = elim (slice_get-append_cases takers (t ∷ []) k n there) [
-    | inl before ↦ inl before
-    | inr (j, at, end) ↦ elim j as (λ j. k ≡ length takers + j → slice_get (t ∷ []) j ≡ Some n → (slice_get takers k ≡ Some n) ⊎ ((k ≡ length takers) × (n ≡ t))) [
-      | zero ↦ λ at end. inr (omega arith, sym (same_Some t n end))
-      | suc j ↦ λ at end. cc
-    ] at end
-  ]
-
-  pub IsLeast-keeps : get_or counts m 0 ≤ get_or counts t 0 → IsLeast counts (takers ++ t ∷ []) m
-  IsLeast-keeps low = record {
-    place = is.place;
-    is_there = slice_get-append_left takers (t ∷ []) is.place m is.is_there;
-    least = λ k n there. elim (last k n there) [
-      | inl before ↦ is.least k n before
-      | inr (at, same) ↦ let equal = ap (λ n. get_or counts n 0) same in omega arith
-    ];
-    first = λ k n early there. elim (last k n there) [
-      | inl before ↦ is.first k n early before
-      | inr (at, same) ↦ let within = slice_get_within takers is.place m is.is_there in absurd (omega arith)
-    ];
-  }
-
-  pub IsLeast-takes : get_or counts t 0 < get_or counts m 0 → IsLeast counts (takers ++ t ∷ []) t
-  IsLeast-takes low = record {
-    place = length takers;
-    is_there = pushed_at takers t;
-    least = λ k n there. elim (last k n there) [
-      | inl before ↦ let above = is.least k n before in omega arith
-      | inr (at, same) ↦ let equal = ap (λ n. get_or counts n 0) same in omega arith
-    ];
-    first = λ k n early there. elim (last k n there) [
-      | inl before ↦ let above = is.least k n before in omega arith
-      | inr (at, same) ↦ absurd (omega arith)
-    ];
-  }
 
 -- ---- a partition is taken from its owner, if it has one, and given
 

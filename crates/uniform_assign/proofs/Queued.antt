@@ -1,6 +1,8 @@
 -- The queue of a topic's subscribers, and what a partition that is given changes in it.
-use Rattle.std.proofs.Common.{◌≡◌, ℕ, ◌<◌, ◌+◌, List, length, get_or, set as set_at, slice_get, refl, sym, ap, ◌∙◌, arith, inl, inr, Option, Some, None, length-set, get_or-set_other}
-use Rattle.std.proofs.lemmas.List.{length-map}
+use Rattle.std.proofs.Common.{◌≡◌, ℕ, zero, suc, ◌<◌, ◌≤◌, ◌+◌, List, [], ◌∷◌, ◌++◌, length, get_or, set as set_at, slice_get, refl, sym, ap, subst, ◌∙◌, arith, inl, inr, Option, Some, None, length-set, get_or-set_other, get_or-set_same}
+use Rattle.std.specs.Global.{Vec}
+use Rattle.std.proofs.lemmas.List.{length-map, length_push}
+use Rattle.std.proofs.lemmas.Bool.{cases_lt, cases_order}
 use Rattle.std.proofs.lemmas.Option.{get_or_from_slice_get, same_Some, slice_get_within}
 use Rattle.group_types.specs.Text.{Text}
 use Rattle.group_types.specs.Assignors.{IdsAreApart, Subscriber}
@@ -10,13 +12,13 @@ use Rattle.uniform_assign.specs.declared.board.Place.{Place}
 use Rattle.uniform_assign.specs.declared.draft.Draft.{Draft}
 use Rattle.uniform_assign.specs.declared.ranking.Rank.{Rank}
 use Rattle.uniform_assign.specs.declared.ranking.Ranking.{Ranking}
-use Rattle.uniform_assign.specs.Boards.{AreTakersOf, IsBoard}
+use Rattle.uniform_assign.specs.Boards.{AreTakersOf, IsBoard, Rises}
 use Rattle.uniform_assign.specs.Drafts.{AreCounts, IsDraft, IsLeast}
-use Rattle.uniform_assign.specs.Rankings.{IsLeastAt, IsOfTopic, IsRanking, IsRankingOf, counts_of}
+use Rattle.uniform_assign.specs.Rankings.{AreRankings, IsLeastAt, IsOfTopic, IsRanking, IsRankingOf, counts_of}
 use Rattle.uniform_assign.proofs.Boards.{IsAt, at_place, least-within, taker_here}
 use Rattle.uniform_assign.proofs.Counts.{AreCounts-given, cases_equal}
 use Rattle.uniform_assign.proofs.Kept.{slice_get-set_other, slice_get-set_same}
-use Rattle.uniform_assign.proofs.Lists.{AreOnce, AreOnce-filter, slice_get-map_at, slice_get-map_from}
+use Rattle.uniform_assign.proofs.Lists.{AreOnce, AreOnce-filter, slice_get-append_cases, slice_get-map_at, slice_get-map_from}
 
 -- no member takes a topic twice
 pub AreOnce-takers : (subs : List Subscriber) (name : Text) (takers : List ℕ) → IdsAreApart subs → AreTakersOf subs name takers → AreOnce takers
@@ -125,3 +127,134 @@ IsFirstIn-of board draft at topic k m nodes are queued least is_m =
     let twice = queued.ranking.are_ranks.as_many in
     let inside = least.within in
     record { queued = queued; is_taker = is_m; least = is_least; member = s; is_member = is_s; within = omega arith; room = omega arith }
+
+-- ---- all topics
+
+pub AreOnce-rises : (xs : List ℕ) → Rises xs → AreOnce xs
+AreOnce-rises xs rise i j x is_i is_j = elim (cases_order i j) [
+  | inl same ↦ same
+  | inr other ↦ elim other [
+    | inl before ↦ let less = rise i j x x before is_i is_j in absurd (omega arith)
+    | inr after ↦ let less = rise j i x x after is_j is_i in absurd (omega arith)
+  ]
+]
+
+-- the count of a member was written that is at a place among the takers, or isn't there
+pub IsRanking-written : (counts takers : List ℕ) (member count k : ℕ) (nodes : List Rank) → AreOnce takers → slice_get takers k ≡ Some member → member < length counts
+    → IsRanking (set_at (counts_of counts takers) k count) nodes → IsRanking (counts_of (set_at counts member count) takers) nodes
+IsRanking-written counts takers member count k nodes once is_member low is =
+    let new = set_at counts member count in
+    let long = length-map takers (λ t. get_or new t 0) in
+    let old_long = length-map takers (λ t. get_or counts t 0) in
+    let set_long = length-set (counts_of counts takers) k count in
+    let inside = slice_get_within takers k member is_member in
+    IsRanking-same (set_at (counts_of counts takers) k count) (counts_of new takers) nodes (omega arith) (λ j n is_n.
+    let (t, is_t, same) = slice_get-map_from (λ t. get_or new t 0) takers j n is_n in
+    elim (cases_equal j k) [
+      | inl equal ↦
+          let taker : t ≡ member = same_Some t member (sym is_t ∙ ap (slice_get takers) equal ∙ is_member) in
+          ap (slice_get (set_at (counts_of counts takers) k count)) equal
+          ∙ slice_get-set_same (counts_of counts takers) k count (omega arith)
+          ∙ ap Some (sym (get_or-set_same counts member count 0 low) ∙ ap (λ u. get_or new u 0) (sym taker) ∙ same)
+      | inr apart ↦
+          let other : t ≡ member → ⊥ = λ taker. apart (once j k member (is_t ∙ ap Some taker) is_member) in
+          slice_get-set_other (counts_of counts takers) k j count apart
+          ∙ slice_get-map_at (λ u. get_or counts u 0) takers j t is_t
+          ∙ ap Some (sym (get_or-set_other counts member t count 0 other) ∙ same)
+    ])
+    is
+
+pub IsRanking-unwritten : (counts takers : List ℕ) (member count : ℕ) (nodes : List Rank) → ((k : ℕ) → slice_get takers k ≡ Some member → ⊥)
+    → IsRanking (counts_of counts takers) nodes → IsRanking (counts_of (set_at counts member count) takers) nodes
+IsRanking-unwritten counts takers member count nodes away is =
+    let new = set_at counts member count in
+    let long = length-map takers (λ t. get_or new t 0) in
+    let old_long = length-map takers (λ t. get_or counts t 0) in
+    IsRanking-same (counts_of counts takers) (counts_of new takers) nodes (omega arith) (λ j n is_n.
+    let (t, is_t, same) = slice_get-map_from (λ t. get_or new t 0) takers j n is_n in
+    slice_get-map_at (λ u. get_or counts u 0) takers j t is_t
+    ∙ ap Some (sym (get_or-set_other counts member t count 0 (λ taker. away j (is_t ∙ ap Some taker))) ∙ same))
+    is
+
+-- the topics before the nth have the new count of the member, and the others have their old rankings
+pub record AreRenewed (board : Board) (old new : List Ranking) (member count n : ℕ) : Type 0 where
+  pub as_many : length new ≡ length old
+  pub rest : (t : ℕ) → n ≤ t → slice_get new t ≡ slice_get old t
+  pub renewed : (counts : List ℕ) → member < length counts → AreRankings board counts old → (t : ℕ) (takers : Vec ℕ) (ranking : Ranking) → t < n → slice_get board.takers.items t ≡ Some takers → slice_get new t ≡ Some ranking
+      → IsRanking (counts_of (set_at counts member count) takers.items) ranking.nodes.items
+
+pub AreRenewed-none : (board : Board) (old : List Ranking) (member count : ℕ) → AreRenewed board old old member count 0
+AreRenewed-none board old member count = record { as_many = refl; rest = λ t low. refl; renewed = λ counts low are t takers ranking early. absurd (omega arith) }
+
+module _ (board : Board) (old new : List Ranking) (member count n : ℕ) (before : AreRenewed board old new member count n) (takers : Vec ℕ) (is_takers : slice_get board.takers.items n ≡ Some takers) where
+  pub AreRenewed-skip : ((k : ℕ) → slice_get takers.items k ≡ Some member → ⊥) → AreRenewed board old new member count (n + 1)
+  AreRenewed-skip away = record {
+    as_many = before.as_many;
+    rest = λ t low. before.rest t (omega arith);
+    renewed = λ counts within are t others ranking low is_others is_ranking. elim (cases_lt t n) [
+      | inl below ↦ before.renewed counts within are t others ranking below is_others is_ranking
+      | inr above ↦
+          let last : t ≡ n = omega arith in
+          let same : takers ≡ others = same_Some takers others (sym is_takers ∙ ap (slice_get board.takers.items) (sym last) ∙ is_others) in
+          let was = are.each t others ranking is_others (sym (before.rest t (omega arith)) ∙ is_ranking) in
+          IsRanking-unwritten counts others.items member count ranking.nodes.items (subst (λ (v : Vec ℕ). (k : ℕ) → slice_get v.items k ≡ Some member → ⊥) same away) was
+    ];
+  }
+
+  pub AreRenewed-set : (k : ℕ) (was now : Ranking) → AreOnce takers.items → slice_get takers.items k ≡ Some member → slice_get new n ≡ Some was
+      → ((counts : List ℕ) → IsRanking counts was.nodes.items → IsRanking (set_at counts k count) now.nodes.items) → AreRenewed board old (set_at new n now) member count (n + 1)
+  AreRenewed-set k was now once is_member is_was sets = record {
+    as_many = length-set new n now ∙ before.as_many;
+    rest = λ t low. slice_get-set_other new n t now (λ same. omega arith) ∙ before.rest t (omega arith);
+    renewed = λ counts within are t others ranking low is_others is_ranking. elim (cases_lt t n) [
+      | inl below ↦ before.renewed counts within are t others ranking below is_others (sym (slice_get-set_other new n t now (λ same. omega arith)) ∙ is_ranking)
+      | inr above ↦
+          let last : n ≡ t = omega arith in
+          let same : takers ≡ others = same_Some takers others (sym is_takers ∙ ap (slice_get board.takers.items) last ∙ is_others) in
+          let here : now ≡ ranking = same_Some now ranking (sym (slice_get-set_same new n now (slice_get_within new n was is_was)) ∙ ap (slice_get (set_at new n now)) last ∙ is_ranking) in
+          let ranked = are.each n takers was is_takers (sym (before.rest n (omega arith)) ∙ is_was) in
+          subst (λ (v : Vec ℕ). IsRanking (counts_of (set_at counts member count) v.items) ranking.nodes.items) same
+          (subst (λ (r : Ranking). IsRanking (counts_of (set_at counts member count) takers.items) r.nodes.items) here
+          (IsRanking-written counts takers.items member count k now.nodes.items once is_member within (sets (counts_of counts takers.items) ranked)))
+    ];
+  }
+
+pub AreRenewed-all : (board : Board) (old new : List Ranking) (member count n : ℕ) → AreRenewed board old new member count n → length board.takers.items ≤ n → (counts : List ℕ) → member < length counts → AreRankings board counts old
+    → AreRankings board (set_at counts member count) new
+AreRenewed-all board old new member count n done all counts within are = record {
+  as_many = done.as_many ∙ are.as_many;
+  each = λ t takers ranking is_takers is_ranking. done.renewed counts within are t takers ranking (let low = slice_get_within board.takers.items t takers is_takers in omega arith) is_takers is_ranking;
+}
+
+-- the first n topics have their rankings
+pub record AreRankingsTo (board : Board) (counts : List ℕ) (n : ℕ) (rankings : List Ranking) : Type 0 where
+  pub as_many : length rankings ≡ n
+  pub each : (t : ℕ) (takers : Vec ℕ) (ranking : Ranking) → slice_get board.takers.items t ≡ Some takers → slice_get rankings t ≡ Some ranking → IsRanking (counts_of counts takers.items) ranking.nodes.items
+
+pub AreRankingsTo-none : (board : Board) (counts : List ℕ) (rankings : List Ranking) → rankings ≡ [] → AreRankingsTo board counts 0 rankings
+AreRankingsTo-none board counts rankings none = record {
+  as_many = ap length none;
+  each = λ t takers ranking is_takers is_ranking. let there : slice_get [] t ≡ Some ranking = ap (λ xs. slice_get xs t) (sym none) ∙ is_ranking in nobody t ranking there;
+}
+  where
+    nobody : (t : ℕ) (ranking : Ranking) → slice_get [] t ≡ Some ranking → {P : Type 0} → P
+    nobody t ranking is = cc
+
+pub AreRankingsTo-more : (board : Board) (counts : List ℕ) (n : ℕ) (rankings : List Ranking) (takers : Vec ℕ) (ranking : Ranking) → AreRankingsTo board counts n rankings → slice_get board.takers.items n ≡ Some takers
+    → IsRanking (counts_of counts takers.items) ranking.nodes.items → AreRankingsTo board counts (n + 1) (rankings ++ ranking ∷ [])
+AreRankingsTo-more board counts n rankings takers ranking before is_takers is = record {
+  as_many = length_push rankings ranking ∙ ap (λ k. k + 1) before.as_many;
+  each = λ t others other is_others is_other. elim (slice_get-append_cases rankings (ranking ∷ []) t other is_other) [
+    | inl there ↦ before.each t others other is_others there
+    | inr (j, at, end) ↦
+        let here = last j other end in
+        let long = before.as_many in
+        let place : t ≡ n = let zeroth = here.0 in omega arith in
+        let same : takers ≡ others = same_Some takers others (sym is_takers ∙ ap (slice_get board.takers.items) (sym place) ∙ is_others) in
+        subst (λ (v : Vec ℕ). IsRanking (counts_of counts v.items) other.nodes.items) same (subst (λ (r : Ranking). IsRanking (counts_of counts takers.items) r.nodes.items) here.1 is)
+  ];
+}
+  where
+    last : (j : ℕ) (other : Ranking) → slice_get (ranking ∷ []) j ≡ Some other → (j ≡ 0) × (ranking ≡ other)
+    last zero other end = (refl, same_Some ranking other end)
+    last (suc j) other end = cc

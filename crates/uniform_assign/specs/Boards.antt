@@ -1,5 +1,5 @@
 -- How the partitions of a view and their takers are held.
-use Rattle.std.specs.Prelude.{◌≡◌, ℕ, pos, List, length, map, Option, Some}
+use Rattle.std.specs.Prelude.{◌≡◌, ℕ, ◌<◌, pos, List, length, map, Option, Some}
 use Rattle.std.specs.Global.{Vec}
 use Rattle.std.specs.List.{flat_map, slice_get}
 use Rattle.std.specs.Option.{option_map}
@@ -35,9 +35,18 @@ pub record AreTakers (topics : List (Text × Topic)) (subs : List Subscriber) (t
   pub there : (t : ℕ) (topic : Text × Topic) → slice_get topics t ≡ Some topic
       → (v : Vec ℕ) × (slice_get takers t ≡ Some v) × AreTakersOf subs topic.0 v.items
 
+-- each number is greater than those before it
+abbrev pub Rises : List ℕ → Type 0
+Rises xs = (i j x y : ℕ) → i < j → slice_get xs i ≡ Some x → slice_get xs j ≡ Some y → x < y
+
+-- each topic's takers are in member order
+abbrev pub AllRise : List (Vec ℕ) → Type 0
+AllRise takers = (t : ℕ) (v : Vec ℕ) → slice_get takers t ≡ Some v → Rises v.items
+
 -- what is true of a board
 pub record IsBoard (board : Board) : Type 0 where
   pub sound : AreImageTopics board.view.now
   pub apart : IdsAreApart board.subs.now
   pub places : ArePlaces (finite.entries board.view.now) board.places.items
   pub takers : AreTakers (finite.entries board.view.now) board.subs.now board.takers.items
+  pub rise : AllRise board.takers.items

@@ -4,7 +4,7 @@ ghost use Rattle.std.specs.Prelude.{◌≡◌, ◌++◌, ◌≤◌, ◌^◌, All
 ghost use Rattle.std.specs.List.{range_with_len};
 ghost use Rattle.topic_meta.specs.Views.{all_named, named};
 ghost use Rattle.range_assign.specs.Members.{subscribers_in};
-ghost use Rattle.uniform_assign.specs.Boards.{ArePlaces, AreTakers, AreTakersOf, IsBoard, place_at};
+ghost use Rattle.uniform_assign.specs.Boards.{AllRise, ArePlaces, AreTakers, AreTakersOf, IsBoard, Rises, place_at};
 
 use group_types::Partition;
 use range_assign::{Subs, Subscriber};
@@ -85,7 +85,8 @@ fn takers_of(
     topics: &[ViewTopic],
     members: &[Subscriber<'_>],
 ) -> Result<Vec<Vec<usize>>, AllocError>
-    ensures { IfOk result (λ all. AreTakers (all_named topics.now) (subscribers_in members.now) all.items) }
+    ensures takers { IfOk result (λ all. AreTakers (all_named topics.now) (subscribers_in members.now) all.items) }
+    ensures rise { IfOk result (λ all. AllRise all.items) }
 {
     let mut all = Vec::with_capacity(alloc, topics.len())?;
     for topic in topics {
@@ -100,7 +101,8 @@ fn takers_in(
     members: &[Subscriber<'_>],
     name: &str,
 ) -> Result<Vec<usize>, AllocError>
-    ensures { IfOk result (λ takers. AreTakersOf (subscribers_in members.now) name.now takers.items) }
+    ensures takers { IfOk result (λ takers. AreTakersOf (subscribers_in members.now) name.now takers.items) }
+    ensures rise { IfOk result (λ takers. Rises takers.items) }
 {
     let mut takers = Vec::new(alloc);
     for (at, member) in members.iter().enumerate() {

@@ -1,7 +1,7 @@
 //! The owners of the partitions while they are worked out.
 
 ghost use Rattle.std.specs.Prelude.{◌≡◌, ◌<◌, ℕ, All, IfOk, None, Some, length, replicate, slice_get, slice_set};
-ghost use Rattle.uniform_assign.specs.Drafts.{AreCounts, IsLeastOf};
+ghost use Rattle.uniform_assign.specs.Drafts.{AreCounts};
 ghost use Rattle.uniform_assign.specs.Moves.{one_moved};
 
 use std::alloc::{AllocError, Global};
@@ -42,21 +42,6 @@ impl Draft {
         }
         self.owners[partition] = Some(member);
         self.counts[member] += 1;
-    }
-
-    /// Of the takers the one that owns the fewest partitions, and of several such the first.
-    pub fn fewest(&self, takers: &[usize]) -> Option<usize>
-        requires { All (λ t. t < length self.now.counts.items) takers.now }
-        ensures { IsLeastOf self.now.counts.items takers.now result }
-    {
-        let (first, others) = takers.split_first()?;
-        let mut best = *first;
-        for taker in others {
-            if self.counts[*taker] < self.counts[best] {
-                best = *taker;
-            }
-        }
-        Some(best)
     }
 }
 

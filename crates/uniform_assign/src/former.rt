@@ -1,6 +1,6 @@
 //! The former owners of the partitions, found by the partitions' places.
 
-ghost use Rattle.std.specs.Prelude.{◌≡◌, IfOk, OnOk, length};
+ghost use Rattle.std.specs.Prelude.{◌≡◌, IfOk, length};
 ghost use Rattle.group_types.specs.Assignors.{IdsAreApart};
 ghost use Rattle.range_assign.specs.Members.{subscribers_in};
 ghost use Rattle.uniform_assign.specs.Boards.{IsBoard};

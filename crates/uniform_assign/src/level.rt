@@ -6,11 +6,13 @@ ghost use Rattle.uniform_assign.specs.Boards.{IsBoard};
 ghost use Rattle.uniform_assign.specs.Drafts.{IsDraft, IsLevelled, drawn_on};
 ghost use Rattle.uniform_assign.specs.Moves.{AreFewest, IsEarlier, IsFirstAmong, IsFirstOf, IsMoveOf, IsNext, IsNextBelow};
 ghost use Rattle.uniform_assign.specs.Piles.{AreOfTopic, ArePiles, IsHand, IsIn};
+ghost use Rattle.uniform_assign.specs.Rankings.{AreRankings};
 
 use crate::board::Board;
 use crate::draft::Draft;
 use crate::pile::Pile;
 use crate::piles::add;
+use crate::ranking::Ranking;
 use std::alloc::{AllocError, Global};
 
 /// A partition moves from one member to another, each at a place.
@@ -30,14 +32,17 @@ impl Board<'_> {
         ensures levelled { OnOk result (IsLevelled self.now.view.now self.now.subs.now
             (drawn_on self.now draft.old.owners.items) (drawn_on self.now draft.new.owners.items)) }
     {
-        let fewest = self.fewest(alloc, draft)?;
+        let mut rankings = self.rankings(alloc, draft)?;
+        let fewest = self.fewest(alloc, &rankings)?;
         if self.is_level(draft, &fewest) {
             return Ok(());
         }
         let mut piles = self.piles(alloc, draft)?;
-        while let Some(next) = self.next_move(alloc, draft, &mut piles)? {
+        while let Some(next) = self.next_move(alloc, draft, &rankings, &mut piles)? {
             let topic = self.places[next.partition].topic;
             draft.give(next.partition, next.to);
+            self.renew(&mut rankings, next.from, draft.counts[next.from]);
+            self.renew(&mut rankings, next.to, draft.counts[next.to]);
             add(alloc, &mut piles[next.to], topic, next.partition)?;
         }
         Ok(())
@@ -64,15 +69,17 @@ impl Board<'_> {
         &self,
         alloc: Global,
         draft: &Draft,
+        rankings: &[Ranking],
         piles: &mut Vec<Vec<Pile>>,
     ) -> Result<Option<Move>, AllocError>
         requires board { IsBoard self.now }
         requires draft { IsDraft self.now draft.now }
+        requires rankings { AreRankings self.now draft.now.counts.items rankings.now }
         requires piles { ArePiles self.now draft.now (length self.now.places.items) piles.old.items }
         ensures piles { ArePiles self.now draft.now (length self.now.places.items) piles.new.items }
         ensures next { IfOk result (IsNext self.now draft.now (length self.now.places.items)) }
     {
-        let fewest = self.fewest(alloc, draft)?;
+        let fewest = self.fewest(alloc, rankings)?;
         let mut best = None;
         for from in 0..piles.len() {
             best = self.better_move(draft, &fewest, &mut piles[from], from, best);
@@ -148,19 +155,6 @@ impl Board<'_> {
     {
         let at = pile.first_owned(&draft.owners, from)?;
         self.move_of(draft, fewest, at)
-    }
-
-    /// For each topic the subscriber that owns the fewest partitions.
-    fn fewest(&self, alloc: Global, draft: &Draft) -> Result<Vec<Option<usize>>, AllocError>
-        requires board { IsBoard self.now }
-        requires draft { IsDraft self.now draft.now }
-        ensures { IfOk result (λ fewest. AreFewest self.now draft.now fewest.items) }
-    {
-        let mut fewest = Vec::with_capacity(alloc, self.takers.len())?;
-        for takers in &self.takers {
-            fewest.push(draft.fewest(takers))?;
-        }
-        Ok(fewest)
     }
 
     /// The move of the partition at a place to the subscriber that owns the fewest, if it can move.

@@ -14,6 +14,7 @@ mod level;
 mod pile;
 mod piles;
 mod ranking;
+mod rankings;
 mod shares;
 mod uniform;
 

@@ -1,6 +1,6 @@
 //! Counts in order, so that the first is at hand.
 
-ghost use Rattle.std.specs.Prelude.{◌≡◌, ◌+◌, ◌<◌, ℕ, List, All, IfOk, length, slice_set};
+ghost use Rattle.std.specs.Prelude.{◌+◌, ◌<◌, ℕ, List, All, IfOk, length, slice_set};
 ghost use Rattle.uniform_assign.specs.Rankings.{AreRanks, IsFirstOfTwo, IsLeastPlace, IsPlayed, IsRanking, counts_of};
 
 use std::alloc::{AllocError, Global};

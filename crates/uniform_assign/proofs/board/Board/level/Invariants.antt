@@ -3,6 +3,7 @@ use Rattle.group_types.specs.Owners.{Spread}
 use Rattle.group_types.specs.Uniform.{AreMoves}
 use Rattle.uniform_assign.specs.Drafts.{IsDraft, drawn_on}
 use Rattle.uniform_assign.specs.Piles.{ArePiles}
+use Rattle.uniform_assign.specs.Rankings.{AreRankings}
 use Rattle.uniform_assign.proofs.Counts.{squares}
 use Rattle.uniform_assign.proofs.board.Board.level.Given as goal
 
@@ -11,7 +12,7 @@ abbrev pub invariant-loop-piles : goal.invariant-loop-piles
 invariant-loop-piles l =
     IsDraft l.self l.draft
     × ((steps : List Spread) × AreMoves (l.self).view.now (l.self).subs.now (drawn_on l.self l.initial.draft.owners.items) steps (drawn_on l.self l.draft.owners.items))
-    × ArePiles l.self l.draft (length (l.self).places.items) l.piles.items
+    × ArePiles l.self l.draft (length (l.self).places.items) l.piles.items × AreRankings l.self l.draft.counts.items l.rankings.items
 
 -- each move makes the squares of the counts smaller together
 abbrev pub decreases-loop-piles : goal.decreases-loop-piles

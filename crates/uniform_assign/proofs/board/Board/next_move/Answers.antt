@@ -1,4 +1,5 @@
-use Rattle.std.proofs.Common.{◌<◌, length, refl, arith}
+use Rattle.uniform_assign.specs.Moves.{AreFewest}
+use Rattle.std.proofs.Common.{List, Option, ◌<◌, length, refl, arith, sym, subst, ℕ}
 use Rattle.std.proofs.lemmas.Option.{slice_get_read}
 use Rattle.uniform_assign.proofs.Firsts.{IsNext-all, IsNextBelow-none}
 use Rattle.uniform_assign.proofs.Piled.{ArePiles-searched}
@@ -38,3 +39,7 @@ returns-clause-next c =
     let old = c.args.piles.now.ok in
     let before = c.requires.piles.as_many in
     IsNext-all board draft c.requires.board c.requires.draft c.loop-from.from c.loop-from.best (omega arith) next
+
+pub better_move-best-requires-clause-fewest : goal.better_move-best-requires-clause-fewest
+better_move-best-requires-clause-fewest c =
+    subst (λ (xs : List (Option ℕ)). AreFewest c.args.self.now c.args.draft.now xs) (sym c.deref.ensures.value) (c.in_ok-fewest.ensures c.args.draft.now c.requires.rankings)

@@ -18,5 +18,6 @@ returns-clause-board c =
       apart = c.members.ensures.apart;
       places = subst (λ ts. ArePlaces ts c.in_ok-places.places.items) c.topics-topics.ensures.all c.in_ok-places.ensures;
       takers = subst (λ subs. AreTakers entries subs c.in_ok-takers.takers.items) c.members.ensures.all
-          (subst (λ ts. AreTakers ts (subscribers_in c.members.result.now) c.in_ok-takers.takers.items) c.topics-topics.ensures.all c.in_ok-takers.ensures);
+          (subst (λ ts. AreTakers ts (subscribers_in c.members.result.now) c.in_ok-takers.takers.items) c.topics-topics.ensures.all c.in_ok-takers.ensures.takers);
+      rise = c.in_ok-takers.ensures.rise;
     }
