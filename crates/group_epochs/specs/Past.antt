@@ -28,7 +28,7 @@ past_state_code =
 abbrev pub places : PastState → ℕ
 places s = length s.past + s.room
 
--- so many ids fit without memory, or as many as are ever remembered
+-- so many ids fit altogether without memory, or as many as are ever remembered: what keeps the places keeps this
 abbrev pub HasRoomFor : PastState → ℕ → Type 0
 HasRoomFor s ids = min MOST_PAST_MEMBERS ids ≤ places s
 

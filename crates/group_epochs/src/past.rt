@@ -19,7 +19,8 @@ use std::marker::Model;
 /// The last ids that had a record and have none, with their last stamps, oldest first: at most [`MOST_PAST_MEMBERS`]
 /// (ours). By them a late repeat of a former member's join is told from a new join.
 ///
-/// A fingerprint of each id stands beside the list, so that a look-up compares numbers, and then one text.
+/// A fingerprint of each id stands beside the list, so that a look-up compares numbers, and then one text. What is taken
+/// out of a list gives its place back, as a hash table can't promise: so a full list remembers more ids without memory.
 #[derive(Drop)]
 pub struct Past {
     entries: Vec<(MemberId, Stamp)>,
@@ -76,8 +77,9 @@ impl Past {
         place_of(&self.entries, &self.fingerprints, &self.hasher, id).is_some()
     }
 
-    /// Makes room for as many ids altogether, or for [`MOST_PAST_MEMBERS`] where that is less. The ids stay as they are,
-    /// also where memory is short.
+    /// Makes room for as many ids altogether, or for [`MOST_PAST_MEMBERS`] where that is less. [`Past::remember`] and
+    /// [`Past::forget`] keep it. The ids stay as they are, also where memory is short. Fails only where there wasn't the
+    /// room.
     pub fn make_room(&mut self, ids: usize) -> Result<(), AllocError>
         ensures past { self.new.past ≡ self.old.past }
         ensures kept { self.old.room ≤ self.new.room }
