@@ -72,6 +72,12 @@ topics_in-shown es ordered =
     finite.same_map text_cmp_total text_cmp-IsAntisymmetric _ _
     (λ q. finite.get-from_entries text_cmp_total (pairs_in es) q ∙ sym (finite.get-from_sorted text_cmp (pairs_in es) q (T_from_true _ (rising_of_ordered es ordered))))
 
+-- the topics of a tree stand in its order
+pub entries-topics_in : (es : List (String Global × StoredTopic)) → IsStrictlySortedBy string_cmp (keys_of es)
+    → entries (topics_in es) ≡ map (λ e. (string_bytes e.0, shown_topic e.1)) es
+entries-topics_in es ordered =
+    ap entries (topics_in-shown es ordered) ∙ entries-shown (pairs_in es) (rising_of_ordered es ordered)
+
 -- a map with no entry is the empty one
 pub is_empty-says : (topics : Topics) (n : ℕ) → n ≡ finite.len topics → Decides (n == 0) (topics ≡ finite.empty)
 is_empty-says topics n is =

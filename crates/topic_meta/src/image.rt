@@ -111,6 +111,14 @@ impl Image {
         Ok(Image { topics })
     }
 
+    /// Whether the two images have the same topics, with the same ids and counts. Takes no memory.
+    pub fn equals(&self, other: &Image) -> bool
+        ensures { IsTrue result ↔ (self.now ≡ other.now) }
+    {
+        let (some, others) = (&self.topics, &other.topics);
+        some.len() == others.len() && *some == *others
+    }
+
     /// How many topics the image has: at most 10,000.
     pub fn len(&self) -> usize
         ensures number { result ≡ finite.len self.now }

@@ -28,7 +28,7 @@ impl TopicEntry {
 }
 
 /// What an image keeps of a topic beside its name.
-#[derive(Clone, Copy)]
+#[derive(Clone, Copy, PartialEq)]
 pub struct StoredTopic {
     pub id: Uuid,
     pub count: u32,
