@@ -10,3 +10,4 @@ pub mod Granted
 pub mod Leaving
 pub mod Offering
 pub mod Settles
+pub mod Shown

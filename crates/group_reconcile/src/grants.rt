@@ -3,7 +3,7 @@
 ghost use Rattle.std.specs.Prelude.{◌≡◌, IfOk, OnErr, OnOk, is_none, unwrap_or};
 ghost use Rattle.std.specs.Option.{option_copied, option_map};
 ghost use Rattle.std.specs.FinMap as finite;
-ghost use Rattle.group_types.specs.Sets.{in_order, nothing};
+ghost use Rattle.group_types.specs.Sets.{common, in_order, nothing};
 ghost use Rattle.group_types.specs.Group.{held};
 ghost use Rattle.group_types.specs.Settle.{granting, grants_after, grants_of_others, may_settle};
 ghost use Rattle.group_reconcile.specs.Holders.{Settles, granted_at, holds, pairs};
@@ -151,6 +151,42 @@ impl Grants {
             target.epoch(),
         );
         Ok(())
+    }
+
+    /// What the member may read of its target once the target was offered to it (KIP-848, "Reconciliation of the group"): what a
+    /// reply then shows. Fails where memory is short.
+    pub fn shown_after(
+        &self,
+        alloc: Global,
+        member: &str,
+        target: &Wanted<'_>,
+        owned: Option<&PartSet>,
+    ) -> Result<PartSet, AllocError>
+        ensures { let may = may_settle (pairs self.now) member.now target.now.partitions (option_copied owned.entry) in
+            IfOk result (λ set. set ≡ common (held (grants_after may (pairs self.now) member.now target.now.partitions) member.now) target.now.partitions) }
+    {
+        if self.may_settle(member, target, owned) {
+            next_of(&self.table, alloc, self.members.find(member), target)
+        } else {
+            self.held_of(alloc, member, target)
+        }
+    }
+
+    /// What the member may read of its target today. Fails where memory is short.
+    fn held_of(
+        &self,
+        alloc: Global,
+        member: &str,
+        target: &Wanted<'_>,
+    ) -> Result<PartSet, AllocError>
+        ensures { IfOk result (λ set. set ≡ common (held (pairs self.now) member.now) target.now.partitions) }
+    {
+        let Some(held) = self.held(member) else {
+            return Ok(PartSet::new(alloc));
+        };
+        let mut set = target.copy_set(alloc)?;
+        set.retain_common(held);
+        Ok(set)
     }
 
     /// Takes all that the member with this id may read from it. Takes no memory, and no walk over the other members.
