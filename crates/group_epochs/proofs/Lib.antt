@@ -1,1 +1,7 @@
 mod Remembered
+pub mod NameLemmas
+pub mod Rows
+pub mod Tabled
+pub mod Others
+pub mod Ordered
+pub mod Ranked

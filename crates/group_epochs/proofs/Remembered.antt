@@ -145,7 +145,7 @@ apart_drop zero past apart = apart
 apart_drop (suc n) [] apart = tt
 apart_drop (suc n) (e ∷ past) apart = apart_drop n past apart.1
 
-absent_behind : (past : Past) (m k : Text) (stamp : Stamp) → eq_by_cmp text_cmp k m ≡ false → past_stamp past k ≡ None → past_stamp (past ++ (m, stamp) ∷ []) k ≡ None
+pub absent_behind : (past : Past) (m k : Text) (stamp : Stamp) → eq_by_cmp text_cmp k m ≡ false → past_stamp past k ≡ None → past_stamp (past ++ (m, stamp) ∷ []) k ≡ None
 absent_behind [] m k stamp apart none = ap (λ b. cond b (Some stamp) None) apart
 absent_behind (e ∷ past) m k stamp apart none =
     let there = first_differs e past k none in

@@ -1,27 +1,24 @@
 -- The ids of former members that a group remembers, and the room for more (ours).
 use Rattle.std.specs.Prelude.{◌≡◌, ◌<◌, ◌≤◌, ◌+◌, ℕ, List, [], ◌∷◌, length, map, min, fold, Option, Some, None, refl}
-use Rattle.std.specs.Coded.{Coded, code_by, coded×, coded_ℕ, coded_list}
+use Rattle.std.specs.Coded.{Coded, code_by, coded×, coded_ℕ}
 use Rattle.std.specs.Hash.{str}
 use Rattle.std.specs.Hash.DefaultHasher.{write, finish}
 use Rattle.std.specs.RandomState.{initial_hasher}
 use Rattle.std.specs.declared.random_state.RandomState.{RandomState}
 use Rattle.std.specs.List.{HoldsAt}
-use Rattle.group_types.specs.declared.stamp.Stamp.{Stamp}
 use Rattle.group_types.specs.Group.{Past}
 use Rattle.group_types.specs.Limits.{MOST_PAST_MEMBERS}
 use Rattle.group_types.specs.Members.{past_stamp}
 use Rattle.group_types.specs.Text.{Text}
+use Rattle.group_epochs.specs.Stored.{past_code}
 
 pub record PastState : Type 0 where
   pub past : Past
   pub room : ℕ  -- how many more ids fit without memory
 
-abbrev stamp_code : Coded Stamp
-stamp_code = code_by (ℕ × ℕ) (coded× coded_ℕ coded_ℕ) (λ s. (s.connection, s.frame)) (λ p. record { connection = p.0; frame = p.1 }) (λ _. refl)
-
 abbrev pub past_state_code : Coded PastState
 past_state_code =
-    code_by (Past × ℕ) (coded× (coded_list (coded× (coded_list coded_ℕ) stamp_code)) coded_ℕ)
+    code_by (Past × ℕ) (coded× past_code coded_ℕ)
     (λ s. (s.past, s.room)) (λ p. record { past = p.0; room = p.1 }) (λ _. refl)
 
 -- how many ids fit altogether without memory

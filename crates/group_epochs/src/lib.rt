@@ -3,6 +3,15 @@
 //! Start from [`Past`], the ids of former members that a group remembers.
 #![tactic(auto)]
 
+mod entry;
+mod given;
+mod names;
 mod past;
+mod record;
+mod records;
+mod sets;
+mod table;
 
 pub use past::Past;
+pub use record::Record;
+pub use records::{NewMember, Records};

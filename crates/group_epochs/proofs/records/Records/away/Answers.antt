@@ -1,0 +1,28 @@
+use Rattle.group_types.specs.Leave.{away}
+use Rattle.std.proofs.Common.{refl, ap, ◌∙◌}
+use Rattle.std.specs.FinMap as finite
+use Rattle.group_epochs.specs.Records.{RecordsState}
+use Rattle.group_epochs.specs.Table.{with_away}
+use Rattle.group_epochs.proofs.Tabled.{kept_of_found, mark_cleared, member_there, record_rewritten, table_rewritten}
+use Rattle.group_epochs.proofs.records.Records.away.Goals as goal
+
+pub go_away-requires : goal.go_away-requires
+go_away-requires c = member_there c.self.inside.members c.args.self.now c.args.id.now (ap (λ (s : RecordsState). s.records) c.self.view_is) c.requires
+
+pub invariant_of-self : goal.invariant_of-self
+invariant_of-self c =
+    table_rewritten c.self.inside.members c.go_away.new.members c.self.inside.past c.args.id.now (with_away c.args.stamp c.args.now) c.go_away.ensures c.self.invariant
+    (member_there c.self.inside.members c.args.self.now c.args.id.now (ap (λ (s : RecordsState). s.records) c.self.view_is) c.requires) (λ e. refl)
+
+pub returns-clause-records : goal.returns-clause-records
+returns-clause-records c = λ r is.
+    let there = member_there c.self.inside.members c.args.self.now c.args.id.now (ap (λ (s : RecordsState). s.records) c.self.view_is) c.requires in
+    let found = ap (λ (s : RecordsState). finite.get s.records c.args.id.now) c.self.view_is ∙ is in
+    record_rewritten c.self.inside.members c.go_away.new.members c.self.inside.past c.args.id.now (with_away c.args.stamp c.args.now) c.go_away.ensures c.self.invariant there
+    (away r c.args.stamp c.args.now) (λ e at. ap (λ r. away r c.args.stamp c.args.now) (kept_of_found c.self.inside.members c.args.id.now e r at found))
+    ∙ ap (λ (s : RecordsState). finite.insert s.records c.args.id.now (away r c.args.stamp c.args.now)) c.self.view_is
+
+pub returns-clause-marks : goal.returns-clause-marks
+returns-clause-marks c =
+    let there = member_there c.self.inside.members c.args.self.now c.args.id.now (ap (λ (s : RecordsState). s.records) c.self.view_is) c.requires in
+    mark_cleared c.self.inside.members c.go_away.new.members c.self.inside.past c.args.id.now (with_away c.args.stamp c.args.now) c.go_away.ensures c.self.invariant there (λ e. refl) ∙ ap (λ (s : RecordsState). finite.remove s.marks c.args.id.now) c.self.view_is

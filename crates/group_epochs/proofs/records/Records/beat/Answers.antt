@@ -1,0 +1,27 @@
+use Rattle.std.proofs.Common.{refl, ap, ◌∙◌}
+use Rattle.std.specs.FinMap as finite
+use Rattle.group_epochs.specs.Records.{RecordsState, beaten}
+use Rattle.group_epochs.specs.Table.{with_beat}
+use Rattle.group_epochs.proofs.Tabled.{kept_of_found, mark_stays, member_there, record_rewritten, table_rewritten}
+use Rattle.group_epochs.proofs.records.Records.beat.Goals as goal
+
+pub beat-requires : goal.beat-requires
+beat-requires c = member_there c.self.inside.members c.args.self.now c.args.id.now (ap (λ (s : RecordsState). s.records) c.self.view_is) c.requires
+
+pub invariant_of-self : goal.invariant_of-self
+invariant_of-self c =
+    table_rewritten c.self.inside.members c.beat.new.members c.self.inside.past c.args.id.now (with_beat c.args.stamp c.args.now) c.beat.ensures c.self.invariant
+    (member_there c.self.inside.members c.args.self.now c.args.id.now (ap (λ (s : RecordsState). s.records) c.self.view_is) c.requires) (λ e. refl)
+
+pub returns-clause-records : goal.returns-clause-records
+returns-clause-records c = λ r is.
+    let there = member_there c.self.inside.members c.args.self.now c.args.id.now (ap (λ (s : RecordsState). s.records) c.self.view_is) c.requires in
+    let found = ap (λ (s : RecordsState). finite.get s.records c.args.id.now) c.self.view_is ∙ is in
+    record_rewritten c.self.inside.members c.beat.new.members c.self.inside.past c.args.id.now (with_beat c.args.stamp c.args.now) c.beat.ensures c.self.invariant there
+    (beaten r c.args.stamp c.args.now) (λ e at. ap (λ r. beaten r c.args.stamp c.args.now) (kept_of_found c.self.inside.members c.args.id.now e r at found))
+    ∙ ap (λ (s : RecordsState). finite.insert s.records c.args.id.now (beaten r c.args.stamp c.args.now)) c.self.view_is
+
+pub returns-clause-marks : goal.returns-clause-marks
+returns-clause-marks c =
+    let there = member_there c.self.inside.members c.args.self.now c.args.id.now (ap (λ (s : RecordsState). s.records) c.self.view_is) c.requires in
+    mark_stays c.self.inside.members c.beat.new.members c.self.inside.past c.args.id.now (with_beat c.args.stamp c.args.now) c.beat.ensures c.self.invariant there (λ e. refl) ∙ ap (λ (s : RecordsState). s.marks) c.self.view_is

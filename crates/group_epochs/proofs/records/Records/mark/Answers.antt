@@ -1,0 +1,25 @@
+use Rattle.std.proofs.Common.{refl, ap, ◌∙◌}
+use Rattle.std.specs.FinMap as finite
+use Rattle.group_epochs.specs.Records.{RecordsState, members_in}
+use Rattle.group_epochs.specs.Table.{marked_at}
+use Rattle.group_epochs.proofs.Tabled.{mark_set, member_there, record_stays, table_rewritten}
+use Rattle.group_epochs.proofs.records.Records.mark.Goals as goal
+
+pub mark-requires : goal.mark-requires
+mark-requires c = member_there c.self.inside.members c.args.self.now c.args.id.now (ap (λ (s : RecordsState). s.records) c.self.view_is) c.requires
+
+pub invariant_of-self : goal.invariant_of-self
+invariant_of-self c =
+    table_rewritten c.self.inside.members c.mark.new.members c.self.inside.past c.args.id.now (marked_at c.args.epoch) c.mark.ensures c.self.invariant
+    (member_there c.self.inside.members c.args.self.now c.args.id.now (ap (λ (s : RecordsState). s.records) c.self.view_is) c.requires) (λ e. refl)
+
+pub returns-clause-members : goal.returns-clause-members
+returns-clause-members c =
+    let there = member_there c.self.inside.members c.args.self.now c.args.id.now (ap (λ (s : RecordsState). s.records) c.self.view_is) c.requires in
+    let kept = record_stays c.self.inside.members c.mark.new.members c.self.inside.past c.args.id.now (marked_at c.args.epoch) c.mark.ensures c.self.invariant there (λ e. refl) in
+    (λ i. record { records = kept i; past = c.self.inside.past.past }) ∙ ap members_in c.self.view_is
+
+pub returns-clause-marks : goal.returns-clause-marks
+returns-clause-marks c =
+    let there = member_there c.self.inside.members c.args.self.now c.args.id.now (ap (λ (s : RecordsState). s.records) c.self.view_is) c.requires in
+    mark_set c.self.inside.members c.mark.new.members c.self.inside.past c.args.id.now (marked_at c.args.epoch) c.mark.ensures c.self.invariant there c.args.epoch (λ e. refl) ∙ ap (λ (s : RecordsState). finite.insert s.marks c.args.id.now c.args.epoch) c.self.view_is

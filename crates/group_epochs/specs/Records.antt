@@ -1,0 +1,58 @@
+-- The records of a group's members, and the former members that it remembers.
+use Rattle.std.specs.Prelude.{◌≡◌, ℕ, Some, None, IsTrue, refl}
+use Rattle.std.specs.Coded.{Coded, code_by, coded×, coded_ℕ}
+use Rattle.std.specs.FinMap as finite
+use Rattle.group_types.specs.declared.stamp.Stamp.{Stamp}
+use Rattle.group_types.specs.Limits.{SESSION_TIMEOUT}
+use Rattle.group_types.specs.Moment.{saturated_sum}
+use Rattle.group_types.specs.Text.{Text, text_cmp}
+use Rattle.group_types.specs.Group.{Record, Records, Past}
+use Rattle.group_types.specs.Members.{Members, HasInstance}
+use Rattle.group_types.specs.Request.{Heartbeat, SAME_TIMEOUT}
+use Rattle.group_epochs.specs.Stored.{text_code, record_code, past_code}
+
+-- by the ids of members, the epoch of the target at which each was found settled: it holds all of its target, and was sent it (ours)
+abbrev pub Marks : Type 0
+Marks = finite.FinMap text_cmp ℕ
+
+pub record RecordsState : Type 0 where
+  pub records : Records
+  pub past : Past
+  pub marks : Marks
+  pub room : ℕ  -- how many more members fit without memory
+
+abbrev RecordsFields : Type 0
+RecordsFields = Records × (Past × (Marks × ℕ))
+
+abbrev pub records_state_code : Coded RecordsState
+records_state_code =
+    code_by RecordsFields (coded× (finite.code text_code record_code) (coded× past_code (coded× (finite.code text_code coded_ℕ) coded_ℕ)))
+    (λ s. (s.records, (s.past, (s.marks, s.room))))
+    (λ p. record { records = p.0; past = p.1.0; marks = p.1.1.0; room = p.1.1.1 })
+    (λ _. refl)
+
+-- what the machine knows of it
+abbrev pub members_in : RecordsState → Members
+members_in s = record { records = s.records; past = s.past }
+
+-- the member has a record
+abbrev pub IsMember : RecordsState → Text → Type 0
+IsMember s m = IsTrue (finite.contains_key s.records m)
+
+-- no other member than m has the instance that the record has, if any
+abbrev pub IsInstanceFreeFor : Records → Text → Record → Type 0
+IsInstanceFreeFor records m r =
+    (n i : Text) → r.instance ≡ Some i → HasInstance records n i → n ≡ m
+
+-- ---- a heartbeat that gives nothing but its stamp and its time
+
+-- rack, names, assignor and rebalance timeout are as they were (ours)
+pub record GivesNothing (q : Heartbeat) : Type 0 where
+  pub rack : q.rack ≡ None
+  pub names : q.names ≡ None
+  pub assignor : q.assignor ≡ None
+  pub rebalance_timeout : q.rebalance_timeout ≡ SAME_TIMEOUT
+
+-- the record of a member after such a beat
+abbrev pub beaten : Record → Stamp → ℕ → Record
+beaten r stamp now = record r { stamp = stamp; session_deadline = saturated_sum now SESSION_TIMEOUT }

@@ -1,0 +1,232 @@
+//! The members of a group by their ids' texts: what the records do to them.
+
+ghost use Rattle.std.specs.Prelude.{◌≡◌, ◌<◌, ◌≤◌, ◌++◌, ◌∷◌, [], ℕ, length, false, true, bytes_eq, slice_get, if◌then◌else◌, MatchOption, None, Some, IsSome, OnOk, map, string_bytes, vec_capacity, vec_len};
+ghost use Rattle.group_types.specs.Text.{text_cmp};
+ghost use Rattle.std.specs.Option.{option_copied};
+ghost use Rattle.std.specs.String.{string_eq};
+ghost use Rattle.indexmap.specs.IndexMap.{IsUnique, get, get_by_text, spare};
+ghost use Rattle.group_epochs.specs.Seen.{seen_as};
+ghost use Rattle.group_epochs.specs.declared.entry.Entry.{Entry as Stored};
+ghost use Rattle.range_assign.specs.Members.{subscribers_in};
+ghost use Rattle.group_epochs.specs.Table.{Adds, IsIdOrder, IsRank, Rewrites, TakesOut, first_with, is_due_at, is_row_due, marked_at, others, seen_of, with_away, with_beat, with_names_of, with_record_kept, renumbered, rows_at, text_at, texts_in};
+
+use crate::entry::{Entry, Table};
+use crate::names::add_names;
+use crate::record::Record;
+use group_types::{EpochNumber, MemberId, Moment, NameSet, Stamp};
+use range_assign::Subscriber;
+use std::alloc::{AllocError, Global};
+use std::cmp::Ordering;
+
+/// A member comes in under its id, for which there is room. Takes no memory.
+pub fn add(members: &mut Table, by_id: &mut Vec<usize>, text: String, entry: Entry)
+    requires room { 0 < spare members.old }
+    requires order_room { vec_len by_id.old < vec_capacity by_id.old }
+    requires absent { get string_eq members.old text ≡ None }
+    requires order { IsIdOrder (texts_in members.old.entries) by_id.old.items }
+    ensures added { Adds members.old members.new (string_bytes text) entry }
+    ensures order { IsIdOrder (texts_in members.new.entries) by_id.new.items }
+{
+    let Err(rank) = rank_of(members, by_id, text.as_str()) else {
+        unreachable!()
+    };
+    let Ok(()) = by_id.insert(rank, members.len()) else {
+        unreachable!()
+    };
+    let Ok(_) = members.insert(text, entry) else {
+        unreachable!()
+    };
+}
+
+/// Replaces the record of a member, and takes its mark away. Takes no memory.
+pub fn put(members: &mut Table, id: &str, record: Record)
+    requires { IsSome (get_by_text members.old id.now) }
+    ensures { Rewrites members.old members.new id.now (with_record_kept «record») }
+{
+    let Some(entry) = members.get_mut(id) else {
+        unreachable!()
+    };
+    entry.kept = record;
+    entry.mark = None;
+}
+
+/// Stores the stamp and the time of a heartbeat that gives nothing else. Takes no memory.
+pub fn beat(members: &mut Table, id: &str, stamp: Stamp, now: Moment)
+    requires { IsSome (get_by_text members.old id.now) }
+    ensures { Rewrites members.old members.new id.now (with_beat stamp now) }
+{
+    let Some(entry) = members.get_mut(id) else {
+        unreachable!()
+    };
+    entry.kept.beat(stamp, now);
+}
+
+/// Marks a member as settled at this epoch of the target. Takes no memory.
+pub fn mark(members: &mut Table, id: &str, epoch: EpochNumber)
+    requires { IsSome (get_by_text members.old id.now) }
+    ensures { Rewrites members.old members.new id.now (marked_at epoch) }
+{
+    let Some(entry) = members.get_mut(id) else {
+        unreachable!()
+    };
+    entry.mark = Some(epoch);
+}
+
+/// A static member goes away for a while, and its mark is taken away. Takes no memory.
+pub fn go_away(members: &mut Table, id: &str, stamp: Stamp, now: Moment)
+    requires { IsSome (get_by_text members.old id.now) }
+    ensures { Rewrites members.old members.new id.now (with_away stamp now) }
+{
+    let Some(entry) = members.get_mut(id) else {
+        unreachable!()
+    };
+    entry.kept.go_away(stamp, now);
+    entry.mark = None;
+}
+
+/// The last stamp of a member.
+pub fn stamp_of(members: &Table, id: &str) -> Stamp
+    requires { IsSome (get_by_text members.now id.now) }
+    ensures { (e : Stored) → get_by_text members.now id.now ≡ Some e → result ≡ e.kept.stamp }
+{
+    let Some(entry) = members.get(id) else {
+        unreachable!()
+    };
+    entry.kept.stamp()
+}
+
+/// A member goes, and gives its id. Takes no memory.
+pub fn take_out(members: &mut Table, by_id: &mut Vec<usize>, id: &str) -> MemberId
+    requires there { IsSome (get_by_text members.old id.now) }
+    requires distinct { IsUnique string_eq members.old }
+    requires order { IsIdOrder (texts_in members.old.entries) by_id.old.items }
+    ensures taken { TakesOut members.old members.new id.now result }
+    ensures order_room { vec_len by_id.new < vec_capacity by_id.new }
+    ensures order { IsIdOrder (texts_in members.new.entries) by_id.new.items }
+{
+    let Ok(rank) = rank_of(members, by_id, id) else {
+        unreachable!()
+    };
+    let place = by_id.remove(rank);
+    let Some((_, entry)) = members.swap_remove_index(place) else {
+        unreachable!()
+    };
+    renumber(by_id, members.len(), place);
+    entry.id
+}
+
+/// Gives the last place another number.
+fn renumber(places: &mut [usize], last: usize, to: usize)
+    ensures { places.new ≡ map (renumbered last to) places.old }
+{
+    for place in places.iter_mut() {
+        if *place == last {
+            *place = to;
+        }
+    }
+}
+
+/// The rank of an id among the places in the order of ids, or the rank at which its place goes.
+fn rank_of(members: &Table, by_id: &[usize], id: &str) -> Result<usize, usize>
+    requires { IsIdOrder (texts_in members.now.entries) by_id.now }
+    ensures { IsRank (texts_in members.now.entries) by_id.now id.now result }
+{
+    by_id.binary_search_by(|place| compare(members, *place, id))
+}
+
+/// How the id of the member at a place and an id are ordered.
+fn compare(members: &Table, place: usize, id: &str) -> Ordering
+    ensures { result ≡ text_cmp (text_at (texts_in members.now.entries) place) id.now }
+{
+    match members.get_index(place) {
+        Some((text, _)) => text.as_str().cmp(id),
+        None => "".cmp(id),
+    }
+}
+
+/// The first entry of a member with this instance id.
+pub fn first_with<'a>(members: &'a Table, instance: &str) -> Option<&'a Entry>
+    ensures { option_copied result ≡ first_with instance.now members.now.entries }
+{
+    for (_, entry) in members {
+        if entry.kept.has_instance(instance) {
+            return Some(entry);
+        }
+    }
+    None
+}
+
+/// Adds the members but this one, as an assignor sees them, in the order of their places. Where memory is short, some of
+/// them may be in already.
+pub fn add_others<'a>(
+    subscribers: &mut Vec<Subscriber<'a>>,
+    members: &'a Table,
+    places: &[usize],
+    id: &str,
+) -> Result<(), AllocError>
+    ensures { OnOk result (subscribers_in subscribers.new.items ≡ subscribers_in subscribers.old.items ++ map seen_of (others id.now (rows_at members.now.entries places.now))) }
+{
+    for place in places {
+        if let Some((text, entry)) = members.get_index(*place) {
+            add_other(subscribers, text.as_str(), entry, id)?;
+        }
+    }
+    Ok(())
+}
+
+/// Adds the member with this text, where it isn't the one with the id. Where memory is short, nothing is added.
+fn add_other<'a>(
+    subscribers: &mut Vec<Subscriber<'a>>,
+    text: &str,
+    entry: &'a Entry,
+    id: &str,
+) -> Result<(), AllocError>
+    ensures { OnOk result (subscribers_in subscribers.new.items ≡ (if bytes_eq text.now id.now then subscribers_in subscribers.old.items
+        else subscribers_in subscribers.old.items ++ seen_as entry.now.id entry.now.kept ∷ [])) }
+{
+    if text != id {
+        subscribers.push(entry.kept.as_subscriber(&entry.id))?;
+    }
+    Ok(())
+}
+
+/// The first rank, from one on, at whose place a member is due.
+pub fn first_due(members: &Table, places: &[usize], from: usize, clock: Moment) -> Option<usize>
+    ensures { MatchOption result ((k : ℕ) → from ≤ k → k < length places.now → is_due_at members.now.entries places.now clock k ≡ false)
+        (λ rank. (rank < length places.now) × (from ≤ rank) × (is_due_at members.now.entries places.now clock rank ≡ true)
+        × ((k : ℕ) → from ≤ k → k < rank → is_due_at members.now.entries places.now clock k ≡ false)) }
+{
+    for rank in from..places.len() {
+        if is_due(members, places[rank], clock) {
+            return Some(rank);
+        }
+    }
+    None
+}
+
+/// Whether a deadline has come of the member at a place.
+fn is_due(members: &Table, place: usize, clock: Moment) -> bool
+    ensures { result ≡ is_row_due (slice_get members.now.entries place) clock }
+{
+    match members.get_index(place) {
+        Some((_, entry)) => entry.kept.is_due(clock),
+        None => false,
+    }
+}
+
+/// Adds the names that the members but this one subscribe. Where memory is short, some of them may be in already.
+pub fn add_names_of_others(
+    alloc: Global,
+    names: &mut NameSet,
+    members: &Table,
+    id: &str,
+) -> Result<(), AllocError>
+    ensures { OnOk result (names.new ≡ with_names_of names.old (others id.now members.now.entries)) }
+{
+    for (text, entry) in members {
+        if text.as_str() != id {
+            add_names(alloc, names, entry.kept.names())?;
+        }
+    }
+    Ok(())
+}
