@@ -1,4 +1,4 @@
--- A lawful target wants no more partitions of a member than the view has.
+-- A target whose partitions are of a view wants no more of a member than the view has.
 use Rattle.std.proofs.Common.{◌≡◌, ℕ, zero, suc, ◌+◌, ◌-◌, ◌≤◌, not, ◌||◌, ◌&&◌, ℤ, pos, negsuc, Bool, true, false, cond, List, [], ◌∷◌, sum_by, refl, sym, ap, subst, ◌∙◌, arith, true≢false, Some}
 use Rattle.std.specs.Ordering.{eq_by_cmp, is_eq, int_cmp}
 use Rattle.std.specs.Cmp.{eq_by_cmp_equiv}
@@ -12,13 +12,17 @@ use Rattle.std.proofs.Common.{nat_lt}
 use Rattle.group_types.specs.declared.partition.Partition.{Partition}
 use Rattle.group_types.specs.Limits.{MOST_PARTITIONS}
 use Rattle.group_types.specs.Text.{Text, text_cmp}
-use Rattle.group_types.specs.Sets.{nothing, has, without, size}
+use Rattle.group_types.specs.Sets.{nothing, common, has, without, size}
+use Rattle.group_types.specs.Sound.{IsOfView}
+use Rattle.group_reconcile.specs.Offers.{AreIndexed}
+use Rattle.group_core.specs.Stages.{AreOfView}
+use Rattle.std.specs.Cmp.{second_so}
 use Rattle.group_types.specs.Partition.{partition_cmp, Partitions}
 use Rattle.group_types.specs.Topics.{Topic, Topics}
 use Rattle.group_types.specs.Assignors.{Subscriber}
 use Rattle.group_types.specs.Owners.{Spread, IsIndex, IsLawful, IsSubscriber, share_of}
 use Rattle.group_types.proofs.Orders.{text_cmp_total, partition_cmp_total, partition_cmp-IsAntisymmetric}
-use Rattle.group_types.proofs.SetLemmas.{has-nothing, has-without, size-nothing, size-without, same_set}
+use Rattle.group_types.proofs.SetLemmas.{has-common, has-nothing, has-without, size-nothing, size-without, same_set}
 use Rattle.group_types.proofs.SpreadLemmas.{has-share_of, owns-get}
 use Rattle.topic_meta.specs.Facts.{AreImageTopics}
 use Rattle.group_types.proofs.GrantLemmas.{both_equal}
@@ -114,17 +118,31 @@ index_says : (z : ℤ) (count : ℕ) → IsIndex z count → is_index z count �
 index_says (pos i) count so = lt-ltb i count so
 index_says (negsuc i) count so = absurd so
 
-subscriber_of_view : (view : Topics) (subs : List Subscriber) (p : Partition) (id : Text) → IsSubscriber view subs p id → is_of_topics (finite.entries view) p ≡ true
-subscriber_of_view view subs p id (m, among, same, (name, topic, of_view, subscribes, same_id, index)) =
-    entry_passes (λ t. is_of_topic t.id t.count p) name topic (finite.entries view) (sym (finite.get-entries view name) ∙ of_view)
-    ((λ i. eq_by_cmp text_cmp (same_id i) topic.id && index_says p.index topic.count index i) ∙ ap (λ b. b && true) ((eq_by_cmp_equiv text_cmp_total).refl topic.id))
+is_one_of_view : (view : Topics) (p : Partition) → IsOfView view p → is_of_topics (finite.entries view) p ≡ true
+is_one_of_view view p of =
+    entry_passes (λ t. is_of_topic t.id t.count p) of.name of.topic (finite.entries view) (sym (finite.get-entries view of.name) ∙ of.is_topic)
+    ((λ i. eq_by_cmp text_cmp (of.same_id i) of.topic.id && index_says p.index of.topic.count of.index i) ∙ ap (λ b. b && true) ((eq_by_cmp_equiv text_cmp_total).refl of.topic.id))
 
 -- an owner subscribes its partition
 pub owner_subscribes : (view : Topics) (subs : List Subscriber) (spread : Spread) → IsLawful view subs spread → (p : Partition) (id : Text) → finite.get spread p ≡ Some id → IsSubscriber view subs p id
 owner_subscribes view subs spread lawful p id is = subst (λ o. MatchOption o ((id : Text) → ¬ IsSubscriber view subs p id) (IsSubscriber view subs p)) is (lawful p)
 
-pub few_partitions : (view : Topics) (subs : List Subscriber) (spread : Spread) (id : Text) → AreImageTopics view → IsLawful view subs spread → size (share_of spread id) ≤ MOST_PARTITIONS
-few_partitions view subs spread id image lawful =
-    let few = few_of_topics (finite.entries view) (share_of spread id) (λ p there.
-    subscriber_of_view view subs p id (owner_subscribes view subs spread lawful p id ((owns-get spread id p).0 (sym (has-share_of spread id p) ∙ there)))) in
+-- what a member owns is of the view
+pub share_of_view : (view : Topics) (owners : Spread) (id : Text) → AreOfView owners view → (p : Partition) → has (share_of owners id) p ≡ true → IsOfView view p
+share_of_view view owners id of p there = of p id ((owns-get owners id p).0 (sym (has-share_of owners id p) ∙ there))
+
+-- of what is of the view there is no more than an image may have
+pub few_shown : (view : Topics) (owners : Spread) (id : Text) (held : Partitions) → AreImageTopics view → AreOfView owners view → size (common held (share_of owners id)) ≤ MOST_PARTITIONS
+few_shown view owners id held image of =
+    let few = few_of_topics (finite.entries view) (common held (share_of owners id)) (λ p there.
+    is_one_of_view view p (share_of_view view owners id of p (second_so (has held p) _ (sym (has-common partition_cmp_total held (share_of owners id) p) ∙ there)))) in
     omega (arith, few, image.few_partitions)
+
+from_zero : (z : ℤ) (count : ℕ) → IsIndex z count → (i : ℕ) × (z ≡ pos i)
+from_zero (pos i) count is = (i, refl)
+from_zero (negsuc i) count is = absurd is
+
+-- what a member owns has indexes from 0 on
+pub are_indexed : (view : Topics) (owners : Spread) (id : Text) → AreOfView owners view → AreIndexed (share_of owners id)
+are_indexed view owners id of p there =
+    let there = share_of_view view owners id of p there in from_zero p.index there.topic.count there.index

@@ -7,7 +7,7 @@ use Rattle.group_types.specs.declared.partition.Partition.{Partition}
 use Rattle.group_types.specs.Request.{is_empty}
 use Rattle.kip_msgs.specs.declared.heartbeat.TopicPartitions.{TopicPartitions}
 use Rattle.kip_msgs.specs.Topics.{topic_partitions_value, topic_partitions_values}
-use Rattle.group_core.specs.Request.{partitions_of}
+use Rattle.group_epochs.specs.Request.{partitions_of}
 
 no_zero : (n : ℕ) → (suc n == 0) ≡ false
 no_zero n = eqb-suc-zero n

@@ -1,7 +1,7 @@
 -- One heartbeat at a group that nobody has joined, by what the checks say; and what isn't built yet.
-use Rattle.std.proofs.Common.{◌≡◌, ◌<◌, ℕ, length, ◌||◌, ◌&&◌, ◌==◌, true≢false, pos, Bool, true, false, nat_le, is_none, is_some, List, [], ◌∷◌, refl, sym, ap, subst, ◌∙◌, arith, lit<, Option, Some, None, cond}
+use Rattle.std.proofs.Common.{◌≡◌, ◌<◌, ℕ, ◌||◌, pos, Bool, true, false, nat_le, is_some, [], ◌∷◌, refl, sym, ap, subst, ◌∙◌, arith, lit<, Option, Some, None, cond}
 use Rattle.std.specs.List.{list_any}
-use Rattle.std.specs.Ordering.{eq_by_cmp, int_eq}
+use Rattle.std.specs.Ordering.{eq_by_cmp}
 use Rattle.std.specs.FinMap as finite
 use Rattle.group_types.specs.declared.code.Code.{Code}
 use Rattle.group_types.specs.declared.code.Code.TheVariants as codes
@@ -9,24 +9,16 @@ use Rattle.group_types.specs.Limits.{GREATEST_EPOCH, MOST_MEMBERS}
 use Rattle.group_types.specs.declared.stamp.Stamp.{Stamp}
 use Rattle.group_types.specs.Text.{Text, text_cmp}
 use Rattle.group_types.specs.MemberId.{made_id}
-use Rattle.group_types.specs.Request.{Heartbeat, Kind, Joins, kind_of, is_empty, is_invalid, is_unsupported}
+use Rattle.group_types.specs.Request.{Heartbeat, Kind, Joins, kind_of, is_invalid, is_unsupported}
 use Rattle.group_types.specs.Group.{Group, Record, starting_group}
 use Rattle.group_types.specs.Members.{members_of, is_remembered}
 use Rattle.group_types.specs.Renewal.{changed_if, view_for}
 use Rattle.group_types.specs.Join.{Name, IsNamed, IsNextSerial, name_of_serial}
 use Rattle.group_types.specs.Checks.{Verdict, Accepted, Refused, Overtaken, Member as Another, Sender, first_of, other_with, record_under, sender_of, verdict_on}
-use Rattle.group_types.specs.HeartbeatStep.{Answer, Replied, Closes, Arrival, refusal, ByVerdict, GoesOn, TakesIn, JoinsAs, StepOf, StepBy, HeartbeatStep}
-use Rattle.std.proofs.lemmas.Bool.{and_parts, eq-eqb, eqb-true, lt-leb}
-use Rattle.std.proofs.lemmas.Bool.Decides.{Decides-int_eq}
-use Rattle.std.proofs.lemmas.List.{nil_from_length}
-use Rattle.group_core.specs.declared.group.Group.TheInside.{Inside}
-use Rattle.group_core.specs.declared.record.Member.{Member}
-use Rattle.group_core.specs.Built.{StepIfBuilt, StepToday, is_built}
+use Rattle.group_types.specs.HeartbeatStep.{Answer, Replied, Arrival, refusal, ByVerdict, GoesOn, TakesIn, JoinsAs, StepOf, StepBy, HeartbeatStep}
+use Rattle.std.proofs.lemmas.Bool.{lt-leb}
 use Rattle.group_core.specs.Checks.{MakesMember, verdict_on_request}
 use Rattle.group_core.specs.FirstMember.{JoinsFirst, first_draft, nobody}
-use Rattle.group_core.specs.GroupView.{group_view, IsGroup}
-use Rattle.group_core.specs.Members.{record_of}
-use Rattle.group_core.proofs.MemberLemmas.{len-members}
 
 none_remembered : (salt epoch : ℕ) (m : Text) → is_remembered (members_of (starting_group salt epoch)) m ≡ false
 none_remembered salt epoch m = ap (λ o. is_some o || list_any (λ (e : Text × Stamp). eq_by_cmp text_cmp m e.0) []) (finite.get-empty text_cmp m)
@@ -122,69 +114,3 @@ module _ (salt epoch : ℕ) (h : Arrival) where
   pub accepts_below : MakesMember h.heartbeat → verdict_on_request h.heartbeat ≡ Accepted → epoch < GREATEST_EPOCH → (answer : Answer) (new : Group)
       → JoinsFirst TheStart h answer new → HeartbeatStep TheStart h answer new
   accepts_below makes verdict below answer new joins = accepts_by makes verdict false (can_rise epoch below) answer new joins
-
--- ---- what is built
-
-not_true : (b : Bool) → (b ≡ true → ⊥) → b ≡ false
-not_true true no_way = absurd (no_way refl)
-not_true false no_way = refl
-
-is_given_none : {X : Type 0} (o : Option X) → is_none o ≡ true → o ≡ None
-is_given_none None is = refl
-is_given_none (Some x) is = absurd (true≢false (sym is))
-
--- what is built makes a member, of a group without members
-pub built_makes : (g : Group) (q : Heartbeat) → is_built g q ≡ true → MakesMember q × (finite.len g.records ≡ 0)
-built_makes g q is =
-    let by_len = and_parts (int_eq q.epoch (pos 0) && is_empty q.member && is_none q.instance) (finite.len g.records == 0) is in
-    let by_instance = and_parts (int_eq q.epoch (pos 0) && is_empty q.member) (is_none q.instance) by_len.0 in
-    let by_member = and_parts (int_eq q.epoch (pos 0)) (is_empty q.member) by_instance.0 in
-    let makes : MakesMember q =
-    record {
-      joins = (Decides-int_eq q.epoch (pos 0)).0 by_member.0;
-      has_no_id = nil_from_length q.member (eqb-true (length q.member) 0 by_member.1);
-      has_no_instance = is_given_none q.instance by_instance.1;
-    } in
-    (makes, eqb-true (finite.len g.records) 0 by_len.1)
-
-pub is_built_first : (salt epoch : ℕ) (q : Heartbeat) → MakesMember q → is_built (starting_group salt epoch) q ≡ true
-is_built_first salt epoch q makes =
-    let joins : int_eq q.epoch (pos 0) ≡ true = (Decides-int_eq q.epoch (pos 0)).1 makes.joins in
-    let no_id : is_empty q.member ≡ true = ap is_empty makes.has_no_id in
-    let no_instance : is_none q.instance ≡ true = ap is_none makes.has_no_instance in
-    let none : (finite.len (starting_group salt epoch).records == 0) ≡ true = ap (λ n. n == 0) (finite.len-empty text_cmp Record) in
-    λ i. joins i && no_id i && no_instance i && none i
-
--- a step that is built
-pub steps_today : (salt epoch : ℕ) (h : Arrival) (answer : Answer) (new : Group) → MakesMember h.heartbeat
-    → HeartbeatStep (starting_group salt epoch) h answer new → StepToday (starting_group salt epoch) h answer new
-steps_today salt epoch h answer new makes step =
-    subst (λ b. StepIfBuilt b (starting_group salt epoch) h answer new) (sym (is_built_first salt epoch h.heartbeat makes)) step
-
-closes_unless : (g : Group) (h : Arrival) → is_built g h.heartbeat ≡ false → StepToday g h Closes g
-closes_unless g h is = subst (λ b. StepIfBuilt b g h Closes g) (sym is) (refl, refl)
-
--- what makes no member closes
-pub closes_others : (g : Group) (h : Arrival) → (MakesMember h.heartbeat → ⊥) → StepToday g h Closes g
-closes_others g h other =
-    closes_unless g h (not_true (is_built g h.heartbeat) (λ is. other (built_makes g h.heartbeat is).0))
-
-no_members : (ms : List Member) → length ms ≡ 0 → ms ≡ []
-no_members [] none = refl
-no_members (m ∷ ms) none = absurd (omega arith)
-
--- a group with members closes
-pub closes_joined : (a : Inside) (h : Arrival) → IsGroup a → (a.members.items ≡ [] → ⊥) → StepToday (group_view a) h Closes (group_view a)
-closes_joined a h is some =
-    let counted = len-members (λ m. record_of m.record) a.members.items is.ids_apart in
-    closes_unless (group_view a) h (not_true (is_built (group_view a) h.heartbeat) (λ built.
-    let none : finite.len (group_view a).records ≡ 0 = (built_makes (group_view a) h.heartbeat built).1 in
-    some (no_members a.members.items (omega (arith, counted, none)))))
-
--- ---- whether there are members
-
-pub nobody_of : (ms : List Member) (n : ℕ) → n ≡ length ms → true ≡ (n == 0) → ms ≡ []
-nobody_of ms n counted none = no_members ms (sym counted ∙ eqb-true n 0 (sym none))
-
-pub somebody_of : (ms : List Member) (n : ℕ) → n ≡ length ms → false ≡ (n == 0) → ms ≡ [] → ⊥
-somebody_of ms n counted some none = true≢false (sym (eq-eqb n 0 (counted ∙ ap length none)) ∙ sym some)

@@ -1,95 +1,15 @@
--- How a group's state is stored: each record as the nested pairs of its fields.
-use Rattle.std.specs.Prelude.{ℕ, ℤ, Bool, true, false, ◌≡◌, refl, Option, Some, None}
-use Rattle.std.specs.Coded.{Coded, code_by, coded×, coded_ℕ, coded_ℤ, coded_bool, coded_list, coded_option}
+-- How a group's state is stored.
+use Rattle.std.specs.Prelude.{ℕ, ℤ, refl, Option}
+use Rattle.std.specs.Coded.{Coded, code_by, coded×, coded_ℕ, coded_ℤ, coded_option}
 use Rattle.std.specs.FinMap as finite
 use Rattle.std.specs.FinSet as set
-use Rattle.group_types.specs.declared.assignor_name.AssignorName.{AssignorName}
-use Rattle.group_types.specs.declared.assignor_name.AssignorName.TheVariants.{Range, Uniform}
-use Rattle.group_types.specs.declared.epoch.Epoch.{Epoch}
-use Rattle.group_types.specs.declared.epoch.Epoch.TheVariants.{At, Away}
-use Rattle.group_types.specs.declared.stamp.Stamp.{Stamp}
 use Rattle.group_types.specs.Text.{Text}
-use Rattle.group_types.specs.Partition.{Partitions, partition_code}
-use Rattle.group_types.specs.Topics.{Topics, Names}
-use Rattle.group_types.specs.Group.{Record, Records, Target, Grants, Committed, Offsets, Past, Group}
+use Rattle.group_types.specs.Partition.{partition_code}
+use Rattle.group_types.specs.Topics.{Topics}
+use Rattle.group_types.specs.Group.{Records, Target, Grants, Committed, Offsets, Past, Group}
 use Rattle.topic_meta.specs.Stored.{topics_code}
 use Rattle.range_assign.specs.Shares.{owners_code}
-
-abbrev text_code : Coded Text
-text_code = coded_list coded_ℕ
-
-abbrev names_code : Coded Names
-names_code = set.code text_code
-
-abbrev partitions_code : Coded Partitions
-partitions_code = set.code partition_code
-
-abbrev assignor_bit : AssignorName → Bool
-assignor_bit Range = false
-assignor_bit Uniform = true
-
-abbrev assignor_of_bit : Bool → AssignorName
-assignor_of_bit false = Range
-assignor_of_bit true = Uniform
-
-pub assignor-assignor_bit : (a : AssignorName) → assignor_of_bit (assignor_bit a) ≡ a
-assignor-assignor_bit Range = refl
-assignor-assignor_bit Uniform = refl
-
-abbrev assignor_code : Coded AssignorName
-assignor_code = code_by Bool coded_bool assignor_bit assignor_of_bit assignor-assignor_bit
-
-abbrev number_if_any : Epoch → Option ℕ
-number_if_any (At e) = Some e
-number_if_any Away = None
-
-abbrev epoch_of_number : Option ℕ → Epoch
-epoch_of_number (Some e) = At e
-epoch_of_number None = Away
-
-pub epoch-number_if_any : (e : Epoch) → epoch_of_number (number_if_any e) ≡ e
-epoch-number_if_any (At e) = refl
-epoch-number_if_any Away = refl
-
-abbrev epoch_code : Coded Epoch
-epoch_code = code_by (Option ℕ) (coded_option coded_ℕ) number_if_any epoch_of_number epoch-number_if_any
-
-abbrev stamp_code : Coded Stamp
-stamp_code = code_by (ℕ × ℕ) (coded× coded_ℕ coded_ℕ) (λ s. (s.connection, s.frame)) (λ p. record { connection = p.0; frame = p.1 }) (λ _. refl)
-
--- the fields of a record: instance, rack, names, assignor, rebalance timeout, the epochs, stamp, the sent set, the deadlines
-abbrev RecordFields : Type 0
-RecordFields =
-    Option Text × (Option Text × (Names × (Option AssignorName × (ℕ × (Epoch × (ℕ × (Stamp × (Option Partitions × (ℕ × Option ℕ)))))))))
-
-abbrev record_fields : Record → RecordFields
-record_fields r =
-    (r.instance, (r.rack, (r.names, (r.assignor, (r.rebalance_timeout, (r.epoch, (r.previous_epoch, (r.stamp, (r.sent, (r.session_deadline, r.release_deadline))))))))))
-
-abbrev record_of_fields : RecordFields → Record
-record_of_fields p =
-    record {
-      instance = p.0;
-      rack = p.1.0;
-      names = p.1.1.0;
-      assignor = p.1.1.1.0;
-      rebalance_timeout = p.1.1.1.1.0;
-      epoch = p.1.1.1.1.1.0;
-      previous_epoch = p.1.1.1.1.1.1.0;
-      stamp = p.1.1.1.1.1.1.1.0;
-      sent = p.1.1.1.1.1.1.1.1.0;
-      session_deadline = p.1.1.1.1.1.1.1.1.1.0;
-      release_deadline = p.1.1.1.1.1.1.1.1.1.1;
-    }
-
-abbrev record_fields_code : Coded RecordFields
-record_fields_code =
-    coded× (coded_option text_code) (coded× (coded_option text_code) (coded× names_code (coded× (coded_option assignor_code)
-    (coded× coded_ℕ (coded× epoch_code (coded× coded_ℕ (coded× stamp_code (coded× (coded_option partitions_code)
-    (coded× coded_ℕ (coded_option coded_ℕ))))))))))
-
-abbrev record_code : Coded Record
-record_code = code_by RecordFields record_fields_code record_fields record_of_fields (λ _. refl)
+use Rattle.group_epochs.specs.Stored.{text_code, record_code, past_code}
 
 abbrev grants_code : Coded Grants
 grants_code = set.code (coded× text_code partition_code)
@@ -127,7 +47,7 @@ abbrev group_fields_code : Coded GroupFields
 group_fields_code =
     coded× coded_ℕ (coded× coded_ℕ (coded× coded_ℕ (coded× (finite.code text_code record_code) (coded× owners_code
     (coded× grants_code (coded× (finite.code (coded× text_code coded_ℤ) committed_code) (coded× topics_code
-    (coded× coded_ℕ (coded× coded_ℕ (coded_list (coded× text_code stamp_code)))))))))))
+    (coded× coded_ℕ (coded× coded_ℕ past_code)))))))))
 
 abbrev pub group_code : Coded Group
 group_code = code_by GroupFields group_fields_code group_fields group_of_fields (λ _. refl)

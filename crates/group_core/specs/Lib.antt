@@ -1,9 +1,12 @@
+pub mod Listing
+pub mod Growth
 pub mod Checks
+pub mod ReplyText
 pub mod Outcome
-pub mod Request
-pub mod Members
 pub mod Group
 pub mod GroupView
 pub mod FirstMember
 pub mod Built
 pub mod Laws
+pub mod Stages
+pub mod Steady

@@ -1,24 +1,23 @@
 -- What the code answers, as the machine's answer.
-use Rattle.group_core.specs.declared.outcome.Reply.{Reply}
-use Rattle.group_core.specs.declared.outcome.Outcome.{Outcome}
-use Rattle.group_core.specs.declared.outcome.Outcome.TheVariants.{Replied, Closes}
-use Rattle.std.specs.Prelude.{ℕ, ◌≤◌, pos, Some, IfSome}
+use Rattle.std.specs.Prelude.{◌≡◌, ℕ, ◌≤◌, ◌+◌, ◌*◌, pos, ◌≤ℤ◌, length, Some, IfSome}
+use Rattle.std.specs.Option.{option_map_or}
 use Rattle.group_types.specs.declared.code.Code.TheVariants.{NoError}
 use Rattle.group_types.specs.Limits.{HEARTBEAT_INTERVAL, MOST_PARTITIONS}
 use Rattle.group_types.specs.Text.{Text}
 use Rattle.group_types.specs.Sets.{size}
 use Rattle.group_types.specs.Partition.{Partitions}
+use Rattle.group_types.specs.Topics.{Topics}
+use Rattle.group_types.specs.Group.{Group}
+use Rattle.group_types.specs.Renewal.{view_for}
 use Rattle.group_types.specs.HeartbeatStep as machine
+use Rattle.group_core.specs.declared.outcome.Reply.{Reply}
+use Rattle.group_core.specs.declared.outcome.Outcome.{Outcome}
+use Rattle.group_core.specs.declared.outcome.Outcome.TheVariants.{Replied, Closes}
 
 -- a reply, field by field
 abbrev pub reply_of : Reply → machine.Reply
 reply_of r =
     record { code = r.code; member = r.member; epoch = r.epoch; interval = r.interval; assignment = r.assignment }
-
--- KIP-848, "ConsumerGroupHeartbeat API": a member's heartbeat is accepted at its member epoch, and it may read the set
-abbrev pub accepted : Text → ℕ → Partitions → machine.Reply
-accepted m epoch set =
-    record { code = NoError; member = Some m; epoch = pos epoch; interval = HEARTBEAT_INTERVAL; assignment = Some set }
 
 -- a reply, or that the connection is closed
 abbrev pub answer_of : Outcome → machine.Answer
@@ -29,3 +28,29 @@ answer_of Closes = machine.Closes
 abbrev pub HasFewPartitions : machine.Answer → Type 0
 HasFewPartitions (machine.Replied r) = IfSome r.assignment (λ set. size set ≤ MOST_PARTITIONS)
 HasFewPartitions machine.Closes = Unit {0}
+
+-- The bytes that are reserved for the frame of a reply (ours): what is always there, the id, and for each partition its index and
+-- its topic's entry.
+abbrev pub reply_room : machine.Reply → ℕ
+reply_room r = 100 + option_map_or length r.member 0 + 30 * option_map_or size r.assignment 0
+
+-- so many bytes more are enough for the frame of the answer
+abbrev pub HasRoomFor : machine.Answer → ℕ → Type 0
+HasRoomFor (machine.Replied r) room = reply_room r ≤ room
+HasRoomFor machine.Closes room = Unit {0}
+
+-- KIP-848, "ConsumerGroupHeartbeat API": a member's heartbeat is accepted at its member epoch, and it may read the set
+abbrev pub accepted : Text → ℕ → Partitions → machine.Reply
+accepted m epoch set =
+    record { code = NoError; member = Some m; epoch = pos epoch; interval = HEARTBEAT_INTERVAL; assignment = Some set }
+
+-- ---- the view
+
+-- the stored view is that of this image
+abbrev pub IsCurrent : Group → Topics → Type 0
+IsCurrent g image = g.view ≡ view_for image g.records
+
+-- after a join or a beat that is accepted the stored view is that of the image
+abbrev pub IsCurrentAfter : machine.Answer → Group → Topics → Type 0
+IsCurrentAfter (machine.Replied r) g image = r.code ≡ NoError → pos 0 ≤ℤ r.epoch → IsCurrent g image
+IsCurrentAfter machine.Closes g image = Unit {0}

@@ -5,7 +5,7 @@ ghost use Rattle.group_types.specs.Request.{is_empty, is_invalid, is_invalid_joi
 ghost use Rattle.group_types.specs.Checks.{Accepted, Refused};
 ghost use Rattle.kip_msgs.specs.Topics.{topic_partitions_values};
 ghost use Rattle.kip_msgs.specs.Views.{heartbeat_request_value};
-ghost use Rattle.group_core.specs.Request.{heartbeat_of, partitions_of};
+ghost use Rattle.group_epochs.specs.Request.{heartbeat_of, partitions_of};
 ghost use Rattle.group_core.specs.Checks.{MakesMember, verdict_on_request};
 
 use group_types::{AssignorName, Code};

@@ -1,32 +1,29 @@
 //! A group and its heartbeats.
-ghost use Rattle.std.specs.Prelude.{◌≡◌, IfOk, OnErr};
-ghost use Rattle.std.specs.Prelude.{unwrap_or, option_map};
+ghost use Rattle.std.specs.Prelude.{◌≡◌, ◌-◌, IfOk, OnErr, true, length, vec_capacity, unwrap_or, option_map};
 ghost use Rattle.std.specs.Option.{option_copied};
 ghost use Rattle.std.specs.FinMap as finite;
 ghost use Rattle.group_types.specs.Sets.{nothing};
-ghost use Rattle.group_types.specs.Group.{new_group, starting_group, wanted, held};
+ghost use Rattle.group_types.specs.Group.{new_group, starting_group, held};
+ghost use Rattle.group_types.specs.Members.{is_remembered, members_of};
+ghost use Rattle.group_reconcile.specs.Holders.{pairs};
 
-use crate::outcome::{Outcome, Reply};
-use crate::record::{Member, member_with_id};
-use crate::{checks, join};
+use crate::heartbeat;
+use crate::outcome::Outcome;
+use crate::state::State;
+use group_epochs::Records;
+use group_reconcile::Grants;
 use group_target::Target;
-use group_types::{Code, Epoch, EpochNumber, Moment, PartSet, Stamp};
+use group_types::{Epoch, EpochNumber, Moment, PartSet, Stamp};
 use kip_msgs::HeartbeatRequest;
 use std::alloc::{AllocError, Global};
+use std::collections::hash_map::RandomState;
 use std::marker::Model;
 use topic_meta::{Image, View};
 
 /// One consumer group, with its whole state.
 #[derive(Drop)]
 pub struct Group {
-    salt: u64,
-    epoch: EpochNumber,
-    target: Target,
-    members: Vec<Member>,
-    view: View,
-    clock: Moment,
-    /// How many ids were made.
-    ids_made: u64,
+    state: State,
 }
 
 impl Model for Group {
@@ -45,79 +42,43 @@ impl Model for Group {
 }
 
 impl Group {
+    ghost use Rattle.group_types.specs.Sound.{IsSound};
     ghost use Rattle.kip_msgs.specs.Views.{heartbeat_request_value};
-    ghost use Rattle.group_core.specs.Request.{arrival_of};
+    ghost use Rattle.group_epochs.specs.Request.{arrival_of};
     ghost use Rattle.group_core.specs.Built.{StepToday};
-    ghost use Rattle.group_core.specs.Outcome.{answer_of, HasFewPartitions};
-    ghost use Rattle.group_core.specs.FirstMember.{group_of_one};
-    ghost use Rattle.group_core.specs.Members.{record_of};
+    ghost use Rattle.group_core.specs.Outcome.{answer_of, HasFewPartitions, HasRoomFor, IsCurrent, IsCurrentAfter};
 
     /// A new group: epoch 0, and no members. The salt is the first half of the ids that it makes. Takes no memory.
-    pub fn new(alloc: Global, salt: u64) -> Group
+    pub fn new(alloc: Global, salt: u64, hasher: RandomState) -> Group
         ensures { result ≡ new_group salt }
     {
-        Group::starting_at(alloc, salt, EpochNumber::zero())
+        Group::starting_at(alloc, salt, hasher, EpochNumber::zero())
     }
 
     /// A group that nobody has joined, whose epoch and target epoch are this one. Takes no memory.
-    pub fn starting_at(alloc: Global, salt: u64, epoch: EpochNumber) -> Group
+    pub fn starting_at(alloc: Global, salt: u64, hasher: RandomState, epoch: EpochNumber) -> Group
         ensures { result ≡ starting_group salt epoch }
     {
+        // so that the epoch is known to be at most the greatest
+        let _ = epoch.as_u32();
         Group {
-            salt,
-            epoch,
-            target: Target::new(alloc, epoch),
-            members: Vec::new(alloc),
-            view: View::empty(alloc),
-            clock: Moment::of_millis(0),
-            ids_made: 0,
+            state: State::starting_at(alloc, salt, hasher, epoch),
         }
-    }
-
-    /// The group of one member, at the epoch of its target. Fails where memory is short.
-    pub(crate) fn of_one(
-        alloc: Global,
-        salt: u64,
-        member: Member,
-        target: Target,
-        view: View,
-        now: Moment,
-    ) -> Result<Group, AllocError>
-        requires { member.granted ≡ wanted target.owners member.id }
-        ensures { IfOk result (λ g. g ≡ group_of_one salt member.id (record_of member.record) target view now) }
-    {
-        let mut members = Vec::with_capacity(alloc, 1)?;
-        members.push(member)?;
-        Ok(Group {
-            salt,
-            epoch: target.epoch(),
-            target,
-            members,
-            view,
-            clock: now,
-            ids_made: 1,
-        })
-    }
-
-    /// The first half of the ids that the group makes.
-    pub(crate) fn salt(&self) -> u64
-        ensures { result ≡ self.now.salt }
-    {
-        self.salt
     }
 
     /// The group epoch.
     pub fn epoch(&self) -> EpochNumber
-        ensures { result ≡ self.now.epoch }
+        ensures value { result ≡ self.now.epoch }
+        ensures sound { IsSound self.now }
     {
-        self.epoch
+        self.state.epoch
     }
 
     /// How many members the group has.
     pub fn members(&self) -> usize
         ensures { result ≡ finite.len self.now.records }
     {
-        self.members.len()
+        self.state.records.len()
     }
 
     /// The target assignment: who is to own which partition, and since which epoch.
@@ -125,52 +86,94 @@ impl Group {
         ensures owners { result.now.owners ≡ self.now.target }
         ensures epoch { result.now.epoch ≡ self.now.target_epoch }
     {
-        &self.target
+        &self.state.target
     }
 
-    /// The partitions that a member may read; none where it has none.
+    /// Who may read which partition, and since which target.
+    pub fn grants(&self) -> &Grants
+        ensures { pairs result.now ≡ self.now.grants }
+    {
+        &self.state.grants
+    }
+
+    /// The partitions that a member may read: none, or the empty set, where that is nothing.
     pub fn granted(&self, member: &str) -> Option<&PartSet>
         ensures { unwrap_or (option_copied result) nothing ≡ held self.now.grants member.now }
     {
-        let member = member_with_id(self.members.as_slice(), member)?;
-        Some(&member.granted)
+        self.state.grants.held(member)
     }
 
-    /// The member epoch of a member, and the one before it; none where the group has no such member.
+    /// The member epoch of a member, and the one before it; none where the group has no such member. Takes no memory.
     pub fn epochs(&self, member: &str) -> Option<(Epoch, EpochNumber)>
         ensures { result ≡ option_map (λ r. (r.epoch, r.previous_epoch)) (finite.get self.now.records member.now) }
     {
-        let member = member_with_id(self.members.as_slice(), member)?;
-        Some((member.record.epoch, member.record.previous_epoch))
+        let record = self.state.records.get(member)?;
+        Some((record.epoch(), record.previous_epoch()))
     }
 
-    /// One heartbeat of KIP-848 with its stamp, at a moment, over the node's image. Today a join with no member id and
-    /// no instance id is answered by a group without members; every other heartbeat closes. A refusal and `Closes` change
-    /// nothing. Fails where memory is short, and then nothing has changed.
-    pub fn heartbeat(
+    /// Whether the id has a record, or had one and is still remembered (ours). Takes no memory.
+    pub fn remembers(&self, member: &str) -> bool
+        ensures { result ≡ is_remembered (members_of self.now) member.now }
+    {
+        self.state.records.remembers(member)
+    }
+
+    /// One heartbeat of KIP-848 with its stamp, at a moment, over the node's image, as far as heartbeats are built. A refusal
+    /// and `Closes` change nothing. Where it replies there is room for the reply's frame behind the bytes of `out`, which stay. Fails
+    /// where memory is short, and then nothing has changed.
+    pub fn heartbeat<'a>(
         &mut self,
         alloc: Global,
-        request: &HeartbeatRequest<'_>,
+        request: &HeartbeatRequest<'a>,
         stamp: Stamp,
         now: Moment,
         image: &Image,
-    ) -> Result<Outcome, AllocError>
+        out: &mut Vec<u8>,
+    ) -> Result<Outcome<'a>, AllocError>
         ensures step { IfOk result (λ outcome. StepToday self.old
             (arrival_of (heartbeat_request_value request.now) stamp now image.now) (answer_of outcome) self.new) }
         ensures few { IfOk result (λ outcome. HasFewPartitions (answer_of outcome)) }
+        ensures current { IfOk result (λ outcome. IsCurrentAfter (answer_of outcome) self.new image.now) }
+        ensures room { IfOk result (λ outcome. HasRoomFor (answer_of outcome) (vec_capacity out.new - length out.new.items)) }
+        ensures out { out.new.items ≡ out.old.items }
         ensures err { OnErr result (self.new ≡ self.old) }
     {
-        if !self.members.is_empty() || !checks::makes_member(request) {
+        self.heartbeat_over(alloc, request, stamp, now, image, false, out)
+    }
+
+    /// The same where it may be known that the group's view is that of the image: a member that has nothing to be told then costs
+    /// no look at a topic or at another member, and no memory beside that in `out`.
+    pub fn heartbeat_over<'a>(
+        &mut self,
+        alloc: Global,
+        request: &HeartbeatRequest<'a>,
+        stamp: Stamp,
+        now: Moment,
+        image: &Image,
+        is_current: bool,
+        out: &mut Vec<u8>,
+    ) -> Result<Outcome<'a>, AllocError>
+        requires { is_current ≡ true → IsCurrent self.old image.now }
+        ensures step { IfOk result (λ outcome. StepToday self.old
+            (arrival_of (heartbeat_request_value request.now) stamp now image.now) (answer_of outcome) self.new) }
+        ensures few { IfOk result (λ outcome. HasFewPartitions (answer_of outcome)) }
+        ensures current { IfOk result (λ outcome. IsCurrentAfter (answer_of outcome) self.new image.now) }
+        ensures room { IfOk result (λ outcome. HasRoomFor (answer_of outcome) (vec_capacity out.new - length out.new.items)) }
+        ensures out { out.new.items ≡ out.old.items }
+        ensures err { OnErr result (self.new ≡ self.old) }
+    {
+        if !heartbeat::is_built(request) {
             return Ok(Outcome::Closes);
         }
-        if let Some(code) = checks::refusal_of(request) {
-            return Ok(Outcome::Replied(Reply::refusal(code)));
-        }
-        let Some(next) = self.epoch.next() else {
-            return Ok(Outcome::Replied(Reply::refusal(Code::CoordinatorNotAvailable)));
-        };
-        let (group, reply) = join::first_join(alloc, self, next, request, stamp, now, image)?;
-        *self = group;
-        Ok(Outcome::Replied(reply))
+        heartbeat::respond(
+            &mut self.state,
+            alloc,
+            request,
+            stamp,
+            now,
+            image,
+            is_current,
+            out,
+        )
     }
 }

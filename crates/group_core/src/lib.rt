@@ -1,22 +1,47 @@
 //! One consumer group: what a heartbeat does to it, and what is answered.
 //!
-//! [`Group`] holds a group's whole state, and [`Group::heartbeat`] moves it by exactly one step of the group's
-//! machine (KIP-848), or says that memory is short and changes nothing. Today one step is described: the first join
-//! of a group without members. Start from [`Group::new`].
+//! [`Group`] holds a group's whole state, and [`Group::heartbeat`] moves it by exactly one step of the group's machine
+//! (KIP-848), or says that memory is short and changes nothing. Built are joins that name no instance, beats and leaves.
+//!
+//! A heartbeat goes through stages, a file each: the checks (`checks`, `judge`), the draft of its record (`naming`), the
+//! change and the renewal (`change`), what is told (`plan`), and what is stored (`carry`). A beat that gives nothing, of a
+//! member that has nothing to be told, skips them (`steady`, `mark`). Start from [`Group::new`].
 #![tactic(auto)]
 
+mod beat;
+mod carry;
+mod change;
 mod checks;
-mod given;
+mod draft;
 mod group;
+mod heartbeat;
 mod join;
+mod judge;
 mod laws;
+mod leave;
+mod listing;
+mod mark;
+mod naming;
 mod outcome;
-mod record;
+mod plan;
+mod renewal;
+mod reply_id;
+mod reported;
+mod settle;
+mod shown;
+mod state;
+mod steady;
+mod taking;
+mod verdict;
 
 pub use group::Group;
+pub use group_epochs::Records;
+pub use group_reconcile::Grants;
 pub use group_target::Target;
 pub use group_types::{Code, Epoch, EpochNumber, MemberId, Moment, PartSet, Partition, Stamp};
 pub use kip_msgs::HeartbeatRequest;
 pub use laws::{first_joins_are_answered, heartbeats_have_one_answer};
 pub use outcome::{Outcome, Reply};
+pub use reply_id::ReplyId;
+pub use shown::Shown;
 pub use topic_meta::Image;

@@ -1,28 +1,33 @@
 //! What a heartbeat is answered.
 
-use group_types::limits::HEARTBEAT_INTERVAL;
-use group_types::{Code, EpochNumber, MemberId, PartSet};
+ghost use Rattle.std.specs.Prelude.{◌≡◌, Some};
 
-/// A reply to a heartbeat, which owns what it says.
+use crate::reply_id::ReplyId;
+use crate::shown::Shown;
+use group_types::limits::HEARTBEAT_INTERVAL;
+use group_types::{Code, Epoch};
+
+/// A reply to a heartbeat. It owns what was made for it, and lends the rest from the request.
 #[derive(Drop)]
-pub struct Reply {
+pub struct Reply<'a> {
     pub code: Code,
     /// The member's id; none beside an error.
-    pub member: Option<MemberId>,
+    pub member: Option<ReplyId<'a>>,
     pub epoch: i32,
     /// Milliseconds to the next heartbeat.
     pub interval: i32,
     /// The partitions that the member may read, where they are said.
-    pub assignment: Option<PartSet>,
+    pub assignment: Option<Shown<'a>>,
 }
 
-impl Reply {
-    ghost use Rattle.std.specs.Prelude.{◌≡◌};
-    ghost use Rattle.group_types.specs.HeartbeatStep.{refusal};
-    ghost use Rattle.group_core.specs.Outcome.{accepted, reply_of};
+impl<'a> Reply<'a> {
+    ghost use Rattle.group_types.specs.HeartbeatStep.{epoch_number, farewell, refusal};
+    ghost use Rattle.group_types.specs.Limits as limits;
+    ghost use Rattle.group_types.specs.Request.{LEAVES_AT};
+    ghost use Rattle.group_core.specs.Outcome.{reply_of};
 
-    /// The reply that says an error and nothing else.
-    pub fn refusal(code: Code) -> Reply
+    /// The reply that says an error and nothing else. Takes no memory.
+    pub fn refusal(code: Code) -> Reply<'a>
         ensures { reply_of result ≡ refusal code }
     {
         Reply {
@@ -34,25 +39,51 @@ impl Reply {
         }
     }
 
-    /// The reply to a member whose heartbeat is accepted, at its member epoch, with the partitions that it may read.
-    pub fn acceptance(member: MemberId, epoch: EpochNumber, shown: PartSet) -> Reply
-        ensures { reply_of result ≡ accepted member epoch shown }
+    /// The reply to an accepted join or beat. Takes no memory.
+    pub(crate) fn acceptance(
+        member: ReplyId<'a>,
+        epoch: Epoch,
+        assignment: Option<Shown<'a>>,
+    ) -> Reply<'a>
+        ensures { reply_of result ≡ record {
+          code = Code.NoError;
+          member = Some member.entry;
+          epoch = epoch_number epoch;
+          interval = limits.HEARTBEAT_INTERVAL;
+          assignment = assignment.entry;
+        } }
     {
         Reply {
             code: Code::NoError,
             member: Some(member),
-            epoch: epoch.as_i32(),
+            epoch: match epoch {
+                Epoch::At(number) => number.as_i32(),
+                Epoch::Away => -2,
+            },
             interval: HEARTBEAT_INTERVAL,
-            assignment: Some(shown),
+            assignment,
+        }
+    }
+
+    /// The reply to a member that leaves for good. Takes no memory.
+    pub(crate) fn farewell(member: ReplyId<'a>) -> Reply<'a>
+        ensures { reply_of result ≡ farewell member.entry LEAVES_AT }
+    {
+        Reply {
+            code: Code::NoError,
+            member: Some(member),
+            epoch: -1,
+            interval: 0,
+            assignment: None,
         }
     }
 }
 
 /// What becomes of a heartbeat.
 #[derive(Drop)]
-pub enum Outcome {
+pub enum Outcome<'a> {
     /// It is answered.
-    Replied(Reply),
+    Replied(Reply<'a>),
     /// It is not answered, and its connection is to be closed.
     Closes,
 }

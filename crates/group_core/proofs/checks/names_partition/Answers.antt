@@ -3,7 +3,7 @@ use Rattle.std.specs.List.{flat_map}
 use Rattle.group_types.specs.Request.{is_empty}
 use Rattle.kip_msgs.specs.declared.heartbeat.TopicPartitions.{TopicPartitions}
 use Rattle.kip_msgs.specs.Topics.{topic_partitions_values}
-use Rattle.group_core.specs.Request.{partitions_of}
+use Rattle.group_epochs.specs.Request.{partitions_of}
 use Rattle.group_core.proofs.Named.{list_any-has_index}
 use Rattle.group_core.proofs.checks.names_partition.Goals as goal
 

@@ -1,0 +1,42 @@
+use Rattle.std.proofs.Common.{◌≡◌, ◌≤◌, Bool, true, false, Option, sym, subst}
+use Rattle.std.specs.Option.{IfSome}
+use Rattle.group_types.specs.Limits.{MOST_PARTITIONS}
+use Rattle.group_types.specs.Sets.{common, size}
+use Rattle.group_types.specs.Text.{Text}
+use Rattle.group_types.specs.Topics.{Topics}
+use Rattle.group_types.specs.Owners.{Spread, share_of}
+use Rattle.group_types.specs.Partition.{Partitions}
+use Rattle.group_types.specs.Group.{held}
+use Rattle.group_types.specs.HeartbeatStep.{assignment_of}
+use Rattle.topic_meta.specs.Facts.{AreImageTopics}
+use Rattle.group_core.specs.Stages.{AreOfView, grants_then, target_then}
+use Rattle.group_core.proofs.FewPartitions.{few_shown}
+use Rattle.group_core.proofs.plan.plan_of.Goals as goal
+
+abbrev IsFew : Partitions → Type 0
+IsFew set = size set ≤ MOST_PARTITIONS
+
+few_told : (b : Bool) (set : Partitions) → IsFew set → IfSome (assignment_of b set) IsFew
+few_told true set few = few
+few_told false set few = tt
+
+few_of : (view : Topics) (owners : Spread) (m : Text) (held : Partitions) → AreImageTopics view → AreOfView owners view
+    → (shown : Partitions) → shown ≡ common held (share_of owners m) → (b : Bool) (told : Option Partitions) → told ≡ assignment_of b shown → IfSome told IsFew
+few_of view owners m held image of shown is b told so =
+    subst (λ o. IfSome o IsFew) (sym so) (few_told b shown (subst IsFew (sym is) (few_shown view owners m held image of)))
+
+pub make_room-requires : goal.make_room-requires
+make_room-requires c =
+    let s = c.args.state.now in
+    let d = c.args.draft.now in
+    let r = c.args.renewal.now in
+    few_of r.view (target_then s r).owners d.id (held (grants_then s d r c.in_ok-owned.owned) d.id) c.topics.ensures.sound c.requires.owned
+    c.in_ok-shown.shown c.in_ok-shown.ensures c.is_told-is_told.result c.in_ok-told.told.assignment c.in_ok-told.ensures.assignment
+
+pub returns-clause-few : goal.returns-clause-few
+returns-clause-few c =
+    let s = c.args.state.now in
+    let d = c.args.draft.now in
+    let r = c.args.renewal.now in
+    few_of r.view (target_then s r).owners d.id (held (grants_then s d r c.in_ok-owned.owned) d.id) c.topics.ensures.sound c.requires.owned
+    c.in_ok-shown.shown c.in_ok-shown.ensures c.is_told-is_told.result c.in_ok-told.told.assignment c.in_ok-told.ensures.assignment

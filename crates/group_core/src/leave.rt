@@ -1,0 +1,53 @@
+//! A member leaves for good (KIP-848, "Consumer Group Heartbeat", member epoch -1).
+ghost use Rattle.std.specs.Prelude.{◌≡◌, ◌-◌, IfOk, OnErr, OnOk, length, vec_capacity};
+ghost use Rattle.group_types.specs.Leave.{left, risen};
+ghost use Rattle.group_types.specs.Request.{LEAVES_AT};
+ghost use Rattle.group_types.specs.HeartbeatStep.{Replied, farewell};
+ghost use Rattle.group_epochs.specs.Records.{IsMember};
+ghost use Rattle.group_core.specs.GroupView.{group_of};
+ghost use Rattle.group_core.specs.Outcome.{answer_of, HasRoomFor};
+ghost use Rattle.group_core.specs.Steady.{AreMarked};
+
+use crate::outcome::{Outcome, Reply};
+use crate::plan::make_room;
+use crate::reply_id::ReplyId;
+use crate::state::State;
+use group_types::{EpochNumber, Moment, Stamp};
+use std::alloc::AllocError;
+
+/// Answers a leave that the checks accept: records, target and grants lose the member, and the group epoch rises below its
+/// greatest value. Where memory is short, the group is as it was.
+pub fn leave<'a>(
+    state: &mut State,
+    member: &'a str,
+    stamp: Stamp,
+    moment: Moment,
+    out: &mut Vec<u8>,
+) -> Result<Outcome<'a>, AllocError>
+    requires marks { AreMarked (group_of state.old) state.old.records.marks }
+    requires there { IsMember state.old.records member.now }
+    ensures answer { IfOk result (λ outcome. answer_of outcome ≡ Replied (farewell member.now LEAVES_AT)) }
+    ensures group { OnOk result (group_of state.new ≡ left (group_of state.old) member.now stamp moment) }
+    ensures room { IfOk result (λ outcome. HasRoomFor (answer_of outcome) (vec_capacity out.new - length out.new.items)) }
+    ensures out { out.new.items ≡ out.old.items }
+    ensures marks { AreMarked (group_of state.new) state.new.records.marks }
+    ensures err { OnErr result (group_of state.new ≡ group_of state.old) }
+{
+    make_room(out, member, &None)?;
+    state.records.leave(member, stamp);
+    state.target.drop_member(member);
+    state.grants.drop_member(member);
+    state.epoch = risen(state.epoch);
+    state.clock = state.clock.later(moment);
+    Ok(Outcome::Replied(Reply::farewell(ReplyId::named(member))))
+}
+
+/// The epoch after this one, or the greatest one again.
+fn risen(epoch: EpochNumber) -> EpochNumber
+    ensures { result ≡ risen epoch }
+{
+    match epoch.next() {
+        Some(next) => next,
+        None => epoch,
+    }
+}

@@ -1,0 +1,177 @@
+//! What a member is to be told, and all that its reply needs of memory.
+ghost use Rattle.std.specs.Prelude.{◌≡◌, ◌≤ℤ◌, pos, ◌||◌, unwrap_or, ◌≤◌, ◌+◌, ◌-◌, ◌*◌, IfOk, IfSome, OnOk, length, vec_capacity};
+ghost use Rattle.std.specs.Option.{option_map_or};
+ghost use Rattle.group_types.specs.Limits as limits;
+ghost use Rattle.group_types.specs.Request.{is_full, reported};
+ghost use Rattle.group_types.specs.HeartbeatStep.{assignment_of, is_news};
+ghost use Rattle.group_types.specs.Sets.{size};
+ghost use Rattle.kip_msgs.specs.Views.{heartbeat_request_value};
+ghost use Rattle.group_epochs.specs.Request.{heartbeat_of};
+ghost use Rattle.group_core.specs.Stages.{AreOfView, shown_then, target_then};
+
+use crate::draft::Draft;
+use crate::renewal::Renewal;
+use crate::reply_id::ReplyId;
+use crate::reported::reported;
+use crate::shown::Shown;
+use crate::state::State;
+use group_epochs::Record;
+use group_target::Target;
+use group_types::{MemberId, PartSet};
+use kip_msgs::HeartbeatRequest;
+use std::alloc::{AllocError, Global};
+
+/// What is made for a reply before anything is stored: the partitions that are reported, the id, and what is told.
+#[derive(Drop)]
+pub struct Plan<'a> {
+    pub owned: Option<PartSet>,
+    pub id: ReplyId<'a>,
+    /// The assignment, where one is said.
+    pub assignment: Option<Shown<'a>>,
+    /// A copy of it, to be kept as what was sent.
+    pub sent: Option<PartSet>,
+}
+
+/// Plans the reply to a member whose draft was renewed; there is room for it in `out` then. Fails where memory is short.
+pub fn plan_of<'a>(
+    state: &State,
+    alloc: Global,
+    draft: &Draft,
+    renewal: &Renewal,
+    request: &HeartbeatRequest<'a>,
+    out: &mut Vec<u8>,
+) -> Result<Plan<'a>, AllocError>
+    requires epoch { pos 0 ≤ℤ request.now.member_epoch }
+    requires owned { AreOfView (target_then state.now renewal.now).owners renewal.now.view }
+    ensures owned { IfOk result (λ plan. plan.owned ≡ reported (heartbeat_of (heartbeat_request_value request.now))) }
+    ensures id { IfOk result (λ plan. plan.id ≡ draft.now.id) }
+    ensures assignment { let q = heartbeat_of (heartbeat_request_value request.now) in
+        let shown = shown_then state.now draft.now renewal.now (reported q) in
+        IfOk result (λ plan. plan.assignment ≡ assignment_of (is_full q || is_news draft.now.record.sent shown) shown) }
+    ensures sent { IfOk result (λ plan. plan.sent ≡ plan.assignment) }
+    ensures few { IfOk result (λ plan. IfSome plan.assignment (λ set. size set ≤ limits.MOST_PARTITIONS)) }
+    ensures room { IfOk result (λ plan. 100 + length plan.id + 30 * option_map_or size plan.assignment 0
+        ≤ vec_capacity out.new - length out.new.items) }
+    ensures out { out.new.items ≡ out.old.items }
+{
+    // so that the view is known to have no more partitions than an image
+    let _ = renewal.view.topics();
+    let owned = reported(alloc, request)?;
+    let shown = shown_of(state, alloc, draft, renewal, &owned)?;
+    let is_told = is_told(request, &draft.record, &shown);
+    let told = told_of(alloc, shown, is_told)?;
+    let id = reply_id(alloc, &draft.id, request.member_id)?;
+    make_room(out, id.as_str(), &told.assignment)?;
+    let Told { assignment, sent } = told;
+    Ok(Plan {
+        owned,
+        id,
+        assignment,
+        sent,
+    })
+}
+
+/// What the member of a draft that was renewed is shown, where it reports so. Fails where memory is short.
+fn shown_of(
+    state: &State,
+    alloc: Global,
+    draft: &Draft,
+    renewal: &Renewal,
+    owned: &Option<PartSet>,
+) -> Result<PartSet, AllocError>
+    ensures { IfOk result (λ shown. shown ≡ shown_then state.now draft.now renewal.now owned.now) }
+{
+    let wanted = target_of(&renewal.target, &state.target).of(draft.id.as_str());
+    state
+        .grants
+        .shown_after(alloc, draft.id.as_str(), &wanted, owned.as_ref())
+}
+
+/// The assignment of a reply, where one is said, and a copy of it to be kept as what was sent.
+#[derive(Drop)]
+struct Told<'a> {
+    assignment: Option<Shown<'a>>,
+    sent: Option<PartSet>,
+}
+
+/// The shown set, where it is told, and its copy. Fails where memory is short.
+fn told_of<'a>(alloc: Global, shown: PartSet, is_told: bool) -> Result<Told<'a>, AllocError>
+    ensures assignment { IfOk result (λ told. told.assignment ≡ assignment_of is_told shown) }
+    ensures sent { IfOk result (λ told. told.sent ≡ assignment_of is_told shown) }
+{
+    if !is_told {
+        return Ok(Told {
+            assignment: None,
+            sent: None,
+        });
+    }
+    let sent = shown.copy(alloc)?;
+    let assignment = Shown::of(alloc, shown)?;
+    Ok(Told {
+        assignment: Some(assignment),
+        sent: Some(sent),
+    })
+}
+
+/// Whether an assignment stands in the reply to a request, where the member has this record and is shown this set.
+fn is_told(request: &HeartbeatRequest<'_>, record: &Record, shown: &PartSet) -> bool
+    ensures { result ≡ (is_full (heartbeat_of (heartbeat_request_value request.now)) || is_news «record».now.sent shown.now) }
+{
+    is_full(request) || record.is_news(shown)
+}
+
+/// The target that a renewal leaves: the renewed one, or else the stored one.
+pub fn target_of<'a>(renewed: &'a Option<Target>, stored: &'a Target) -> &'a Target
+    ensures { result.now ≡ unwrap_or renewed.now stored.now }
+{
+    match renewed {
+        Some(target) => target,
+        None => stored,
+    }
+}
+
+/// Whether all that a member may say is said in the request.
+fn is_full(request: &HeartbeatRequest<'_>) -> bool
+    ensures { result ≡ is_full (heartbeat_of (heartbeat_request_value request.now)) }
+{
+    request.member_epoch == 0
+        || (request.rebalance_timeout_ms != -1
+            && request.subscribed_topic_names.is_some()
+            && request.topic_partitions.is_some())
+}
+
+/// The id in a reply: the request's own where that is the member's, and else a copy. Fails where memory is short.
+fn reply_id<'a>(alloc: Global, id: &MemberId, named: &'a str) -> Result<ReplyId<'a>, AllocError>
+    ensures { IfOk result (λ r. r ≡ id.now) }
+{
+    if id.is(named) {
+        return Ok(ReplyId::named(named));
+    }
+    let id = id.copy(alloc)?;
+    Ok(ReplyId::made(id))
+}
+
+/// Makes room in `out` for a reply that says an error and nothing else.
+pub fn make_room_for_refusal(out: &mut Vec<u8>) -> Result<(), AllocError>
+    ensures room { OnOk result (100 ≤ vec_capacity out.new - length out.new.items) }
+    ensures out { out.new.items ≡ out.old.items }
+{
+    out.reserve(100)
+}
+
+/// Makes room in `out` for a reply with this id and assignment.
+pub fn make_room(
+    out: &mut Vec<u8>,
+    id: &str,
+    assignment: &Option<Shown<'_>>,
+) -> Result<(), AllocError>
+    requires { IfSome assignment.now (λ set. size set ≤ limits.MOST_PARTITIONS) }
+    ensures room { OnOk result (100 + length id.now + 30 * option_map_or size assignment.now 0 ≤ vec_capacity out.new - length out.new.items) }
+    ensures out { out.new.items ≡ out.old.items }
+{
+    let partitions = match assignment {
+        Some(shown) => shown.set().len(),
+        None => 0,
+    };
+    out.reserve(100 + id.len() + 30 * partitions)
+}
