@@ -1,18 +1,26 @@
 -- A first join never closes.
-use Rattle.std.proofs.Common.{◌≡◌, ◌≢◌, ℕ, ℤ, Bool, true, false, List, Option, None, inl, inr, sym, subst}
+use Rattle.std.proofs.Common.{◌≡◌, ◌≢◌, ℕ, ℤ, pos, Bool, true, false, ◌&&◌, ◌||◌, List, [], ◌∷◌, Option, Some, None, is_none, inl, inr, refl, sym, ap, subst, ◌∙◌, true≢false}
+use Rattle.std.specs.FinMap as finite
+use Rattle.std.specs.Ordering.{eq_by_cmp}
 use Rattle.kip_msgs.specs.Values.{RequestValue, HeartbeatRequestValue, RequestHeaderValue, heartbeat_request}
 use Rattle.kip_msgs.specs.Laws.{OneRequestABody}
+use Rattle.group_types.specs.declared.code.Code.{Code}
+use Rattle.group_types.specs.declared.code.Code.TheVariants as codes
 use Rattle.group_types.specs.declared.stamp.Stamp.{Stamp}
-use Rattle.group_types.specs.Checks.{Verdict, Accepted, Refused, Overtaken}
+use Rattle.group_types.specs.Text.{Text, text_cmp}
+use Rattle.group_types.specs.Request.{Heartbeat, Kind, Joins, kind_of, is_invalid, is_unsupported}
+use Rattle.group_types.specs.Checks.{Refused, Overtaken, first_of, is_late, is_of_past, is_overtaken, is_too_many, is_unreleased, record_under, sender_of, verdict_on}
 use Rattle.group_types.specs.HeartbeatStep.{Arrival}
-use Rattle.group_types.specs.Group.{Group, new_group}
+use Rattle.group_types.specs.Group.{Group, Records, Past, new_group}
+use Rattle.group_types.specs.Sound.{IsPast}
 use Rattle.group_types.specs.HeartbeatStep as group
-use Rattle.group_types.specs.Topics.{Topics, Names}
-use Rattle.group_core.specs.Checks.{MakesMember}
-use Rattle.group_core.specs.Laws.{IsAnsweredBy, FirstJoinsAreAnswered}
-use Rattle.group_core.specs.Request.{arrival_of}
+use Rattle.group_types.proofs.Answering.{closes_when_overtaken}
+use Rattle.group_types.proofs.Lookups.{same_text}
+use Rattle.group_epochs.specs.Request.{arrival_of}
+use Rattle.group_core.specs.Built.{is_built, is_built_as}
 use Rattle.coord_node.specs.Coordinator.{Coordinator, Answer, Replied, Closes, Done}
-use Rattle.coord_node.specs.Steps.{is_success, has_room, Makes, MakesBy, HeartbeatAt, Sends, message_of, RequestStep}
+use Rattle.coord_node.specs.Steps.{is_success, has_room, Makes, MakesBy, HeartbeatAt, Sends, message_of, RequestRelation, IsRequest, RequestStep, FrameStepBy, Step}
+use Rattle.coord_node.specs.Today.{HeartbeatIfBuilt, RequestToday, StepToday}
 use Rattle.coord_node.specs.Laws.{IsFirstJoin, AnswersFirstJoins}
 
 -- an answer that replies
@@ -23,15 +31,50 @@ Replies group.Closes = ⊥
 replied : (a : group.Answer) (r : group.Reply) → a ≡ group.Replied r → Replies a
 replied a r is = subst Replies (sym is) tt
 
--- the first heartbeat of a new group is answered, as its checks say
-by_verdict : (verdict : Verdict) (salt epoch : ℕ) (image : Topics) (names : Names) (a : group.Answer) (n : Group) → IsAnsweredBy verdict salt epoch image names a n → Replies a
-by_verdict Accepted salt epoch image names a n is = replied a _ is.2
-by_verdict (Refused code) salt epoch image names a n is = replied a _ is.0
-by_verdict Overtaken salt epoch image names a n is = absurd is
+-- ---- one group: who has no id was never overtaken
 
-step_replies : FirstJoinsAreAnswered → (salt : ℕ) (h : Arrival) (a : group.Answer) (n : Group)
-    → MakesMember h.heartbeat → group.HeartbeatStep (new_group salt) h a n → Replies a
-step_replies answered salt h a n makes step = by_verdict _ salt 0 h.image _ a n (answered salt 0 h a n makes step)
+-- nobody of the past has the empty id
+not_of_past : (records : Records) (past : Past) (m : Text) (stamp : Stamp) → IsPast records past → m ≡ [] → is_of_past past m stamp ≡ false
+not_of_past records [] m stamp is empty = refl
+not_of_past records (e ∷ past) m stamp is empty =
+    let rest = not_of_past records past m stamp is.3 empty in
+    by (eq_by_cmp text_cmp m e.0) refl rest
+  where
+    by : (b : Bool) → eq_by_cmp text_cmp m e.0 ≡ b → is_of_past past m stamp ≡ false → ((b && is_late stamp e.1) || is_of_past past m stamp) ≡ false
+    by true same rest = absurd (is.1 (sym (same_text m e.0 same) ∙ empty))
+    by false apart rest = rest
+
+-- of these checks one alone says that the heartbeat was overtaken
+another_check : (a b overtaken d e : Bool) (first second fourth fifth : Code) → overtaken ≡ false
+    → first_of ((a, Refused first) ∷ (b, Refused second) ∷ (overtaken, Overtaken) ∷ (d, Refused fourth) ∷ (e, Refused fifth) ∷ []) ≢ Overtaken
+another_check true b overtaken d e first second fourth fifth isnt = λ is. cc
+another_check false true overtaken d e first second fourth fifth isnt = λ is. cc
+another_check false false true d e first second fourth fifth isnt = absurd (true≢false isnt)
+another_check false false false true e first second fourth fifth isnt = λ is. cc
+another_check false false false false true first second fourth fifth isnt = λ is. cc
+another_check false false false false false first second fourth fifth isnt = λ is. cc
+
+not_overtaken : (g : Group) (q : Heartbeat) (stamp : Stamp) → IsPast g.records g.past → q.epoch ≡ pos 0 → q.member ≡ []
+    → verdict_on (kind_of q.epoch) (sender_of g.records q) g q stamp ≢ Overtaken
+not_overtaken g q stamp past joins empty =
+    let own : is_overtaken stamp (sender_of g.records q).own ≡ false = ap (λ m. is_overtaken stamp (record_under g.records m)) empty in
+    let former = not_of_past g.records g.past q.member stamp past empty in
+    let neither : (is_overtaken stamp (sender_of g.records q).own || is_of_past g.past q.member stamp) ≡ false =
+    ap (λ b. b || is_of_past g.past q.member stamp) own ∙ former in
+    let kind : kind_of q.epoch ≡ Joins = ap kind_of joins in
+    subst (λ (k : Kind). verdict_on k (sender_of g.records q) g q stamp ≢ Overtaken) (sym kind) (another_check (is_invalid q) (is_unsupported q) _ (is_unreleased (sender_of g.records q).own (sender_of g.records q).other)
+    (is_too_many (sender_of g.records q).own (sender_of g.records q).other (finite.len g.records))
+    codes.InvalidRequest codes.UnsupportedAssignor codes.UnreleasedInstanceId codes.GroupMaxSizeReached neither)
+
+step_replies : (g : Group) (h : Arrival) (a : group.Answer) (n : Group) → IsPast g.records g.past → h.heartbeat.epoch ≡ pos 0 → h.heartbeat.member ≡ []
+    → group.HeartbeatStep g h a n → Replies a
+step_replies g h a n past joins empty step = by a refl
+  where
+    by : (answer : group.Answer) → a ≡ answer → Replies a
+    by (group.Replied r) is = replied a r is
+    by group.Closes is = absurd (not_overtaken g h.heartbeat h.stamp past joins empty (closes_when_overtaken g h a n step is).0)
+
+-- ---- the node
 
 made : (success room : Bool) (c : Coordinator) (name : List ℕ) (g : Group) (r : group.Reply) (a : group.Answer) (n : Coordinator)
     → Makes success room c name g r a n → Replies a
@@ -51,21 +94,45 @@ sent correlation (group.Replied r) Closes replies sends = absurd sends
 sent correlation (group.Replied r) (Done k) replies sends = absurd sends
 sent correlation group.Closes answer replies sends = absurd replies
 
-module _ (one_request : OneRequestABody) (answered : FirstJoinsAreAnswered) where
-  at_absent : (c : Coordinator) (header : RequestHeaderValue) (v : HeartbeatRequestValue) (stamp : Stamp) (moment : ℕ) (answer : Answer) (new : Coordinator)
-      → IsFirstJoin c v → RequestStep c (heartbeat_request header v) stamp moment answer new → answer ≢ Closes
-  at_absent c header v stamp moment answer new first step =
-      let h : Arrival = arrival_of v stamp moment c.image in
-      let absent : HeartbeatAt None c h step.0 new =
-      subst (λ (there : Option Group). HeartbeatAt there c h step.0 new) first.absent step.1 in
-      let makes : MakesMember h.heartbeat = record { joins = first.epoch; has_no_id = first.member; has_no_instance = first.instance } in
-      let in_group : Replies absent.0 = step_replies answered c.salt h absent.0 absent.1 makes absent.2 in
-      let here : Replies step.0 = made_by absent.0 c h.heartbeat.group absent.1 step.0 new in_group absent.3 in
-      sent header.correlation_id step.0 answer here step.2
+module _ (c : Coordinator) (v : HeartbeatRequestValue) (stamp : Stamp) (moment : ℕ) (given : group.Answer) (new : Coordinator) (first : IsFirstJoin c v) where
+  abbrev TheArrival : Arrival
+  TheArrival = arrival_of v stamp moment c.image
 
-  pub answers_first_joins : AnswersFirstJoins
-  answers_first_joins c header v body stamp moment answer new request first (inl step) =
+  node_replies : HeartbeatAt (finite.get c.groups v.group_id) c TheArrival given new → Replies given
+  node_replies step = by (finite.get c.groups v.group_id) refl step
+    where
+      by : (there : Option Group) → finite.get c.groups v.group_id ≡ there → HeartbeatAt there c TheArrival given new → Replies given
+      by None is at =
+          made_by at.0 c v.group_id at.1 given new (step_replies (new_group c.salt) TheArrival at.0 at.1 tt first.epoch first.member at.2) at.3
+      by (Some g) is at = step_replies g TheArrival given at.0 (first.sound g is).past first.epoch first.member at.1
+
+  -- a first join is built
+  built_replies : HeartbeatIfBuilt (is_built TheArrival.heartbeat) c TheArrival given new → Replies given
+  built_replies step =
+      let kind : kind_of v.member_epoch ≡ Joins = ap kind_of first.epoch in
+      let built : is_built TheArrival.heartbeat ≡ true = ap (λ (k : Kind). is_built_as k TheArrival.heartbeat) kind ∙ ap is_none first.instance in
+      node_replies (subst (λ (b : Bool). HeartbeatIfBuilt b c TheArrival given new) built step)
+
+-- ---- the frame
+
+module _ (one_request : OneRequestABody) where
+  -- the request that a body spells is the one that answers it
+  framed : (Requests : RequestRelation) (c : Coordinator) (header : RequestHeaderValue) (v : HeartbeatRequestValue) (body : List ℕ) (stamp : Stamp)
+      (moment : ℕ) (answer : Answer) (new : Coordinator) → IsRequest (heartbeat_request header v) body
+      → (Requests c (heartbeat_request header v) stamp moment answer new → answer ≢ Closes)
+      → FrameStepBy Requests c body stamp moment answer new → answer ≢ Closes
+  framed Requests c header v body stamp moment answer new request answers (inl step) =
       let same : step.0 ≡ heartbeat_request header v = one_request step.0 (heartbeat_request header v) body step.1.spells request.spells in
-      at_absent c header v stamp moment answer new first (subst (λ (x : RequestValue). RequestStep c x stamp moment answer new) same step.2)
-  answers_first_joins c header v body stamp moment answer new request first (inr step) =
+      answers (subst (λ (x : RequestValue). Requests c x stamp moment answer new) same step.2)
+  framed Requests c header v body stamp moment answer new request answers (inr step) =
       absurd (step.0 (heartbeat_request header v) request)
+
+  pub answers_first_joins : AnswersFirstJoins Step
+  answers_first_joins c header v body stamp moment answer new request first step =
+      framed RequestStep c header v body stamp moment answer new request
+      (λ at. sent header.correlation_id at.0 answer (node_replies c v stamp moment at.0 new first at.1) at.2) step
+
+  pub answers_first_joins_today : AnswersFirstJoins StepToday
+  answers_first_joins_today c header v body stamp moment answer new request first step =
+      framed RequestToday c header v body stamp moment answer new request
+      (λ at. sent header.correlation_id at.0 answer (built_replies c v stamp moment at.0 new first at.1) at.2) step

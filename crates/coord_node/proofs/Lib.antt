@@ -1,10 +1,10 @@
-pub mod ListingLemmas
 pub mod LengthLemmas
 pub mod ReplyLemmas
 pub mod RunLemmas
 pub mod GroupLemmas
+pub mod KeptLemmas
+pub mod ShortIds
 pub mod OneAnswer
 pub mod FirstJoin
-pub mod GrowthLemmas
 pub mod AnswerLemmas
 pub mod SoundGroups

@@ -9,7 +9,7 @@ use Rattle.group_types.specs.HeartbeatStep.{Arrival}
 use Rattle.group_types.specs.Commit.{Commit, CommitReply}
 use Rattle.group_types.specs.Group.{Group, new_group}
 use Rattle.group_types.specs.HeartbeatStep as group
-use Rattle.group_core.specs.Request.{arrival_of, commit_of}
+use Rattle.group_epochs.specs.Request.{arrival_of, commit_of}
 use Rattle.group_core.specs.Laws.{HasOneAnswer}
 use Rattle.coord_node.specs.Replies.{IsReplyFrame, commit_value}
 use Rattle.coord_node.specs.Coordinator.{Coordinator, Event, Frame, Tick, Image, Answer, Replied, Closes, Done}

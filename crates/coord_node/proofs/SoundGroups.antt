@@ -1,5 +1,5 @@
 -- Every group of a coordinator is sound: it has none at its opening, and each event keeps all of them so.
-use Rattle.std.proofs.Common.{◌≡◌, ℕ, Bool, true, false, ◌&&◌, List, [], ◌∷◌, map, Option, Some, None, inl, inr, cond, refl, sym, subst, ◌∙◌, arith}
+use Rattle.std.proofs.Common.{◌≡◌, ℕ, Bool, true, false, List, [], ◌∷◌, map, Option, Some, None, inl, inr, cond, refl, sym, subst, ◌∙◌, arith}
 use Rattle.std.specs.FinMap as finite
 use Rattle.std.specs.FinMap.{find}
 use Rattle.std.specs.Ordering.{eq_by_cmp}
@@ -15,8 +15,8 @@ use Rattle.group_types.specs.Sound.{IsSound}
 use Rattle.group_types.specs.Laws.{CommitsAreSound, EveryGroupIsSound, HeartbeatsAreSound, TicksAreSound}
 use Rattle.group_types.proofs.Orders.{text_cmp_total}
 use Rattle.group_types.proofs.Lookups.{Found, this, another, found, not_none, some_is}
-use Rattle.group_core.specs.Built.{is_built, is_built_at}
-use Rattle.group_core.specs.Request.{arrival_of, commit_of}
+use Rattle.group_core.specs.Built.{is_built}
+use Rattle.group_epochs.specs.Request.{arrival_of, commit_of}
 use Rattle.coord_node.specs.Coordinator.{Coordinator, Event, Frame, Tick, Image, Answer, opening}
 use Rattle.coord_node.specs.Steps.{is_success, has_room, all_ticked, Makes, MakesBy, HeartbeatAt, CommitAt, with_group, RequestRelation, RequestStep, FrameStepBy, EventRelation, RunBy, Step}
 use Rattle.coord_node.specs.Today.{HeartbeatIfBuilt, RequestToday, StepToday}
@@ -118,7 +118,7 @@ module _ (every : EveryGroupIsSound) (heartbeats : HeartbeatsAreSound) (ticks : 
       → RequestToday c v stamp moment answer new → HasSoundGroups new
   requested_today c sound (heartbeat_request header v) stamp moment answer new is =
       let a : Arrival = arrival_of v stamp moment c.image in
-      beaten_if_built (is_built_at (finite.get c.groups a.heartbeat.group) && is_built (new_group c.salt) a.heartbeat) c sound a is.0 new is.1
+      beaten_if_built (is_built a.heartbeat) c sound a is.0 new is.1
   requested_today c sound (commit_request header v) stamp moment answer new is = subst HasSoundGroups (sym is.1) sound
 
   pub steps_today_are_sound : StepsAreSound StepToday

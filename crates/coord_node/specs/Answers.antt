@@ -1,16 +1,16 @@
 -- What a node's answer to a frame is to the coordinator's step.
-use Rattle.std.specs.Prelude.{◌≡◌, ◌⊎◌, ℕ, ◌<◌, ℤ, List, ◌++◌, length}
+use Rattle.std.specs.Prelude.{◌≡◌, ◌⊎◌, ℕ, ◌<◌, ◌≤◌, ℤ, Bool, false, List, ◌++◌, length, IfSome}
 use Rattle.kip_msgs.specs.Values.{RequestValue}
 use Rattle.kip_msgs.specs.Heads.{HasUnknownKey, HasUnknownVersion}
-use Rattle.group_types.specs.Limits.{SMALLEST_BODY, LARGEST_BODY}
+use Rattle.group_types.specs.Limits.{SMALLEST_BODY, LARGEST_BODY, LONGEST_STRING}
 use Rattle.group_types.specs.declared.stamp.Stamp.{Stamp}
 use Rattle.group_types.specs.HeartbeatStep.{Arrival}
-use Rattle.group_types.specs.Group.{Group}
 use Rattle.group_types.specs.HeartbeatStep as group
+use Rattle.group_core.specs.Outcome.{HasFewPartitions, HasRoomFor}
 use Rattle.coord_node.specs.declared.event.Answered.{Answered}
 use Rattle.coord_node.specs.declared.event.Answered.TheVariants as answered
 use Rattle.coord_node.specs.Coordinator.{Coordinator, Event, Answer, Replied, Closes, Done, bytes_of}
-use Rattle.coord_node.specs.Steps.{MakesBy, Sends, message_of}
+use Rattle.coord_node.specs.Steps.{is_success, Sends, message_of}
 use Rattle.coord_node.specs.Today.{HeartbeatToday, RequestToday, StepToday}
 
 -- the kind of an answer to a frame
@@ -49,11 +49,21 @@ pub record AnswersHeartbeat (old : Coordinator) (correlation : ℤ) (a : Arrival
   pub step : HeartbeatToday old a given new
   pub sent : IsSent correlation given kind before after
 
--- The same for a new group that answers its first heartbeat with a reply.
-pub record AnswersAsNew (old : Coordinator) (correlation : ℤ) (name : List ℕ) (g : Group) (reply : group.Reply) (kind : Answered) (new : Coordinator) (before after : List ℕ) : Type 0 where
-  pub given : group.Answer
-  pub makes : MakesBy (group.Replied reply) old name g given new
-  pub sent : IsSent correlation given kind before after
+-- an id that the wire takes
+abbrev pub HasShortId : group.Answer → Type 0
+HasShortId (group.Replied r) = IfSome r.member (λ id. length id ≤ LONGEST_STRING)
+HasShortId group.Closes = Unit {0}
+
+-- A group's answer can be sent in so many bytes.
+pub record IsSendable (given : group.Answer) (left : ℕ) : Type 0 where
+  pub id : HasShortId given
+  pub few : HasFewPartitions given
+  pub room : HasRoomFor given left
+
+-- a reply that says success
+abbrev pub succeeds : group.Answer → Bool
+succeeds (group.Replied r) = is_success r.code
+succeeds group.Closes = false
 
 -- Bodies that close before anything is read from them but the key and the version: of a length outside the limits,
 -- of another API, or of another version (Kafka protocol guide, "Request Header v2").

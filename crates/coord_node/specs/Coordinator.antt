@@ -1,10 +1,11 @@
 -- The coordinator of a node: its groups by their ids, and the image of the topics.
-use Rattle.std.specs.Prelude.{ℕ, List, []}
+use Rattle.std.specs.Prelude.{ℕ, Bool, false, List, [], Option, Some, None}
 use Rattle.std.specs.FinMap as finite
 use Rattle.group_types.specs.declared.stamp.Stamp.{Stamp}
-use Rattle.group_types.specs.Text.{text_cmp}
+use Rattle.group_types.specs.Text.{Text, text_cmp}
 use Rattle.group_types.specs.Topics.{Topics}
 use Rattle.group_types.specs.Group.{Group}
+use Rattle.group_types.specs.Members.{is_remembered, members_of}
 
 abbrev pub Groups : Type 0
 Groups = finite.FinMap text_cmp Group
@@ -34,3 +35,8 @@ abbrev pub bytes_of : Answer → List ℕ
 bytes_of (Replied bytes) = bytes
 bytes_of Closes = []
 bytes_of (Done removed) = []
+
+-- a group, where there is one, has the member or remembers it as a former one (ours)
+abbrev pub is_remembered_at : Option Group → Text → Bool
+is_remembered_at None m = false
+is_remembered_at (Some g) m = is_remembered (members_of g) m

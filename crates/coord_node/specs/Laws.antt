@@ -16,20 +16,20 @@ OneAnswer =
     → Step c event a n → Step c event b o → (a ≡ b) × (n ≡ o)
 
 -- KIP-848, "Consumer Group Heartbeat": a member joins with MemberEpoch 0 and no MemberId; here it has no
--- InstanceId either, and is the first of its group.
+-- InstanceId either. Its group isn't there, or is sound.
 pub record IsFirstJoin (c : Coordinator) (v : HeartbeatRequestValue) : Type 0 where
   pub epoch : v.member_epoch ≡ pos 0
   pub member : v.member_id ≡ []
   pub instance : v.instance_id ≡ None
-  pub absent : finite.get c.groups v.group_id ≡ None
+  pub sound : (g : Group) → finite.get c.groups v.group_id ≡ Some g → IsSound g
 
 -- a first join is answered: it never closes
-abbrev pub AnswersFirstJoins : Type 0
-AnswersFirstJoins =
+abbrev pub AnswersFirstJoins : EventRelation → Type 0
+AnswersFirstJoins Steps =
     (c : Coordinator) (header : RequestHeaderValue) (v : HeartbeatRequestValue) (body : List ℕ) (stamp : Stamp)
     (moment : ℕ) (answer : Answer) (new : Coordinator)
     → IsRequest (heartbeat_request header v) body → IsFirstJoin c v
-    → Step c (Frame body stamp moment) answer new → answer ≢ Closes
+    → Steps c (Frame body stamp moment) answer new → answer ≢ Closes
 
 -- ---- each group is sound, whatever came to its coordinator
 

@@ -9,7 +9,7 @@ use Rattle.group_types.specs.Partition.{Partitions}
 use Rattle.group_types.specs.Code.{code_number, code_text}
 use Rattle.group_types.specs.HeartbeatStep.{Reply}
 use Rattle.group_types.specs.Commit.{CommitReply}
-use Rattle.coord_node.specs.Listing.{listed}
+use Rattle.group_core.specs.Listing.{listed}
 
 abbrev pub assignment_value : Partitions → AssignmentValue
 assignment_value set = record { topic_partitions = listed (in_order set); tags = [] }

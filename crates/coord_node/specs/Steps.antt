@@ -13,7 +13,7 @@ use Rattle.group_types.specs.Tick.{ticked, removed_by_tick}
 use Rattle.group_types.specs.Commit.{Commit, CommitReply, CommitStep, answers_by}
 use Rattle.group_types.specs.HeartbeatStep.{Arrival}
 use Rattle.group_types.specs.HeartbeatStep as group
-use Rattle.group_core.specs.Request.{arrival_of, commit_of}
+use Rattle.group_epochs.specs.Request.{arrival_of, commit_of}
 use Rattle.coord_node.specs.Replies.{IsReplyFrame, reply_value, commit_value}
 use Rattle.coord_node.specs.Coordinator.{Coordinator, Groups, Event, Frame, Tick, Image, Answer, Replied, Closes, Done}
 

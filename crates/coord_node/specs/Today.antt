@@ -1,14 +1,13 @@
 -- The coordinator's steps as far as they are built: the whole step where it is built, and else the connection closes and
 -- nothing changes.
-use Rattle.std.specs.Prelude.{◌≡◌, ◌&&◌, ℕ, Bool, true, false, List}
+use Rattle.std.specs.Prelude.{◌≡◌, ℕ, Bool, true, false, List}
 use Rattle.std.specs.FinMap as finite
 use Rattle.kip_msgs.specs.Values.{RequestValue, heartbeat_request, commit_request}
 use Rattle.group_types.specs.declared.stamp.Stamp.{Stamp}
-use Rattle.group_types.specs.Group.{new_group}
 use Rattle.group_types.specs.HeartbeatStep.{Arrival}
 use Rattle.group_types.specs.HeartbeatStep as group
-use Rattle.group_core.specs.Built.{is_built, is_built_at}
-use Rattle.group_core.specs.Request.{arrival_of}
+use Rattle.group_core.specs.Built.{is_built}
+use Rattle.group_epochs.specs.Request.{arrival_of}
 use Rattle.coord_node.specs.Coordinator.{Coordinator, Event, Frame, Tick, Image, Answer, Closes, Done}
 use Rattle.coord_node.specs.Steps.{FrameStepBy, HeartbeatAt, RunBy, Sends, message_of}
 
@@ -17,8 +16,7 @@ HeartbeatIfBuilt true c a answer new = HeartbeatAt (finite.get c.groups a.heartb
 HeartbeatIfBuilt false c a answer new = (answer ≡ group.Closes) × (new ≡ c)
 
 abbrev pub HeartbeatToday : Coordinator → Arrival → group.Answer → Coordinator → Type 0
-HeartbeatToday c a answer new =
-    HeartbeatIfBuilt (is_built_at (finite.get c.groups a.heartbeat.group) && is_built (new_group c.salt) a.heartbeat) c a answer new
+HeartbeatToday c a answer new = HeartbeatIfBuilt (is_built a.heartbeat) c a answer new
 
 abbrev pub RequestToday : Coordinator → RequestValue → Stamp → ℕ → Answer → Coordinator → Type 0
 RequestToday c (heartbeat_request header v) stamp moment answer new =

@@ -3,7 +3,7 @@ ghost use Rattle.coord_node.specs.Laws.{AnswersFirstJoins, GroupsAreSound, OneAn
 ghost use Rattle.coord_node.specs.Steps.{Step};
 ghost use Rattle.coord_node.specs.Today.{StepToday};
 
-use group_core::{first_joins_are_answered, heartbeats_have_one_answer};
+use group_core::heartbeats_have_one_answer;
 use group_types::{commits_are_sound, every_group_is_sound, heartbeats_are_sound, ticks_are_sound};
 use kip_msgs::one_request_a_body;
 
@@ -15,12 +15,13 @@ pub fn one_answer()
     heartbeats_have_one_answer();
 }
 
-/// A join of a group that isn't there, with no member id and no instance id, is answered and never closes.
+/// A join with no member id and no instance id is answered and never closes, whether its group isn't there or is a sound
+/// one: in the whole machine, and as far as it is built.
 pub fn path_is_answered()
-    ensures { AnswersFirstJoins }
+    ensures whole { AnswersFirstJoins Step }
+    ensures built { AnswersFirstJoins StepToday }
 {
     one_request_a_body();
-    first_joins_are_answered();
 }
 
 /// An event leaves sound groups where there were sound ones: in the whole machine, and as far as it is built.

@@ -7,10 +7,11 @@
 
 mod event;
 mod frame;
+mod kept;
 mod laws;
-mod listing;
 mod node;
 mod run;
+mod success;
 
 pub use event::{Answered, NodeEvent};
 pub use group_core::{Group, Image, Moment, Stamp};

@@ -1,20 +1,25 @@
 //! The node and its answers.
-ghost use Rattle.std.specs.Prelude.{◌≡◌, IfOk, IfSome, OnOk, OnErr, None, ◌≤◌, Bool};
+ghost use Rattle.std.specs.Prelude.{◌≡◌, ◌-◌, ◌≤◌, ◌++◌, ◌∷◌, [], ◌<◌, IfOk, OnOk, OnErr, None, length, vec_capacity};
 ghost use Rattle.std.specs.Option.{option_copied};
 ghost use Rattle.std.specs.FinMap as finite;
+ghost use Rattle.std.specs.String.{string_bytes};
+ghost use Rattle.indexmap.specs.IndexMap.{spare};
+ghost use Rattle.kip_msgs.specs.Spelling.{FitsRequest};
 ghost use Rattle.kip_msgs.specs.Views.{heartbeat_request_value, request_value};
-ghost use Rattle.group_types.specs.Sets.{size};
-ghost use Rattle.group_types.specs.HeartbeatStep.{Replied as ReplyWith};
-ghost use Rattle.group_core.specs.Request.{arrival_of};
-ghost use Rattle.group_core.specs.Outcome.{reply_of};
-ghost use Rattle.coord_node.specs.Coordinator.{opening, Frame};
-ghost use Rattle.coord_node.specs.Steps.{is_success};
-ghost use Rattle.coord_node.specs.Answers.{Answers, AnswersRequest, AnswersHeartbeat, AnswersAsNew, ClosesAtOnce, IsSent};
+ghost use Rattle.group_types.specs.Limits.{LONGEST_STRING};
+ghost use Rattle.group_epochs.specs.Request.{arrival_of};
+ghost use Rattle.group_core.specs.Outcome.{answer_of};
+ghost use Rattle.coord_node.specs.Coordinator.{opening, Frame, is_remembered_at};
+ghost use Rattle.coord_node.specs.NodeView.{groups_of, IsAdmitted, IsOneMore};
+ghost use Rattle.coord_node.specs.Today.{HeartbeatToday};
+ghost use Rattle.coord_node.specs.Answers.{Answers, AnswersRequest, AnswersHeartbeat, ClosesAtOnce, IsSendable, IsSent};
 
 use crate::event::Answered;
 use crate::frame;
+use crate::kept::Kept;
+use crate::success::succeeds;
 use group_core::{Group, Outcome, Reply};
-use group_types::limits::{LARGEST_BODY, MOST_GROUPS, MOST_PARTITIONS, SMALLEST_BODY};
+use group_types::limits::{LARGEST_BODY, MOST_GROUPS, SMALLEST_BODY};
 use group_types::{Code, Moment, Stamp};
 use indexmap::IndexMap;
 use kip_msgs::{HeartbeatRequest, MsgFault, Request, read_request};
@@ -27,8 +32,12 @@ use topic_meta::Image;
 #[derive(Drop)]
 pub struct Node {
     salt: u64,
-    groups: IndexMap<String, Group, RandomState>,
+    groups: IndexMap<String, Kept, RandomState>,
     image: Image,
+    /// The image's number: how many came before it. None for good after the last number.
+    generation: Option<u64>,
+    /// What the tables are keyed by.
+    hasher: RandomState,
 }
 
 impl Model for Node {
@@ -39,9 +48,11 @@ impl Model for Node {
 
     ghost coded = { coordinator_code };
 
-    ghost use Rattle.coord_node.specs.NodeView.{node_view};
+    ghost use Rattle.coord_node.specs.NodeView.{IsNode, node_view};
 
     ghost view = { node_view };
+
+    ghost invariant = { IsNode };
 }
 
 impl Node {
@@ -53,6 +64,8 @@ impl Node {
             salt,
             groups: IndexMap::with_hasher(alloc, hasher),
             image: Image::empty(alloc),
+            generation: Some(0),
+            hasher,
         }
     }
 
@@ -61,18 +74,36 @@ impl Node {
         ensures { self.new ≡ record self.old { image = image } }
     {
         self.image = image;
+        self.generation = match self.generation {
+            Some(number) => number.checked_add(1),
+            None => None,
+        };
     }
 
     /// The group of a name, where the node has it.
     pub fn group(&self, name: &str) -> Option<&Group>
         ensures { option_copied result ≡ finite.get self.now.groups name.now }
     {
-        self.groups.get(name)
+        match self.groups.get(name) {
+            Some(kept) => Some(&kept.group),
+            None => None,
+        }
+    }
+
+    /// Whether the node has the group, and the group the member, or remembers it as a former one. Takes no memory.
+    pub fn remembers(&self, group: &str, id: &str) -> bool
+        ensures { result ≡ is_remembered_at (finite.get self.now.groups group.now) id.now }
+    {
+        match self.groups.get(group) {
+            Some(kept) => kept.group.remembers(id),
+            None => false,
+        }
     }
 
     /// Answers the body of one frame, which came with a stamp at a moment: appends the one frame that spells the reply,
-    /// or closes and changes nothing. A body closes that is no request or is outside the lengths of a frame, and today
-    /// every commit and every heartbeat but the first of its group. Where memory is short nothing has changed.
+    /// or closes and changes nothing. A body closes that is no request or is outside the lengths of a frame, a heartbeat that
+    /// another one of its member overtook, and today every commit, every join with an instance id and every heartbeat by which
+    /// a static member goes away. Where memory is short nothing has changed.
     pub fn answer(
         &mut self,
         alloc: Global,
@@ -106,6 +137,7 @@ impl Node {
         now: Moment,
         out: &mut Vec<u8>,
     ) -> Result<Answered, AllocError>
+        requires { FitsRequest (request_value request.now) }
         ensures step { IfOk result (λ answered.
             AnswersRequest self.old (request_value request.now) stamp now answered self.new out.old.items out.new.items) }
         ensures err { OnErr result ((self.new ≡ self.old) × (out.new.items ≡ out.old.items)) }
@@ -118,7 +150,7 @@ impl Node {
         }
     }
 
-    /// Answers a heartbeat. Today a group that is there closes the connection.
+    /// Answers a heartbeat: the one frame of its reply is appended in the room that is there for it by then.
     fn heartbeat(
         &mut self,
         alloc: Global,
@@ -128,97 +160,145 @@ impl Node {
         now: Moment,
         out: &mut Vec<u8>,
     ) -> Result<Answered, AllocError>
+        requires id { length request.now.member_id.now ≤ LONGEST_STRING }
         ensures step { IfOk result (λ answered. AnswersHeartbeat self.old correlation
             (arrival_of (heartbeat_request_value request.now) stamp now self.old.image) answered self.new
             out.old.items out.new.items) }
         ensures err { OnErr result ((self.new ≡ self.old) × (out.new.items ≡ out.old.items)) }
     {
-        if self.groups.contains_key(request.group_id) {
-            return Ok(Answered::Closes);
-        }
-        let mut group = Group::new(alloc, self.salt);
-        match group.heartbeat(alloc, request, stamp, now, &self.image)? {
-            Outcome::Closes => Ok(Answered::Closes),
-            Outcome::Replied(reply) => {
-                self.reply_of_new(alloc, correlation, request.group_id, group, &reply, out)
+        let outcome = self.outcome_of(alloc, request, stamp, now, out)?;
+        Ok(send(alloc, correlation, outcome, out))
+    }
+
+    /// What the group of a heartbeat makes of it, in its place, or a new group where there is none. Nothing is appended; where it
+    /// replies there is room for the reply's frame. Where memory is short the node has not changed.
+    fn outcome_of<'a>(
+        &mut self,
+        alloc: Global,
+        request: &HeartbeatRequest<'a>,
+        stamp: Stamp,
+        now: Moment,
+        out: &mut Vec<u8>,
+    ) -> Result<Outcome<'a>, AllocError>
+        requires id { length request.now.member_id.now ≤ LONGEST_STRING }
+        ensures step { IfOk result (λ outcome. HeartbeatToday self.old
+            (arrival_of (heartbeat_request_value request.now) stamp now self.old.image) (answer_of outcome) self.new) }
+        ensures sendable { IfOk result (λ outcome. IsSendable (answer_of outcome) (vec_capacity out.new - length out.new.items)) }
+        ensures out { out.new.items ≡ out.old.items }
+        ensures err { OnErr result (self.new ≡ self.old) }
+    {
+        match self.groups.get_index_of(request.group_id) {
+            Some(place) => {
+                let kept = &mut self.groups[place];
+                kept.heartbeat(
+                    alloc,
+                    request,
+                    stamp,
+                    now,
+                    &self.image,
+                    self.generation,
+                    out,
+                )
             }
+            None => self.outcome_of_new(alloc, request, stamp, now, out),
         }
     }
 
-    /// Sends the reply of a new group, and keeps the group where it has its first member.
-    fn reply_of_new(
+    /// What a new group makes of a heartbeat. The node keeps it where it has its first member, and there is room for one more group.
+    fn outcome_of_new<'a>(
         &mut self,
         alloc: Global,
-        correlation: i32,
-        name: &str,
-        group: Group,
-        reply: &Reply,
+        request: &HeartbeatRequest<'a>,
+        stamp: Stamp,
+        now: Moment,
         out: &mut Vec<u8>,
-    ) -> Result<Answered, AllocError>
-        requires few { IfSome reply.now.assignment (λ set. size set ≤ MOST_PARTITIONS) }
-        requires absent { finite.get self.old.groups name.now ≡ None }
-        ensures step { IfOk result (λ answered. AnswersAsNew self.old correlation name.now group (reply_of reply.now)
-            answered self.new out.old.items out.new.items) }
-        ensures err { OnErr result ((self.new ≡ self.old) × (out.new.items ≡ out.old.items)) }
+    ) -> Result<Outcome<'a>, AllocError>
+        requires id { length request.now.member_id.now ≤ LONGEST_STRING }
+        requires absent { finite.get self.old.groups request.now.group_id.now ≡ None }
+        ensures step { IfOk result (λ outcome. HeartbeatToday self.old
+            (arrival_of (heartbeat_request_value request.now) stamp now self.old.image) (answer_of outcome) self.new) }
+        ensures sendable { IfOk result (λ outcome. IsSendable (answer_of outcome) (vec_capacity out.new - length out.new.items)) }
+        ensures out { out.new.items ≡ out.old.items }
+        ensures err { OnErr result (self.new ≡ self.old) }
     {
-        if !is_success(reply.code) {
-            return send(alloc, correlation, reply, out);
-        }
-        if MOST_GROUPS <= self.groups.len() {
-            let refusal = Reply::refusal(Code::CoordinatorNotAvailable);
-            return send(alloc, correlation, &refusal, out);
-        }
-        self.keep(alloc, correlation, name, group, reply, out)
-    }
-
-    /// Keeps a new group under its name, and sends its reply. Where memory is short nothing has changed.
-    fn keep(
-        &mut self,
-        alloc: Global,
-        correlation: i32,
-        name: &str,
-        group: Group,
-        reply: &Reply,
-        out: &mut Vec<u8>,
-    ) -> Result<Answered, AllocError>
-        requires few { IfSome reply.now.assignment (λ set. size set ≤ MOST_PARTITIONS) }
-        requires absent { finite.get self.old.groups name.now ≡ None }
-        ensures step { IfOk result (λ answered. (self.new ≡ record self.old { groups = finite.insert self.old.groups name.now group })
-            × IsSent correlation (ReplyWith (reply_of reply.now)) answered out.old.items out.new.items) }
-        ensures err { OnErr result ((self.new ≡ self.old) × (out.new.items ≡ out.old.items)) }
-    {
-        let name = String::from_str(alloc, name)?;
-        self.groups.reserve(1)?;
-        let answered = send(alloc, correlation, reply, out)?;
-        match self.groups.insert(name, group) {
-            Ok(_) => Ok(answered),
-            Err(_) => unreachable!(),
+        let mut kept = Kept::new(alloc, self.salt, self.hasher);
+        let outcome = kept.heartbeat(
+            alloc,
+            request,
+            stamp,
+            now,
+            &self.image,
+            self.generation,
+            out,
+        )?;
+        if succeeds(&outcome) {
+            admit(alloc, &mut self.groups, request.group_id, kept, outcome)
+        } else {
+            Ok(outcome)
         }
     }
 }
 
-/// Sends a reply. Where memory is short nothing is appended.
-fn send(
+/// Keeps a new group under its name where there is room for one more, and else answers COORDINATOR_NOT_AVAILABLE in place of the
+/// outcome. Where memory is short the groups are the same.
+fn admit<'a>(
     alloc: Global,
-    correlation: i32,
-    reply: &Reply,
-    out: &mut Vec<u8>,
-) -> Result<Answered, AllocError>
-    requires { IfSome reply.now.assignment (λ set. size set ≤ MOST_PARTITIONS) }
-    ensures sent { IfOk result (λ answered. IsSent correlation (ReplyWith (reply_of reply.now)) answered
-        out.old.items out.new.items) }
-    ensures err { OnErr result (out.new.items ≡ out.old.items) }
+    groups: &mut IndexMap<String, Kept, RandomState>,
+    name: &str,
+    kept: Kept,
+    outcome: Outcome<'a>,
+) -> Result<Outcome<'a>, AllocError>
+    requires { finite.get (groups_of groups.old.entries) name.now ≡ None }
+    ensures admitted { IfOk result
+        (λ o. IsAdmitted groups.old.entries name.now kept (answer_of outcome.entry) (answer_of o) groups.new.entries) }
+    ensures err { OnErr result (groups.new.entries ≡ groups.old.entries) }
 {
-    frame::put(alloc, out, correlation, reply)?;
-    Ok(Answered::Replied)
+    if MOST_GROUPS <= groups.len() {
+        return Ok(Outcome::Replied(Reply::refusal(Code::CoordinatorNotAvailable)));
+    }
+    keep(alloc, groups, name, kept)?;
+    Ok(outcome)
 }
 
-/// Whether a code is that of success.
-fn is_success(code: Code) -> bool
-    ensures { result ≡ is_success code }
+/// Keeps a new group under its name. Where memory is short the groups are the same.
+fn keep(
+    alloc: Global,
+    groups: &mut IndexMap<String, Kept, RandomState>,
+    name: &str,
+    kept: Kept,
+) -> Result<(), AllocError>
+    requires { finite.get (groups_of groups.old.entries) name.now ≡ None }
+    ensures kept { OnOk result (IsOneMore groups.old.entries name.now kept groups.new.entries) }
+    ensures err { OnErr result (groups.new.entries ≡ groups.old.entries) }
 {
-    match code {
-        Code::NoError => true,
-        _ => false,
+    groups.reserve(1)?;
+    let name = String::from_str(alloc, name)?;
+    insert(groups, name, kept);
+    Ok(())
+}
+
+/// Puts a new group behind the others, where there is room. Takes no memory.
+fn insert(groups: &mut IndexMap<String, Kept, RandomState>, name: String, kept: Kept)
+    requires absent { finite.get (groups_of groups.old.entries) (string_bytes name) ≡ None }
+    requires room { 0 < spare groups.old }
+    ensures { groups.new.entries ≡ groups.old.entries ++ (name, kept) ∷ [] }
+{
+    match groups.insert(name, kept) {
+        Ok(_) => {}
+        Err(_) => unreachable!(),
+    }
+}
+
+/// Sends what a group answered, in the room that is there. Takes no memory.
+fn send(alloc: Global, correlation: i32, outcome: Outcome<'_>, out: &mut Vec<u8>) -> Answered
+    requires { IsSendable (answer_of outcome) (vec_capacity out.old - length out.old.items) }
+    ensures { IsSent correlation (answer_of outcome.entry) result out.old.items out.new.items }
+{
+    match outcome {
+        Outcome::Replied(reply) => {
+            frame::put(alloc, out, correlation, reply);
+            Answered::Replied
+        }
+        Outcome::Closes => Answered::Closes,
     }
 }

@@ -1,0 +1,69 @@
+use Rattle.std.proofs.Common.{◌≡◌, option_map, Some, ap, sym, subst, ◌∙◌}
+use Rattle.std.specs.FinMap as finite
+use Rattle.std.proofs.lemmas.Result.{IfOk-weaker, on_err_weaker}
+use Rattle.indexmap.specs.IndexMap.{set_value_at}
+use Rattle.kip_msgs.specs.Views.{heartbeat_request_value}
+use Rattle.group_types.specs.Group.{Group}
+use Rattle.group_types.specs.Topics.{Topics}
+use Rattle.group_types.specs.HeartbeatStep.{Arrival}
+use Rattle.group_epochs.specs.Request.{arrival_of}
+use Rattle.group_core.specs.Built.{StepToday}
+use Rattle.group_core.specs.Outcome.{answer_of}
+use Rattle.coord_node.specs.declared.kept.Kept.{Kept}
+use Rattle.coord_node.specs.Coordinator.{Coordinator, Groups}
+use Rattle.coord_node.specs.Kept.{IsKept}
+use Rattle.coord_node.specs.NodeView.{groups_of}
+use Rattle.coord_node.specs.Steps.{with_group}
+use Rattle.coord_node.proofs.AnswerLemmas.{at_present}
+use Rattle.coord_node.proofs.GroupLemmas.{as_map-set, get-as_map, OfEach-at, OfEach-set, set_value_at-itself, absent_entry}
+use Rattle.coord_node.proofs.node.Node.outcome_of.Goals as goal
+
+abbrev group_in : Kept → Group
+group_in k = k.group
+
+pub heartbeat-requires-clause-kept : goal.heartbeat-requires-clause-kept
+heartbeat-requires-clause-kept c =
+    OfEach-at (IsKept c.self.inside.generation c.self.inside.image) c.self.inside.groups.entries c.in-Some.place c.index_mut-kept.result.now c.self.invariant c.index_mut-kept.ensures.value
+
+pub invariant_of-self : goal.invariant_of-self
+invariant_of-self c =
+    OfEach-set (IsKept c.self.inside.generation c.self.inside.image) c.self.inside.groups.entries c.in-Some.place c.heartbeat.new.self c.self.invariant c.heartbeat.ensures.kept
+
+pub outcome_of_new-requires-clause-absent : goal.outcome_of_new-requires-clause-absent
+outcome_of_new-requires-clause-absent c =
+    let name = c.args.request.now.group_id.now in
+    ap (λ (n : Coordinator). finite.get n.groups name) (sym c.self.view_is)
+    ∙ get-as_map group_in c.self.inside.groups.entries name
+    ∙ ap (option_map group_in) (absent_entry c.self.inside.groups.entries name (sym c.in-None.ensures.index))
+
+pub returns-in-Some-clause-step : goal.returns-in-Some-clause-step
+returns-in-Some-clause-step c =
+    let n = c.args.self.now in
+    let entries = c.self.inside.groups.entries in
+    let v = heartbeat_request_value c.args.request.now in
+    let name = c.args.request.now.group_id.now in
+    let h : Arrival = arrival_of v c.args.stamp c.args.now n.image in
+    let old = c.index_mut-kept.result.now in
+    let new = c.heartbeat.new.self in
+    let there : finite.get n.groups name ≡ Some old.group =
+    ap (λ (n : Coordinator). finite.get n.groups name) (sym c.self.view_is)
+    ∙ get-as_map group_in entries name ∙ ap (option_map group_in) (sym c.in-Some.ensures.value ∙ c.index_mut-kept.ensures.value) in
+    let after : Groups = groups_of (set_value_at entries c.in-Some.place new) in
+    let is : (record { salt = c.self.inside.salt; groups = after; image = c.self.inside.image }) ≡ with_group n name new.group =
+    ap (λ (m : Groups). let x : Coordinator = record { salt = c.self.inside.salt; groups = m; image = c.self.inside.image } in x)
+    (as_map-set group_in entries name c.in-Some.place new (sym c.in-Some.ensures.index))
+    ∙ ap (λ (x : Coordinator). with_group x name new.group) c.self.view_is in
+    IfOk-weaker c.heartbeat.result _ _
+    (λ outcome step. at_present n h old.group new.group there (answer_of outcome) _
+    (subst (λ (image : Topics). StepToday old.group (arrival_of v c.args.stamp c.args.now image) (answer_of outcome) new.group) (ap (λ (x : Coordinator). x.image) c.self.view_is) step) is)
+    c.heartbeat.ensures.step
+
+pub returns-in-Some-clause-err : goal.returns-in-Some-clause-err
+returns-in-Some-clause-err c =
+    let entries = c.self.inside.groups.entries in
+    on_err_weaker c.heartbeat.result
+    (λ same. ap (λ (es : Groups). let x : Coordinator = record { salt = c.self.inside.salt; groups = es; image = c.self.inside.image } in x)
+    (ap (λ (k : Kept). groups_of (set_value_at entries c.in-Some.place k)) same
+    ∙ ap groups_of (set_value_at-itself entries c.in-Some.place c.index_mut-kept.result.now c.index_mut-kept.ensures.value))
+    ∙ c.self.view_is)
+    c.heartbeat.ensures.err

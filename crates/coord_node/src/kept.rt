@@ -1,0 +1,97 @@
+//! A group that a node keeps.
+ghost use Rattle.std.specs.Prelude.{◌≡◌, ◌-◌, ◌≤◌, None, IfOk, OnErr, length, vec_capacity};
+ghost use Rattle.group_types.specs.Group.{new_group};
+ghost use Rattle.group_types.specs.Limits.{LONGEST_STRING};
+ghost use Rattle.kip_msgs.specs.Views.{heartbeat_request_value};
+ghost use Rattle.group_epochs.specs.Request.{arrival_of};
+ghost use Rattle.group_core.specs.Built.{StepToday};
+ghost use Rattle.group_core.specs.Outcome.{answer_of};
+ghost use Rattle.coord_node.specs.Kept.{IsKept, is_same, known_after};
+ghost use Rattle.coord_node.specs.Answers.{IsSendable};
+
+use crate::success::is_success;
+use group_core::{Group, Outcome};
+use group_types::{Moment, Stamp};
+use kip_msgs::HeartbeatRequest;
+use std::alloc::{AllocError, Global};
+use std::collections::hash_map::RandomState;
+use topic_meta::Image;
+
+/// A group, and the image under which its view was last known to be the image's.
+#[derive(Drop)]
+pub(crate) struct Kept {
+    pub(crate) group: Group,
+    /// The number of that image; none where no image is known.
+    known: Option<u64>,
+}
+
+impl Kept {
+    /// A new group, of whose view nothing is known. Takes no memory.
+    pub(crate) fn new(alloc: Global, salt: u64, hasher: RandomState) -> Kept
+        ensures group { result.group ≡ new_group salt }
+        ensures known { result.known ≡ None }
+    {
+        Kept {
+            group: Group::new(alloc, salt, hasher),
+            known: None,
+        }
+    }
+
+    /// One heartbeat, over the node's image and its number. Where it replies there is room for the reply's frame behind the bytes
+    /// of `out`, which stay. Where memory is short nothing has changed.
+    pub(crate) fn heartbeat<'a>(
+        &mut self,
+        alloc: Global,
+        request: &HeartbeatRequest<'a>,
+        stamp: Stamp,
+        now: Moment,
+        image: &Image,
+        generation: Option<u64>,
+        out: &mut Vec<u8>,
+    ) -> Result<Outcome<'a>, AllocError>
+        requires kept { IsKept generation image.now self.old }
+        requires id { length request.now.member_id.now ≤ LONGEST_STRING }
+        ensures step { IfOk result (λ outcome. StepToday self.old.group
+            (arrival_of (heartbeat_request_value request.now) stamp now image.now) (answer_of outcome) self.new.group) }
+        ensures sendable { IfOk result (λ outcome. IsSendable (answer_of outcome) (vec_capacity out.new - length out.new.items)) }
+        ensures kept { IsKept generation image.now self.new }
+        ensures out { out.new.items ≡ out.old.items }
+        ensures err { OnErr result (self.new ≡ self.old) }
+    {
+        let is_current = self.is_current(generation);
+        let outcome = self
+            .group
+            .heartbeat_over(alloc, request, stamp, now, image, is_current, out)?;
+        self.known = known_after(&outcome, self.known, generation);
+        Ok(outcome)
+    }
+
+    /// Whether the group's view is known to be that of the image with the number.
+    fn is_current(&self, generation: Option<u64>) -> bool
+        ensures { result ≡ is_same self.now.known generation }
+    {
+        match (self.known, generation) {
+            (Some(known), Some(present)) => known == present,
+            _ => false,
+        }
+    }
+}
+
+/// The number after a heartbeat: an accepted join or beat met the image, and a member that left may have been the last one that
+/// subscribed a topic. What is refused or closes changes nothing.
+fn known_after(outcome: &Outcome<'_>, before: Option<u64>, generation: Option<u64>) -> Option<u64>
+    ensures { result ≡ known_after (answer_of outcome.now) before generation }
+{
+    match outcome {
+        Outcome::Replied(reply) => {
+            if !is_success(reply.code) {
+                before
+            } else if reply.epoch < 0 {
+                None
+            } else {
+                generation
+            }
+        }
+        Outcome::Closes => before,
+    }
+}
