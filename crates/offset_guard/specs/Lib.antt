@@ -1,0 +1,4 @@
+pub mod Stored
+pub mod Topics
+pub mod Requests
+pub mod Replies
