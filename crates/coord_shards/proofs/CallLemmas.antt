@@ -1,0 +1,30 @@
+-- What a call comes to, by what its shard did.
+use Rattle.std.proofs.Common.{◌≡◌, ℕ, subst}
+use Rattle.std.specs.List.{All}
+use Rattle.coord_node.specs.Coordinator as node
+use Rattle.coord_shards.specs.declared.entry.Entry.{Entry}
+use Rattle.coord_shards.specs.declared.event.Answer as shards
+use Rattle.coord_shards.specs.declared.event.Answer.TheVariants.{Replied, Closes, Done, Refused}
+use Rattle.coord_shards.specs.Home.{IsHome}
+use Rattle.coord_shards.specs.Shard.{ShardState}
+use Rattle.coord_shards.specs.Replay.{Replay, RunsTo}
+use Rattle.coord_shards.specs.Steps.{ShardStep, GoesOn}
+use Rattle.coord_shards.specs.Calls.{Shape, IsAnsweredInARun, AnsweredInARun}
+
+-- a step of a shard that is its entries' replay answers in a run
+pub AnsweredInARun-ShardStep : (shape : Shape) (home : ℕ) (s : ShardState) (e : Entry) (answer : shards.Answer) (new : ShardState)
+    → (s.number ≡ home) × (s.shards ≡ shape.shards) × (s.salt ≡ shape.salt) → Replay s → ShardStep s e answer new
+    → AnsweredInARun shape home e.event answer
+AnsweredInARun-ShardStep shape home s e answer new itself (entries, is) step =
+    let at_home : All (λ (x : Entry). IsHome shape.shards x.event home) entries =
+    subst (λ (n : ℕ). All (λ (x : Entry). IsHome n x.event home) entries) itself.1
+    (subst (λ (k : ℕ). All (λ (x : Entry). IsHome s.shards x.event k) entries) itself.0 is.at_home) in
+    let run : RunsTo shape.salt entries s.present = subst (λ (salt : ℕ). RunsTo salt entries s.present) itself.2 is.run in
+    let at : (given : node.Answer) → GoesOn s e given new → IsAnsweredInARun shape home e.event given =
+    λ given goes. record { entries = entries; before = s.present; after = goes.after; at_home = at_home; run = run; step = goes.step } in
+    elim answer as (λ (a : shards.Answer). ShardStep s e a new → AnsweredInARun shape home e.event a) [
+      | Replied bytes ↦ λ goes. at (node.Replied bytes) goes
+      | Closes ↦ λ goes. at node.Closes goes
+      | Done removed ↦ λ goes. at (node.Done removed) goes
+      | Refused ↦ λ same. tt
+    ] step

@@ -1,0 +1,152 @@
+-- What a step adds to a shard's replay.
+use Rattle.std.proofs.Common.{◌≡◌, ◌≢◌, ℕ, ◌+◌, ◌<◌, ◌≤◌, Bool, true, false, cond, ◌==◌, List, [], ◌∷◌, ◌++◌, map, length, get_or, slice_index, sum, count_by, refl, sym, ap, subst, ◌∙◌, arith, length-append, get_or-set_same, get_or-set_other}
+use Rattle.std.proofs.Math.ListN.{length-set}
+use Rattle.std.proofs.lemmas.List.{map-append}
+use Rattle.std.proofs.lemmas.List.Elements.{All-push}
+use Rattle.std.proofs.lemmas.List.Sums.{sum_by-append, sum_by-set}
+use Rattle.std.proofs.lemmas.Bool.Decides.{Decides-eqb, nat_tests}
+use Rattle.coord_node.specs.Coordinator.{Coordinator, Event, Answer}
+use Rattle.coord_node.specs.Steps.{EventRelation, RunBy}
+use Rattle.coord_shards.specs.declared.entry.Entry.{Entry}
+use Rattle.coord_shards.specs.Machine.{NodeStep}
+use Rattle.coord_shards.specs.Limits.{MOST_SEATS}
+use Rattle.coord_shards.specs.Events.{node_event}
+use Rattle.coord_shards.specs.Home.{IsHome}
+use Rattle.coord_shards.specs.Shard.{ShardState, kept_with, one_more}
+use Rattle.coord_node.specs.Coordinator as node
+use Rattle.coord_shards.specs.declared.event.Answer as shards
+use Rattle.coord_shards.specs.declared.event.Answer.TheVariants.{Replied, Closes, Done, Refused}
+use Rattle.coord_shards.specs.Steps.{NodeActs, GoesOn, ShardStep}
+use Rattle.coord_shards.specs.Replay.{Replay, IsShard, RunsTo}
+
+-- a run, and one step behind it
+pub RunBy-push : (Steps : EventRelation) (events : List Event) (answers : List Answer) (c d n : Coordinator) (event : Event) (answer : Answer)
+    → RunBy Steps c events answers d → Steps d event answer n → RunBy Steps c (events ++ event ∷ []) (answers ++ answer ∷ []) n
+RunBy-push Steps [] [] c d n event answer run step =
+    (n, subst (λ (x : Coordinator). Steps x event answer n) run step, refl)
+RunBy-push Steps [] (a ∷ answers) c d n event answer run step = absurd run
+RunBy-push Steps (e ∷ es) [] c d n event answer run step = absurd run
+RunBy-push Steps (e ∷ es) (a ∷ answers) c d n event answer run step =
+    (run.0, run.1, RunBy-push Steps es answers run.0 d n event answer run.2 step)
+
+pub RunsTo-push : (salt : ℕ) (entries : List Entry) (e : Entry) (given : Answer) (d n : Coordinator)
+    → RunsTo salt entries d → NodeStep d (node_event e.event) given n → RunsTo salt (entries ++ e ∷ []) n
+RunsTo-push salt entries e given d n runs step =
+    let ev : Entry → Event = λ (x : Entry). node_event x.event in (
+      runs.0 ++ given ∷ [],
+      rw (map-append ev entries (e ∷ [])) (RunBy-push NodeStep (map ev entries) runs.0 _ d n (node_event e.event) given runs.1 step),
+    )
+
+-- ---- the counts
+
+-- how many of a seat's entries there are once an entry comes behind them
+count-push : (entries : List Entry) (e : Entry) (seat : ℕ)
+    → count_by (λ (x : Entry). x.seat == seat) (entries ++ e ∷ []) ≡ count_by (λ (x : Entry). x.seat == seat) entries + cond (e.seat == seat) 1 0
+count-push entries e seat =
+    let one = sum_by-append (λ (x : Entry). cond (x.seat == seat) 1 0) entries (e ∷ []) in omega (arith, one)
+
+at_other : (counts : List ℕ) (k seat : ℕ) → (b : Bool) → (k == seat) ≡ b → k < length counts
+    → slice_index (one_more counts k) seat ≡ slice_index counts seat + cond b 1 0
+at_other counts k seat true is lt =
+    let same : k ≡ seat = (Decides-eqb k seat).0 is in
+    subst (λ (s : ℕ). slice_index (one_more counts k) s ≡ slice_index counts s + 1) same (get_or-set_same counts k _ 0 lt)
+at_other counts k seat false is lt =
+    let ne : seat ≢ k = λ same. let e = (Decides-eqb k seat).1 (sym same) in cc in
+    let kept = get_or-set_other counts k seat (get_or counts k 0 + 1) 0 ne in
+    omega (arith, kept)
+
+counted-push : (counts : List ℕ) (entries : List Entry) (e : Entry) → e.seat < length counts
+    → ((seat : ℕ) → slice_index counts seat ≡ count_by (λ (x : Entry). x.seat == seat) entries)
+    → (seat : ℕ) → slice_index (one_more counts e.seat) seat ≡ count_by (λ (x : Entry). x.seat == seat) (entries ++ e ∷ [])
+counted-push counts entries e lt counted seat =
+    at_other counts e.seat seat (e.seat == seat) refl lt
+    ∙ ap (λ n. n + cond (e.seat == seat) 1 0) (counted seat)
+    ∙ sym (count-push entries e seat)
+
+-- ---- the journal
+
+kept-push : (b : Bool) (entries : List Entry) (e : Entry) → cond b (cond b [] entries) (cond b [] entries ++ e ∷ []) ≡ cond b [] (entries ++ e ∷ [])
+kept-push true entries e = refl
+kept-push false entries e = refl
+
+few-push : (cap : ℕ) (kept : List Entry) (e : Entry) (b : Bool) → (cap == 0) ≡ b → length kept ≤ cap → (0 < cap → length kept < cap)
+    → length (cond b kept (kept ++ e ∷ [])) ≤ cap
+few-push cap kept e true is few room = few
+few-push cap kept e false is few room =
+    let some : 0 < cap = grind (arith, nat_tests) in
+    let lt = room some in
+    omega (arith, length-append kept (e ∷ []))
+
+pub Replay-push : (s : ShardState) (e : Entry) (given : Answer) (after : Coordinator)
+    → e.seat < length s.counts → IsHome s.shards e.event s.number → NodeStep s.present (node_event e.event) given after → Replay s
+    → Replay (record s { present = after; kept = kept_with s.cap s.kept e; counts = one_more s.counts e.seat })
+Replay-push s e given after seat home step (entries, is) = (
+  entries ++ e ∷ [],
+  record {
+    at_home = All-push (λ (x : Entry). IsHome s.shards x.event s.number) entries e is.at_home home;
+    counted = counted-push s.counts entries e seat is.counted;
+    run = RunsTo-push s.salt entries e given s.present after is.run step;
+    kept = ap (λ kept. kept_with s.cap kept e) is.kept ∙ kept-push (s.cap == 0) entries e;
+  },
+)
+
+-- a shard that has room and goes on is a shard
+pub IsShard-push : (s : ShardState) (e : Entry) (given : Answer) (after : Coordinator)
+    → e.seat < MOST_SEATS → IsHome s.shards e.event s.number → (0 < s.cap → length s.kept < s.cap)
+    → NodeStep s.present (node_event e.event) given after → IsShard s
+    → IsShard (record s { present = after; kept = kept_with s.cap s.kept e; counts = one_more s.counts e.seat })
+IsShard-push s e given after seat home room step is =
+    record {
+      number = is.number;
+      seats = length-set s.counts e.seat _ ∙ is.seats;
+      few = few-push s.cap s.kept e (s.cap == 0) refl is.few room;
+      replay = Replay-push s e given after (subst (λ n. e.seat < n) (sym is.seats) seat) home step is.replay;
+    }
+
+-- ---- the step
+
+sum-one_more : (counts : List ℕ) (k : ℕ) → k < length counts → sum (one_more counts k) ≡ sum counts + 1
+sum-one_more counts k lt =
+    let is = sum_by-set (λ (n : ℕ). n) counts k (get_or counts k 0 + 1) 0 lt in omega (arith, is)
+
+-- a journal that isn't full has room
+pub room-is : (cap len : ℕ) → ¬ ((0 < cap) × (cap ≤ len)) → 0 < cap → len < cap
+room-is cap len not_full some =
+    let short : cap ≤ len → ⊥ = λ full. not_full (some, full) in
+    omega arith
+
+-- what a node did with an entry's event, an entry behind the others, and one more of its seat's
+pub step-is : (old : ShardState) (e : Entry) (answer : shards.Answer) (after : Coordinator) (kept : List Entry)
+    → e.seat < MOST_SEATS → IsHome old.shards e.event old.number → (0 < old.cap → length old.kept < old.cap)
+    → NodeActs old.present e.event answer after → kept ≡ kept_with old.cap old.kept e → IsShard old
+    → IsShard (record old { present = after; kept = kept; counts = one_more old.counts e.seat })
+    × ShardStep old e answer (record old { present = after; kept = kept; counts = one_more old.counts e.seat })
+step-is old e answer after kept seat home room acts is shard =
+    let at : (given : Answer) → NodeStep old.present (node_event e.event) given after
+    → IsShard (record old { present = after; kept = kept; counts = one_more old.counts e.seat })
+    × GoesOn old e given (record old { present = after; kept = kept; counts = one_more old.counts e.seat }) =
+    λ given step. (
+      subst (λ (k : List Entry). IsShard (record old { present = after; kept = k; counts = one_more old.counts e.seat })) (sym is) (IsShard-push old e given after seat home room step shard),
+      record {
+        after = after;
+        step = step;
+        leaves = λ i. record old { present = after; kept = is i; counts = one_more old.counts e.seat };
+        total = sum-one_more old.counts e.seat (subst (λ n. e.seat < n) (sym shard.seats) seat);
+      },
+    ) in
+    elim answer as (λ (a : shards.Answer). NodeActs old.present e.event a after
+    → IsShard (record old { present = after; kept = kept; counts = one_more old.counts e.seat })
+    × ShardStep old e a (record old { present = after; kept = kept; counts = one_more old.counts e.seat })) [
+      | Replied bytes ↦ λ step. at (node.Replied bytes) step
+      | Closes ↦ λ step. at node.Closes step
+      | Done removed ↦ λ step. at (node.Done removed) step
+      | Refused ↦ λ none. absurd none
+    ] acts
+
+-- unless the event is refused there is one more entry
+pub total-ShardStep : (old : ShardState) (e : Entry) (answer : shards.Answer) (new : ShardState) → ShardStep old e answer new → ¬ (answer ≡ Refused)
+    → sum new.counts ≡ sum old.counts + 1
+total-ShardStep old e (Replied bytes) new step goes = step.total
+total-ShardStep old e Closes new step goes = step.total
+total-ShardStep old e (Done removed) new step goes = step.total
+total-ShardStep old e Refused new step goes = absurd (goes refl)

@@ -1,0 +1,61 @@
+-- What a call of a seat comes to.
+use Rattle.std.specs.Prelude.{◌≡◌, ◌⊎◌, ◌+◌, ◌<◌, ℕ, List, All, MatchOption}
+use Rattle.coord_node.specs.Coordinator.{Coordinator, opening}
+use Rattle.coord_node.specs.Coordinator as node
+use Rattle.coord_shards.specs.declared.entry.Entry.{Entry}
+use Rattle.coord_shards.specs.declared.event.Event.{Event}
+use Rattle.coord_shards.specs.declared.event.Answer.{Answer}
+use Rattle.coord_shards.specs.Limits.{MOST_SHARDS, MOST_KEPT}
+use Rattle.coord_shards.specs.Machine.{NodeStep}
+use Rattle.coord_shards.specs.Events.{node_event}
+use Rattle.coord_shards.specs.Answers.{node_answer}
+use Rattle.coord_shards.specs.Home.{IsHome}
+use Rattle.coord_shards.specs.Shard.{kept_with, one_more}
+use Rattle.coord_shards.specs.Replay.{RunsTo}
+use Rattle.coord_shards.specs.Seat.{SeatState, calls_of}
+
+-- how many shards there are, the salt of their ids, and how many entries each journal may keep
+pub record Shape : Type 0 where
+  pub shards : ℕ
+  pub salt : ℕ
+  pub cap : ℕ
+
+-- The answer to an event is the machine's in a state that some run from the opening state reaches, over entries of one
+-- home.
+pub record IsAnsweredInARun (shape : Shape) (home : ℕ) (event : Event) (given : node.Answer) : Type 0 where
+  pub entries : List Entry
+  pub before : Coordinator
+  pub after : Coordinator
+  pub at_home : All (λ e. IsHome shape.shards e.event home) entries
+  pub run : RunsTo shape.salt entries before
+  pub step : NodeStep before (node_event event) given after
+
+-- A call that was taken, at the event's home: of the calls there, and of all calls of the seat, there is one more, and the
+-- event is the last that was sent.
+pub record IsTaken (shape : Shape) (old : SeatState) (event : Event) (given : node.Answer) (new : SeatState) : Type 0 where
+  pub home : ℕ
+  pub is_home : IsHome shape.shards event home
+  pub answered : IsAnsweredInARun shape home event given
+  pub calls : calls_of new ≡ calls_of old + 1
+  pub leaves : new ≡ record old { by_shard = one_more old.by_shard home; sent = kept_with shape.cap old.sent (record { shard = home; event = event }) }
+
+-- what a call comes to, by its answer: where the event is refused the seat is as it was
+abbrev pub SeatCalls : Shape → SeatState → Event → Answer → SeatState → Type 0
+SeatCalls shape old event answer new =
+    MatchOption (node_answer answer) (new ≡ old) (λ given. IsTaken shape old event given new)
+
+-- By the answer of its shard: of the seat's calls there, and of all its calls, there is one more; where the event is refused
+-- the seat is as it was.
+abbrev pub SeatRises : SeatState → ℕ → Answer → SeatState → Type 0
+SeatRises old home answer new =
+    MatchOption (node_answer answer) (new ≡ old)
+    (λ given. (new ≡ record old { by_shard = one_more old.by_shard home }) × (calls_of new ≡ calls_of old + 1))
+
+-- an answer is such, unless the event is refused
+abbrev pub AnsweredInARun : Shape → ℕ → Event → Answer → Type 0
+AnsweredInARun shape home event answer =
+    MatchOption (node_answer answer) (Unit {0}) (λ given. IsAnsweredInARun shape home event given)
+
+-- fewer shards than 1 or more than may be, or a journal of more entries than it may keep
+abbrev pub IsBad : ℕ → ℕ → Type 0
+IsBad shards cap = (shards ≡ 0) ⊎ ((MOST_SHARDS < shards) ⊎ (MOST_KEPT < cap))

@@ -1,0 +1,14 @@
+pub mod Machine
+pub mod Limits
+pub mod Events
+pub mod Home
+pub mod Answers
+pub mod Shard
+pub mod Replay
+pub mod Steps
+pub mod ShardView
+pub mod Stored
+pub mod Faults
+pub mod Seat
+pub mod Calls
+pub mod Close

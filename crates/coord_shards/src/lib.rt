@@ -1,0 +1,40 @@
+//! Nodes behind locks: each shard is a coordinator of its own, with a journal of what came to it.
+//!
+//! Whatever threads send, each shard is what its entries, run one after the other through the machine of KIP-848, make of
+//! the opening state.
+#![tactic(auto)]
+
+mod books;
+mod close;
+mod compare;
+mod counts;
+mod entry;
+mod event;
+mod fault;
+mod gate;
+mod held;
+mod homes;
+mod laws;
+pub mod limits;
+mod octets;
+mod opened;
+mod plan;
+mod registry;
+mod seat;
+mod sent;
+mod shard;
+mod shards;
+
+pub use close::Unclosed;
+pub use coord_node::{Image, Moment, Node, Stamp};
+pub use entry::Entry;
+pub use event::{Answer, Event};
+pub use fault::ShardFault;
+pub use gate::{AlwaysOpen, Gate};
+pub use homes::home;
+pub use laws::{constants_are_the_limits, one_home};
+pub use octets::Octets;
+pub use seat::Seat;
+pub use sent::Sent;
+pub use shard::Shard;
+pub use shards::Shards;

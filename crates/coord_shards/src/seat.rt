@@ -1,0 +1,161 @@
+//! Who calls shards.
+ghost use Rattle.std.specs.Prelude.{◌≡◌, ◌+◌, ◌-◌, ◌<◌, ◌^◌, ℕ, false, IsTrue, take, slice_index, length};
+ghost use Rattle.coord_shards.specs.Shard.{kept_with, one_more};
+ghost use Rattle.coord_shards.specs.Seat.{SeatState, calls_of};
+ghost use Rattle.coord_shards.specs.Seat.{IsNewSeat};
+
+use crate::books::Books;
+use crate::counts::no_counts;
+use crate::event::Event;
+use crate::limits::{MOST_SEATS, MOST_SHARDS};
+use crate::sent::Sent;
+use std::alloc::Global;
+use std::marker::Model;
+use std::sync::ledger::{Ledger, Share};
+use std::sync::{Mutex, Wait};
+
+/// The right to call shards, for one thread at a time. It is of the shards that gave it out, and of no others.
+#[derive(Drop)]
+pub struct Seat<C: Ledger> {
+    number: usize,
+    calls: u64,
+    by_shard: [u64; MOST_SHARDS],
+    sent: Vec<Sent>,
+    share: Share<C>,
+}
+
+impl<C: Ledger> Model for Seat<C> {
+    ghost use Rattle.std.specs.Prelude.{◌≡◌, ◌<◌, sum, length};
+    ghost use Rattle.coord_shards.specs.Limits.{MOST_SEATS, MOST_SHARDS};
+    ghost use Rattle.coord_shards.specs.Seat.{SeatState};
+    ghost use Rattle.coord_shards.specs.Stored.{seat_code};
+
+    ghost Value = { SeatState };
+
+    ghost coded = { seat_code };
+
+    ghost view = { λ s. record { number = s.number; by_shard = s.by_shard; sent = s.sent.items } };
+
+    ghost invariant = { λ s. (s.number < MOST_SEATS) × (length s.by_shard ≡ MOST_SHARDS) × (s.calls ≡ sum s.by_shard)
+        × (s.share.parts ≡ 1) × (s.share.amount ≡ s.calls) };
+}
+
+impl<C: Ledger> Seat<C> {
+    /// A seat with a number and a share, from which nothing was called.
+    pub(crate) fn new(alloc: Global, number: usize, share: Share<C>) -> Seat<C>
+        requires number { number < MOST_SEATS }
+        requires parts { share.parts ≡ 1 }
+        requires amount { share.amount ≡ 0 }
+        ensures { IsNewSeat number result }
+    {
+        Seat {
+            number,
+            calls: 0,
+            by_shard: no_counts(),
+            sent: Vec::new(alloc),
+            share,
+        }
+    }
+
+    /// The number of the seat.
+    pub fn number(&self) -> usize
+        ensures number { result ≡ self.now.number }
+        ensures there { result < MOST_SEATS }
+    {
+        self.number
+    }
+
+    /// How many calls of the seat were taken.
+    pub fn calls(&self) -> u64
+        ensures { result ≡ calls_of self.now }
+    {
+        self.calls
+    }
+
+    /// How many calls of the seat a shard took.
+    pub fn calls_on(&self, shard: usize) -> u64
+        ensures { result ≡ slice_index self.now.by_shard shard }
+    {
+        if shard < MOST_SHARDS {
+            self.by_shard[shard]
+        } else {
+            0
+        }
+    }
+
+    /// The events of the calls that were taken, each with its shard, in their order; none where journals keep no entries.
+    pub fn sent(&self) -> &[Sent]
+        ensures { result.now ≡ self.now.sent }
+    {
+        self.sent.as_slice()
+    }
+
+    /// Notes a copy of an event that a shard is to take, where journals keep entries. Says whether it could: not where memory is
+    /// short, and not where the seat's calls are at their greatest number.
+    pub(crate) fn note(&mut self, alloc: Global, cap: usize, shard: usize, event: &Event) -> bool
+        ensures noted { IsTrue result → self.new ≡ record self.old { sent = kept_with cap self.old.sent (record { shard = shard; event = event.now }) } }
+        ensures fits { IsTrue result → calls_of self.old + 1 < 2 ^ 64 }
+        ensures no { result ≡ false → self.new ≡ self.old }
+    {
+        if self.calls == u64::MAX {
+            return false;
+        }
+        if cap == 0 {
+            return true;
+        }
+        let Ok(event) = event.copy(alloc) else {
+            return false;
+        };
+        self.sent.push(Sent { shard, event }).is_ok()
+    }
+
+    /// Forgets what was sent but for the first ones.
+    pub(crate) fn forget(&mut self, sent: usize)
+        ensures { self.new ≡ record self.old { sent = take sent self.old.sent } }
+    {
+        self.sent.truncate(sent);
+    }
+
+    /// Enters a call that a shard took: for the seat, and for the share of the shard.
+    pub(crate) fn enter<A: Ledger, R: Wait>(
+        &mut self,
+        rt: &R,
+        books: &Mutex<Books<A, C>>,
+        share: &mut Share<A>,
+        shard: usize,
+    )
+        requires fits { calls_of self.old + 1 < 2 ^ 64 }
+        requires shard { shard < MOST_SHARDS }
+        requires part { 0 < share.old.parts }
+        ensures seat { self.new ≡ record self.old { by_shard = one_more self.old.by_shard shard } }
+        ensures calls { calls_of self.new ≡ calls_of self.old + 1 }
+        ensures amount { share.new.amount ≡ share.old.amount + 1 }
+        ensures parts { share.new.parts ≡ share.old.parts }
+    {
+        let Seat {
+            number: _,
+            calls,
+            by_shard,
+            sent: _,
+            share: own,
+        } = self;
+        books.lock(rt).enter(share, own);
+        by_shard[shard] += 1;
+        *calls += 1;
+    }
+
+    /// The share of the seat, whose amount is the seat's calls.
+    pub(crate) fn into_share(self) -> Share<C>
+        ensures parts { result.parts ≡ 1 }
+        ensures amount { result.amount ≡ calls_of self }
+    {
+        let Seat {
+            number: _,
+            calls: _,
+            by_shard: _,
+            sent: _,
+            share,
+        } = self;
+        share
+    }
+}
