@@ -1,0 +1,6 @@
+pub mod FrontLemmas
+pub mod QueueLemmas
+pub mod TurnLemmas
+pub mod SessionLemmas
+pub mod WorkerLemmas
+pub mod FramingLemmas

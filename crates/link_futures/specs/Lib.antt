@@ -1,0 +1,11 @@
+pub mod Framing
+pub mod Parts
+pub mod Next
+pub mod Desks
+pub mod Buffers
+pub mod Answering
+pub mod Stream
+pub mod Steps
+pub mod Sessions
+pub mod SoloDesk
+pub mod Workers

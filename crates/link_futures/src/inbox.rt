@@ -1,0 +1,197 @@
+//! The bytes that a line has read and not answered.
+ghost use Rattle.std.specs.Prelude.{◌≡◌, ℕ, ◌+◌, ◌==◌, ◌<◌, ◌≤◌, [], length, take, drop, IfOk, OnErr, Ok};
+ghost use Rattle.futures.specs.Task.{Covers, Keeps};
+ghost use Rattle.tokio.specs.Io.Moved.{AppendsRead};
+ghost use Rattle.link_futures.specs.Parts.{count_of, faults_of, OnWaits};
+ghost use Rattle.link_futures.specs.Next.{IsNext};
+ghost use Rattle.link_futures.specs.declared.part.Part.TheVariants.{Moved};
+
+use crate::part::Part;
+use crate::reader::ReadPart;
+use bytes::BytesMut;
+use flex_wire::take_i32;
+use futures::task::Context;
+use group_types::limits::{LARGEST_BODY, SMALLEST_BODY};
+use std::alloc::{AllocError, Global};
+use std::marker::Model;
+
+/// The most bytes of a read on a quiet line. A line that waits for the next frame has no room for more.
+const SMALL_READ: usize = 3_072;
+
+/// The most bytes of a read, once one has filled the room that it was offered.
+const LARGEST_READ: usize = 65_536;
+
+/// The bytes of a frame's size.
+const SIZE_BYTES: usize = 4;
+
+/// What the bytes begin with.
+pub(crate) enum Next {
+    /// Less than a frame.
+    Partial,
+    /// A frame whose body has this many bytes.
+    Whole(usize),
+    /// A size that no body may have.
+    Refused,
+}
+
+/// The bytes that a line has read and not answered. Callers see the list of them.
+#[derive(Drop)]
+pub(crate) struct Inbox {
+    buffer: BytesMut,
+    /// A read has filled the room that it was offered, and the line hasn't been quiet since.
+    is_busy: bool,
+    /// The buffer may have more room than a quiet line needs.
+    has_grown: bool,
+    alloc: Global,
+}
+
+impl Model for Inbox {
+    ghost use Rattle.std.specs.Prelude.{ℕ, List};
+
+    ghost Value = { List ℕ };
+
+    ghost view = { λ b. b.buffer.items };
+}
+
+impl Inbox {
+    /// No bytes. Takes no memory.
+    pub(crate) fn new(alloc: Global) -> Inbox
+        ensures { result ≡ [] }
+    {
+        Inbox {
+            buffer: BytesMut::new(alloc),
+            is_busy: false,
+            has_grown: false,
+            alloc,
+        }
+    }
+
+    pub(crate) fn is_empty(&self) -> bool
+        ensures { result ≡ (length self.now == 0) }
+    {
+        self.buffer.is_empty()
+    }
+
+    /// What the bytes begin with.
+    pub(crate) fn next(&self) -> Next
+        ensures { IsNext result self.now }
+    {
+        next_of(self.buffer.as_slice())
+    }
+
+    /// The body of the frame at the front, which has so many bytes. It is lent and not copied.
+    pub(crate) fn body(&self, len: usize) -> &[u8]
+        requires { 4 + len ≤ length self.now }
+        ensures { result.now ≡ take len (drop 4 self.now) }
+    {
+        &self.buffer.as_slice()[SIZE_BYTES..SIZE_BYTES + len]
+    }
+
+    /// Drops the frame at the front, whose body has so many bytes.
+    pub(crate) fn drop_frame(&mut self, len: usize)
+        requires { 4 + len ≤ length self.old }
+        ensures { self.new ≡ drop len (drop 4 self.old) }
+    {
+        self.buffer.advance(SIZE_BYTES);
+        self.buffer.advance(len);
+    }
+
+    /// Reads once, and keeps the bytes. Where memory is short nothing is read.
+    pub(crate) fn read<R: ReadPart>(
+        &mut self,
+        reader: &mut R,
+        cx: &mut Context<'_>,
+    ) -> Result<Part, AllocError>
+        ensures bytes { IfOk result (λ part. AppendsRead R.reads reader.old reader.new self.old self.new (count_of part)) }
+        ensures short { IfOk result (λ part. count_of part ≤ 65536) }
+        ensures end { result ≡ Ok (Moved 0) → R.is_at_end reader.new }
+        ensures counted { IfOk result (λ part. R.faults reader.new ≡ R.faults reader.old + faults_of part) }
+        ensures registered { IfOk result (λ part. OnWaits part (Covers cx.new (R.needs reader.new))) }
+        ensures err { OnErr result ((self.new ≡ self.old) × (reader.new ≡ reader.old)) }
+        ensures kept { Keeps cx.old cx.new }
+    {
+        let room = if self.is_busy {
+            LARGEST_READ
+        } else {
+            SMALL_READ
+        };
+        self.has_grown = self.has_grown || self.is_busy || !self.buffer.is_empty();
+        let part = read_into(&mut self.buffer, room, reader, cx)?;
+        self.settle(part, room);
+        Ok(part)
+    }
+
+    /// After a read: a full one makes the next ones large, and a line that is quiet gives its room back.
+    fn settle(&mut self, part: Part, room: usize)
+        ensures { self.new ≡ self.old }
+    {
+        match part {
+            Part::Moved(count) => self.is_busy = self.is_busy || count == room,
+            Part::Waits => {
+                if self.has_grown && self.buffer.is_empty() {
+                    *self = Inbox::new(self.alloc);
+                }
+            }
+            Part::Fault => {}
+        }
+    }
+}
+
+/// Reads once, at most so many bytes, and appends them. Where memory is short nothing is read.
+fn read_into<R: ReadPart>(
+    buffer: &mut BytesMut,
+    room: usize,
+    reader: &mut R,
+    cx: &mut Context<'_>,
+) -> Result<Part, AllocError>
+    requires { 0 < room }
+    ensures bytes { IfOk result (λ part. AppendsRead R.reads reader.old reader.new buffer.old.items buffer.new.items (count_of part)) }
+    ensures short { IfOk result (λ part. count_of part ≤ room) }
+    ensures end { result ≡ Ok (Moved 0) → R.is_at_end reader.new }
+    ensures counted { IfOk result (λ part. R.faults reader.new ≡ R.faults reader.old + faults_of part) }
+    ensures registered { IfOk result (λ part. OnWaits part (Covers cx.new (R.needs reader.new))) }
+    ensures err { OnErr result ((buffer.new.items ≡ buffer.old.items) × (reader.new ≡ reader.old)) }
+    ensures kept { Keeps cx.old cx.new }
+{
+    let before = buffer.len();
+    buffer.reserve(room)?;
+    buffer.advance_mut(room);
+    let part = read_behind(reader, cx, buffer.as_mut_slice(), before);
+    buffer.truncate(before + part.count());
+    Ok(part)
+}
+
+/// Reads once into the bytes from an index on.
+fn read_behind<R: ReadPart>(
+    reader: &mut R,
+    cx: &mut Context<'_>,
+    bytes: &mut [u8],
+    before: usize,
+) -> Part
+    requires { before ≤ length bytes.old }
+    ensures bound { before + count_of result ≤ length bytes.new }
+    ensures bytes { AppendsRead R.reads reader.old reader.new (take before bytes.old) (take (before + count_of result) bytes.new) (count_of result) }
+    ensures end { result ≡ Moved 0 → before < length bytes.old → R.is_at_end reader.new }
+    ensures counted { R.faults reader.new ≡ R.faults reader.old + faults_of result }
+    ensures registered { OnWaits result (Covers cx.new (R.needs reader.new)) }
+    ensures kept { Keeps cx.old cx.new }
+{
+    reader.poll_read_part(cx, &mut bytes[before..])
+}
+
+/// What bytes begin with: a frame is an INT32 size and so many bytes (Kafka protocol guide, "Protocol").
+fn next_of(bytes: &[u8]) -> Next
+    ensures { IsNext result bytes.now }
+{
+    let Ok((size, rest)) = take_i32(bytes) else {
+        return Next::Partial;
+    };
+    if size < (SMALLEST_BODY as i32) || (LARGEST_BODY as i32) < size {
+        return Next::Refused;
+    }
+    let size = size as usize;
+    if rest.len() < size {
+        return Next::Partial;
+    }
+    Next::Whole(size)
+}

@@ -1,0 +1,274 @@
+//! One connection's line to a desk.
+ghost use Rattle.std.specs.Prelude.{◌≡◌, ◌⊎◌, ◌<◌, true, false, length, Ok, IfErr, IfSome, OnOk, OnErr};
+ghost use Rattle.futures.specs.Task.{Covers, Keeps};
+ghost use Rattle.futures.specs.Poll.{IfReady, OnPending};
+ghost use Rattle.link_futures.specs.Desks.{closes_by};
+ghost use Rattle.link_futures.specs.Next.{IsNext};
+
+use crate::desk::Desk;
+use crate::end::End;
+use crate::inbox::{Inbox, Next};
+use crate::outbox::Outbox;
+use crate::part::Part;
+use crate::reader::ReadPart;
+use crate::writer::WriteParts;
+use coord_node::{Answered, Stamp};
+use futures::task::{Context, Poll};
+use std::alloc::{AllocError, Global};
+
+/// One connection's line to a desk: what it has read and not answered, and what it has answered and not written. A frame
+/// that is partly read and a reply that is partly written are kept from turn to turn.
+#[derive(Drop)]
+pub struct Line<R, W> {
+    reader: R,
+    writer: W,
+    inbox: Inbox,
+    outbox: Outbox,
+    connection: u64,
+    /// How many frames were answered.
+    answered: u64,
+    /// The reader has ended.
+    is_over: bool,
+    /// The desk has closed.
+    is_closed: bool,
+}
+
+impl<R: ReadPart, W: WriteParts> Line<R, W> {
+    ghost use Rattle.link_futures.specs.Stream.{Turns, WantsBytes, LineNeeds, EndsAs, MetNoFault, LeavesDesk};
+    ghost use Rattle.link_futures.specs.Steps.{IsNewLine, IsAnswerable, ReadsOn, AnswersOn, WritesOn, EndsQuietly};
+
+    /// The line of the connection with this number. Takes no memory.
+    pub fn new(alloc: Global, connection: u64, reader: R, writer: W) -> Line<R, W>
+        ensures { IsNewLine result connection reader writer }
+    {
+        Line {
+            reader,
+            writer,
+            inbox: Inbox::new(alloc),
+            outbox: Outbox::new(alloc),
+            connection,
+            answered: 0,
+            is_over: false,
+            is_closed: false,
+        }
+    }
+
+    /// The writer.
+    pub fn writer(&self) -> &W
+        ensures { result.now ≡ self.now.writer }
+    {
+        &self.writer
+    }
+
+    /// How many frames were answered.
+    pub fn answered(&self) -> u64
+        ensures { result ≡ self.now.answered }
+    {
+        self.answered
+    }
+
+    /// One turn: reads at most once, lets the desk answer at most one frame, and writes at most once. It is ready once the
+    /// line has ended; else it waits for the reader or the writer, or asks for another turn.
+    pub fn turn<D: Desk>(&mut self, cx: &mut Context<'_>, desk: &mut D) -> Poll<End>
+        ensures stream { (last : D) × Turns R.reads R.is_at_end W.writes D.answers
+            (record { line = self.old; desk = desk.old }) (record { line = self.new; desk = last })
+            × LeavesDesk D.lacks result last desk.new }
+        ensures ends { IfReady result (λ end. EndsAs R.faults W.faults W.stalls end self.old self.new) }
+        ensures goes_on { OnPending result (MetNoFault R.faults W.faults W.stalls self.old self.new) }
+        ensures armed { OnPending result (Covers cx.new (LineNeeds R.needs W.needs self.new)) }
+        ensures kept { Keeps cx.old cx.new }
+    {
+        let reader_waits = match self.read(cx) {
+            Ok(waits) => waits,
+            Err(end) => return Poll::Ready(end),
+        };
+        let Ok(()) = self.answer(desk) else {
+            return Poll::Ready(End::NoMemory);
+        };
+        let writer_waits = match self.write(cx, desk) {
+            Ok(waits) => waits,
+            Err(end) => return Poll::Ready(end),
+        };
+        match self.end() {
+            Some(end) => Poll::Ready(end),
+            None => self.rest(cx, reader_waits, writer_waits),
+        }
+    }
+
+    /// Reads once, where the desk may want more bytes. Says whether the reader waits.
+    fn read(&mut self, cx: &mut Context<'_>) -> Result<bool, End>
+        ensures reads { ReadsOn R.reads R.is_at_end self.old self.new }
+        ensures ends { IfErr result (λ end. EndsAs R.faults W.faults W.stalls end self.old self.new) }
+        ensures goes_on { OnOk result (MetNoFault R.faults W.faults W.stalls self.old self.new) }
+        ensures armed { result ≡ Ok true → Covers cx.new (R.needs self.new.reader) }
+        ensures kept { Keeps cx.old cx.new }
+    {
+        if !self.wants_bytes() {
+            return Ok(false);
+        }
+        let Ok(part) = self.inbox.read(&mut self.reader, cx) else {
+            return Err(End::NoMemory);
+        };
+        match part {
+            Part::Waits => Ok(true),
+            Part::Fault => Err(End::ReadFault),
+            Part::Moved(count) => {
+                if count == 0 {
+                    self.is_over = true;
+                }
+                Ok(false)
+            }
+        }
+    }
+
+    /// Lets the desk answer the frame at the front, where one is there and there is room for its reply.
+    fn answer<D: Desk>(&mut self, desk: &mut D) -> Result<(), AllocError>
+        ensures ok { OnOk result (AnswersOn D.answers self.old desk.old self.new desk.new) }
+        ensures err { OnErr result ((self.new ≡ self.old) × ((desk.new ≡ desk.old) ⊎ D.lacks desk.old desk.new)) }
+    {
+        let Some(len) = self.answerable() else {
+            return Ok(());
+        };
+        let stamp = Stamp {
+            connection: self.connection,
+            frame: self.answered + 1,
+        };
+        let answered = self.outbox.answer(desk, self.inbox.body(len), stamp)?;
+        self.inbox.drop_frame(len);
+        self.answered += 1;
+        self.is_closed = closes(answered);
+        Ok(())
+    }
+
+    /// Writes once, where a reply may be sent by now. Says whether the writer waits.
+    fn write<D: Desk>(&mut self, cx: &mut Context<'_>, desk: &D) -> Result<bool, End>
+        ensures writes { WritesOn W.writes self.old self.new }
+        ensures ends { IfErr result (λ end. EndsAs R.faults W.faults W.stalls end self.old self.new) }
+        ensures known { IfErr result (λ end. end ≡ End.WriteFault) }
+        ensures goes_on { OnOk result (MetNoFault R.faults W.faults W.stalls self.old self.new) }
+        ensures armed { result ≡ Ok true → Covers cx.new (W.needs self.new.writer) }
+        ensures kept { Keeps cx.old cx.new }
+    {
+        let count = self.outbox.sendable(desk, self.connection);
+        if count == 0 {
+            return Ok(false);
+        }
+        match self.outbox.write(count, &mut self.writer, cx) {
+            Part::Waits => Ok(true),
+            Part::Fault => Err(End::WriteFault),
+            Part::Moved(count) => {
+                if count == 0 {
+                    return Err(End::WriteFault);
+                }
+                Ok(false)
+            }
+        }
+    }
+
+    /// How the line ends, where it does once all replies are written.
+    fn end(&self) -> Option<End>
+        ensures { IfSome result (λ end. EndsQuietly end self.now) }
+    {
+        if !self.outbox.is_empty() {
+            return None;
+        }
+        if self.is_done() {
+            return Some(End::Closed);
+        }
+        match self.inbox.next() {
+            Next::Refused => Some(End::Closed),
+            Next::Whole(_) => None,
+            Next::Partial => self.end_of_reader(),
+        }
+    }
+
+    /// How the line ends, where the reader has ended and there is no whole frame.
+    fn end_of_reader(&self) -> Option<End>
+        requires partial { IsNext Next.Partial self.now.inbox }
+        requires empty { length self.now.outbox ≡ 0 }
+        ensures { IfSome result (λ end. EndsQuietly end self.now) }
+    {
+        if !self.is_over {
+            return None;
+        }
+        if self.inbox.is_empty() {
+            return Some(End::Finished);
+        }
+        Some(End::CutShort)
+    }
+
+    /// Waits for the reader and the writer, or asks for another turn where there is more to do than they would wake for.
+    fn rest(&self, cx: &mut Context<'_>, reader_waits: bool, writer_waits: bool) -> Poll<End>
+        requires reader { reader_waits ≡ true → Covers cx.old (R.needs self.now.reader) }
+        requires writer { writer_waits ≡ true → Covers cx.old (W.needs self.now.writer) }
+        ensures pending { result ≡ Poll.Pending }
+        ensures armed { Covers cx.new (LineNeeds R.needs W.needs self.now) }
+        ensures kept { Keeps cx.old cx.new }
+    {
+        if self.is_idle(reader_waits, writer_waits) {
+            return Poll::Pending;
+        }
+        cx.yield_now()
+    }
+
+    /// Whether there is nothing to do until the reader or the writer wakes the line.
+    fn is_idle(&self, reader_waits: bool, writer_waits: bool) -> bool
+        ensures reader { result ≡ true → (reader_waits ≡ true) ⊎ (¬ WantsBytes self.now) }
+        ensures writer { result ≡ true → (writer_waits ≡ true) ⊎ (length self.now.outbox ≡ 0) }
+        ensures either { result ≡ true → (reader_waits ≡ true) ⊎ (writer_waits ≡ true) }
+    {
+        if !reader_waits && self.wants_bytes() {
+            return false;
+        }
+        if !writer_waits && !self.outbox.is_empty() {
+            return false;
+        }
+        (reader_waits || writer_waits) && self.answerable().is_none()
+    }
+
+    /// Whether more bytes are wanted: the reader hasn't ended, the desk answers on, and no frame and no refused size is there.
+    fn wants_bytes(&self) -> bool
+        ensures yes { result ≡ true → WantsBytes self.now }
+        ensures no { result ≡ false → ¬ WantsBytes self.now }
+    {
+        if self.is_over || self.is_done() {
+            return false;
+        }
+        match self.inbox.next() {
+            Next::Partial => true,
+            Next::Whole(_) | Next::Refused => false,
+        }
+    }
+
+    /// The length of the body at the front, where it may be answered: it is whole, the desk answers on, and there is room
+    /// for the reply.
+    fn answerable(&self) -> Option<usize>
+        ensures { IfSome result (λ len. IsAnswerable self.now len) }
+    {
+        if self.is_done() || !self.outbox.has_room() {
+            return None;
+        }
+        match self.inbox.next() {
+            Next::Whole(len) => Some(len),
+            Next::Partial | Next::Refused => None,
+        }
+    }
+
+    /// Whether the desk answers no more: it has closed, or the last number of a frame is used.
+    fn is_done(&self) -> bool
+        ensures done { result ≡ true → (self.now.is_closed ≡ true) ⊎ (self.now.answered ≡ u64.MAX) }
+        ensures answers_on { result ≡ false → (self.now.is_closed ≡ false) × (self.now.answered < u64.MAX) }
+    {
+        self.is_closed || self.answered == u64::MAX
+    }
+}
+
+/// Whether an answer closes the connection.
+fn closes(answered: Answered) -> bool
+    ensures { result ≡ closes_by answered }
+{
+    match answered {
+        Answered::Closes => true,
+        Answered::Replied => false,
+    }
+}

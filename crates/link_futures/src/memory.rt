@@ -1,0 +1,174 @@
+//! A reader and a writer over memory that follow a list of what each poll does.
+ghost use Rattle.std.specs.Prelude.{◌≡◌, ◌<◌, ◌≤◌, [], ◌++◌, length, take, IfOk, refl};
+ghost use Rattle.std.proofs.Common.{rules};
+ghost use Rattle.std.proofs.lemmas.Grind.{common_steps};
+ghost use Rattle.std.specs.Io.Slices.{io_slices_bytes};
+ghost use Rattle.futures.specs.Task.{Covers, Keeps};
+ghost use Rattle.futures.specs.Poll.{OnPending};
+ghost use Rattle.tokio.specs.Io.Moved.{count_moved, bytes_moved};
+
+use bytes::BytesMut;
+use futures::task::{Context, Poll};
+use std::alloc::{AllocError, Global};
+use std::collections::VecDeque;
+use std::io;
+use std::io::IoSlice;
+use tokio::io::{AsyncRead, AsyncWrite};
+
+/// What a poll of a [`Feed`] or a [`Drain`] does.
+#[derive(Clone, Copy, Debug, PartialEq, Eq)]
+pub enum PollAct {
+    /// It moves so many bytes at most.
+    Bytes(usize),
+    /// It is pending, and asks for another poll.
+    Pending,
+    /// It fails.
+    Fault,
+}
+
+/// A reader over memory that follows a list of what each poll does. Past the list each poll gives all that it can.
+#[derive(Drop)]
+pub struct Feed {
+    rest: BytesMut,
+    acts: VecDeque<PollAct>,
+}
+
+impl Feed {
+    /// A reader of these bytes. Takes no memory.
+    pub fn new(bytes: Vec<u8>, acts: VecDeque<PollAct>) -> Feed
+        ensures { result.rest.items ≡ bytes.items }
+    {
+        Feed {
+            rest: BytesMut::from_vec(bytes),
+            acts,
+        }
+    }
+
+    /// Gives so many bytes at most, but one where there is one: no byte would mean the end.
+    fn give(&mut self, most: usize, buf: &mut [u8]) -> usize
+        ensures bound { result ≤ length buf.new }
+        ensures bytes { self.old.rest.items ≡ take result buf.new ++ self.new.rest.items }
+        ensures end { result ≡ 0 → 0 < length buf.old → self.new.rest.items ≡ [] }
+    {
+        let count = most.max(1).min(self.rest.len()).min(buf.len());
+        buf[..count].copy_from_slice(&self.rest.as_slice()[..count]);
+        self.rest.advance(count);
+        count
+    }
+}
+
+impl AsyncRead for Feed {
+    ghost reads = { λ a xs b. a.rest.items ≡ xs ++ b.rest.items };
+
+    ghost is_at_end = { λ f. f.rest.items ≡ [] };
+
+    ghost reads_nothing = { λ f. refl };
+
+    ghost reads_in_order = { λ a xs b ys c p q. Prim.search (rules, common_steps) };
+
+    fn poll_read(&mut self, cx: &mut Context<'_>, buf: &mut [u8]) -> Poll<io::Result<usize>> {
+        match self.acts.pop_front() {
+            Some(PollAct::Bytes(most)) => Poll::Ready(Ok(self.give(most, buf))),
+            Some(PollAct::Pending) => cx.yield_now(),
+            Some(PollAct::Fault) => {
+                Poll::Ready(Err(io::Error::from(io::ErrorKind::ConnectionReset)))
+            }
+            None => Poll::Ready(Ok(self.give(usize::MAX, buf))),
+        }
+    }
+}
+
+/// A writer over memory, with room for so many bytes, that follows a list of what each poll does. Past the list each poll
+/// takes all that it has room for.
+#[derive(Drop)]
+pub struct Drain {
+    taken: Vec<u8>,
+    acts: VecDeque<PollAct>,
+}
+
+impl Drain {
+    /// A writer that has taken no byte. All its memory is taken here.
+    pub fn new(alloc: Global, room: usize, acts: VecDeque<PollAct>) -> Result<Drain, AllocError>
+        ensures { IfOk result (λ drain. drain.taken.items ≡ []) }
+    {
+        let taken = Vec::with_capacity(alloc, room)?;
+        Ok(Drain { taken, acts })
+    }
+
+    /// The bytes that it has taken.
+    pub fn taken(&self) -> &[u8]
+        ensures { result.now ≡ self.now.taken.items }
+    {
+        self.taken.as_slice()
+    }
+
+    /// One write of the buffers joined in order.
+    fn poll_take(&mut self, cx: &mut Context<'_>, bufs: &[IoSlice<'_>]) -> Poll<io::Result<usize>>
+        ensures bound { count_moved result ≤ length (io_slices_bytes bufs.now) }
+        ensures bytes { self.new.taken.items ≡ self.old.taken.items ++ bytes_moved result (io_slices_bytes bufs.now) }
+        ensures registered { OnPending result (Covers cx.new (λ _. ⊥)) }
+        ensures kept { Keeps cx.old cx.new }
+    {
+        let room = self.taken.capacity() - self.taken.len();
+        match self.acts.pop_front() {
+            Some(PollAct::Bytes(most)) => {
+                Poll::Ready(Ok(take_parts(&mut self.taken, bufs, most.min(room))))
+            }
+            Some(PollAct::Pending) => cx.yield_now(),
+            Some(PollAct::Fault) => Poll::Ready(Err(io::Error::from(io::ErrorKind::BrokenPipe))),
+            None => Poll::Ready(Ok(take_parts(&mut self.taken, bufs, room))),
+        }
+    }
+}
+
+impl AsyncWrite for Drain {
+    ghost writes = { λ a xs b. b.taken.items ≡ a.taken.items ++ xs };
+
+    ghost writes_nothing = { λ w. Prim.search (rules, common_steps) };
+
+    ghost writes_in_order = { λ a xs b ys c p q. Prim.search (rules, common_steps) };
+
+    fn poll_write(&mut self, cx: &mut Context<'_>, buf: &[u8]) -> Poll<io::Result<usize>> {
+        self.poll_take(cx, &[IoSlice::new(buf)])
+    }
+
+    fn poll_write_vectored(
+        &mut self,
+        cx: &mut Context<'_>,
+        bufs: &[IoSlice<'_>],
+    ) -> Poll<io::Result<usize>> {
+        self.poll_take(cx, bufs)
+    }
+
+    fn is_write_vectored(&self) -> bool {
+        true
+    }
+
+    fn poll_flush(&mut self, _cx: &mut Context<'_>) -> Poll<io::Result<()>> {
+        Poll::Ready(Ok(()))
+    }
+
+    fn poll_shutdown(&mut self, _cx: &mut Context<'_>) -> Poll<io::Result<()>> {
+        Poll::Ready(Ok(()))
+    }
+}
+
+/// Appends so many bytes at most of the buffers joined in order. Says how many.
+fn take_parts(taken: &mut Vec<u8>, bufs: &[IoSlice<'_>], most: usize) -> usize
+    ensures bound { result ≤ length (io_slices_bytes bufs.now) }
+    ensures bytes { taken.new.items ≡ taken.old.items ++ take result (io_slices_bytes bufs.now) }
+{
+    let mut count = 0;
+    for buf in bufs {
+        let bytes = buf.as_slice();
+        let part = bytes.len().min(most - count);
+        if taken.extend_from_slice(&bytes[..part]).is_err() {
+            return count;
+        }
+        count += part;
+        if part < bytes.len() {
+            return count;
+        }
+    }
+    count
+}
