@@ -1,0 +1,9 @@
+pub mod World
+pub mod Acts
+pub mod Holding
+pub mod Exclusivity
+pub mod Rounds
+pub mod Convergence
+pub mod Turn
+pub mod Invariant
+pub mod Laws

@@ -1,0 +1,71 @@
+//! Laws of the world, proved where nothing runs: what holds after every list of acts, from clients that haven't
+//! asked for anything, and that an act has one outcome.
+ghost use Rattle.world_sim.specs.Exclusivity.{ActsLawfully, Always, BringsHeld, CommitHeld, HoldApart, HoldGranted, ShowGranted, SinceGranted};
+ghost use Rattle.world_sim.specs.Invariant.{Keeps};
+ghost use Rattle.world_sim.specs.Laws.{OneOutcomeAnAct, OneRunOfActs};
+
+use coord_node::{one_answer, steps_are_sound};
+use group_types::every_group_is_sound;
+use kip_msgs::{one_body_a_message, one_reply_a_body, one_request_a_body};
+use member_core::one_outcome_a_reply;
+use range_assign::range_is_lawful;
+use uniform_assign::uniform_is_lawful;
+
+/// Why Exclusivity holds: what every act keeps.
+pub fn every_act_keeps_the_invariant()
+    ensures { Always Keeps }
+{
+    one_request_a_body();
+    one_reply_a_body();
+    steps_are_sound();
+    every_group_is_sound();
+}
+
+/// No two members of one group hold one partition, and each holds only what its id is granted.
+pub fn members_hold_apart()
+    ensures apart { Always HoldApart }
+    ensures granted { Always HoldGranted }
+{
+    every_act_keeps_the_invariant();
+}
+
+/// A reply of success that a waiting client may still take, and whose id has a record, shows only what the id is granted.
+pub fn replies_show_what_is_granted()
+    ensures { Always ShowGranted }
+{
+    every_act_keeps_the_invariant();
+}
+
+/// A commit is taken only while all that its maker held has been granted to its id from then on, without a break.
+pub fn commits_are_taken_while_held()
+    ensures taken { Always CommitHeld }
+    ensures since { Always SinceGranted }
+    ensures brought { Always BringsHeld }
+{
+    one_request_a_body();
+    one_reply_a_body();
+    every_act_keeps_the_invariant();
+}
+
+/// Wherever an act renews a group's target, the new one gives each partition that a member subscribes exactly one owner,
+/// who subscribes it.
+pub fn targets_are_renewed_lawfully()
+    ensures { Always ActsLawfully }
+{
+    range_is_lawful();
+    uniform_is_lawful();
+    every_group_is_sound();
+    every_act_keeps_the_invariant();
+}
+
+/// An act has one outcome in a world, and leaves one world; and so does a list of acts.
+pub fn an_act_has_one_outcome()
+    ensures act { OneOutcomeAnAct }
+    ensures acts { OneRunOfActs }
+{
+    one_body_a_message();
+    one_request_a_body();
+    one_reply_a_body();
+    one_answer();
+    one_outcome_a_reply();
+}
