@@ -5,12 +5,17 @@
     cases/SUBCOMMAND/NAME.err      the standard error that is expected; without it, nothing
     cases/SUBCOMMAND/NAME.status   the exit status that is expected; without it, 0
     cases/SUBCOMMAND/NAME.args     words behind the subcommand, one a line
+
+In place of .in and .out a case that is too long to be stored has
+
+    cases/SUBCOMMAND/NAME.made     a line that names the tool which writes both, and its words, as `reply-lines make full-group`
 """
 
 import concurrent.futures
 import dataclasses
 import difflib
 import os
+import sys
 import tempfile
 
 from gate import commands
@@ -20,7 +25,7 @@ PROGRAM_CRATE = "scenario_cli"
 # How long a case may take, in seconds, and how much of a difference is shown, in lines.
 LIMIT = 60
 SHOWN = 40
-ENDINGS = (".in", ".out", ".err", ".status", ".args")
+ENDINGS = (".in", ".out", ".err", ".status", ".args", ".made")
 
 
 class BadCase(Exception):
@@ -55,6 +60,8 @@ def read_case(root, label):
     if len(parts) != 3:
         raise BadCase("a case stands in cases/SUBCOMMAND/")
     files = {it: content_of(f"{root}/{label}{it}") for it in ENDINGS}
+    if files[".made"] is not None:
+        files.update(made_files(root, files[".made"].decode().split()))
     if files[".in"] is None or files[".out"] is None:
         raise BadCase(f"it has no file {parts[2]}{'.in' if files['.in'] is None else '.out'}")
     status = (files[".status"] or b"0").strip()
@@ -62,6 +69,16 @@ def read_case(root, label):
         raise BadCase(f"{parts[2]}.status holds no number")
     words = (files[".args"] or b"").decode().splitlines()
     return Case(label, (parts[1], *words), files[".in"], files[".out"], files[".err"] or b"", int(status))
+
+
+def made_files(root, words):
+    """The input and the output that a tool writes."""
+    with tempfile.TemporaryDirectory(prefix="case-") as folder:
+        command = [sys.executable, "-B", f"{os.path.abspath(root)}/tools/{words[0]}", *words[1:], f"{folder}/case"]
+        ran = commands.run(command, folder, b"", LIMIT, merged=False)
+        if ran.status:
+            raise BadCase(f"tools/{words[0]} ended with status {ran.status}")
+        return {it: content_of(f"{folder}/case{it}") for it in (".in", ".out")}
 
 
 def content_of(path):

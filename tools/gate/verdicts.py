@@ -12,6 +12,8 @@ from gate import functions
 PROVED, RESTS, WAITS, UNKNOWN, FAILED = "proved", "rests", "waits", "unknown", "failed"
 
 LINE = re.compile(r"fn (\S+): (.*)")
+# A function whose signature lets it wait or end the process is proved all the same.
+IS_PROVED = re.compile(r"proved(?:, may (?:abort|wait))*")
 CALLS = re.compile(r"it (?:calls|passes the blocks?) `[^`]+`(?: and `[^`]+`)*, which (?:is|are) not proved")
 WAITS_FOR = re.compile(
     r"the borrow checker's part in its proof is not made yet.*a call of `[^`]+`(?:: `[^`]+`)?, which has no proof"
@@ -38,7 +40,7 @@ class Verdict:
 
     def proves_all(self):
         is_last = self.last.startswith("logic=proved ")
-        return self.status == 0 and is_last and bool(self.lines) and {*self.lines.values()} == {"proved"}
+        return self.status == 0 and is_last and bool(self.lines) and all(map(IS_PROVED.fullmatch, self.lines.values()))
 
     def why_void(self, edited):
         """Why this is no verdict on code that was read as it was meant, or None. `edited` are the changed files."""
@@ -99,7 +101,7 @@ class Verdict:
 
 def judged(said):
     """What the text behind `fn NAME: ` says of the function's own proof."""
-    if said == "proved":
+    if IS_PROVED.fullmatch(said):
         return PROVED
     if WAITS_FOR.search(said):
         return WAITS
