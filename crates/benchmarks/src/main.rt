@@ -12,6 +12,7 @@ mod assignors;
 mod command_line;
 mod fault;
 mod group;
+mod heartbeats;
 mod messages;
 mod pace;
 mod partitions;
@@ -28,6 +29,7 @@ mod work;
 use command_line::{Mode, Task};
 use fault::Fault;
 use std::process::ExitCode;
+use std::random::RandomSource;
 use std::rt::{Clock, Env};
 
 fn main(rt: HostRuntime) -> ExitCode {
@@ -41,7 +43,7 @@ fn main(rt: HostRuntime) -> ExitCode {
 }
 
 /// Prints what the command line asks for.
-fn run(rt: &(impl AllocGlobal + Clock + Env + Print)) -> Result<(), Fault> {
+fn run(rt: &(impl AllocGlobal + Clock + Env + Print + RandomSource)) -> Result<(), Fault> {
     match command_line::read(rt)? {
         Task::Measure(mode) => measure(rt, mode),
         Task::Spreads { seed, inputs } => spreads::print_spreads(rt, seed, inputs),
@@ -49,10 +51,14 @@ fn run(rt: &(impl AllocGlobal + Clock + Env + Print)) -> Result<(), Fault> {
 }
 
 /// Prints what is measured.
-fn measure(rt: &(impl AllocGlobal + Clock + Print), mode: Mode) -> Result<(), Fault> {
+fn measure(
+    rt: &(impl AllocGlobal + Clock + Print + RandomSource),
+    mode: Mode,
+) -> Result<(), Fault> {
     wire::print_messages(rt, mode)?;
     assignors::print_assignors(rt, mode)?;
     topics::print_topics(rt, mode)?;
+    heartbeats::print_heartbeats(rt, mode)?;
     match mode {
         Mode::Counts => samples::print_samples(rt),
         Mode::Times => Ok(()),

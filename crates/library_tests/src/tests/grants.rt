@@ -125,7 +125,7 @@ fn take_step(
     }
 }
 
-/// Makes the offer, and tells the verdict; `?` where the plain list has another one.
+/// Makes the offer, and tells the verdict; `?` where the plain list has another one, or where something else was to be shown.
 fn make_offer(
     alloc: Global,
     both: &mut Both,
@@ -134,23 +134,29 @@ fn make_offer(
 ) -> Result<(), AllocError> {
     let member = id_of(alloc, offer.member)?;
     let target = Wanted::new(Some(&offer.wanted), offer.epoch);
-    let verdict = grant(
-        alloc,
-        &mut both.grants,
-        &member,
-        &target,
-        offer.owned.as_ref(),
-    )?;
+    let owned = offer.owned.as_ref();
+    let shown = both
+        .grants
+        .shown_after(alloc, offer.member, &target, owned)?;
+    let verdict = grant(alloc, &mut both.grants, &member, &target, owned)?;
     let moves = list_moves(&both.list, offer);
     if moves {
         list_offer(alloc, &mut both.list, offer)?;
     }
-    let word = match (verdict, moves) {
-        (Verdict::Moves, true) => "moves ",
-        (Verdict::StillHolds, false) => "holds ",
+    let is_shown = is_held_of(&both.grants, offer, &shown);
+    let word = match (verdict, moves, is_shown) {
+        (Verdict::Moves, true, true) => "moves ",
+        (Verdict::StillHolds, false, true) => "holds ",
         _ => "? ",
     };
     out.push_str(word)
+}
+
+/// Whether the set is what the member may read of its target.
+fn is_held_of(grants: &Grants, offer: &Offer<'_>, set: &PartSet) -> bool {
+    let held = |p: &Partition| grants.holds(offer.member, p);
+    offer.wanted.iter().all(|p| set.contains(p) == held(p))
+        && set.iter().all(|p| offer.wanted.contains(p))
 }
 
 /// Offers its target to a member; no partition has an index below 0.

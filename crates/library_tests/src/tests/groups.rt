@@ -1,559 +1,314 @@
 //! Heartbeats at a group, with answers worked out by hand from KIP-848.
 
+use crate::tests::tables::{self, cut, part_words};
 use flex_wire::TaggedFields;
 use group_core::{
-    Group, HeartbeatRequest, Image, Moment, Outcome, PartSet, Reply, Stamp,
+    Group, HeartbeatRequest, Image, Moment, Outcome, PartSet, Partition, Reply, Stamp,
     first_joins_are_answered, heartbeats_have_one_answer,
 };
 use group_types::EpochNumber;
 use kip_msgs::{Array, TopicPartitions};
 use std::alloc::{AllocError, Global};
+use std::collections::hash_map::RandomState;
 use std::test::Fail;
 use topic_meta::TopicEntry;
 use uuid::Uuid;
 
-/// A heartbeat of the group `g` by the fields that matter here.
-#[derive(Clone, Copy)]
-struct Beat {
-    group: &'static str,
-    member: &'static str,
-    epoch: i32,
-    instance: Option<&'static str>,
-    timeout: i32,
-    names: Option<&'static [&'static str]>,
-    assignor: Option<&'static str>,
-    /// The indexes of one entry of TopicPartitions.
-    owned: Option<&'static [i32]>,
+/// A question begins with the epoch of a group that nobody has joined, over a topic `t` of two partitions. Its steps are
+/// parted by `; `, and step N has the stamp (1, N).
+///
+/// - `join ID TOPICS`, `join ID TOPICS ASSIGNOR`: a join; `-` is no id or no topic.
+/// - `beat ID EPOCH OWNED`: a heartbeat that reports these indexes of `t`, `-` for none of them, or nothing with `null`.
+/// - `leave ID`, `image COUNT`: a leave, and a topic that has grown.
+///
+/// The answer has for each heartbeat the error's name, `closes`, or the id, the member epoch and the partitions that are
+/// shown. Behind `|` stand the group epoch, the target's epoch and the number of members; for `a`, `b` and `c` the member epoch, the
+/// one before it and what the target has, `past` for a former member, or `-`; and for each partition its holder, and the epoch of the
+/// target under which it was granted.
+const GROUPS: &str = "
+0 = | 0 0 0 - - - - - -
+0; join a t = a@1:0,1 | 1 1 1 a@1/0:0,1 - - a@1 a@1 -
+41; join - t range = 00000000-0000-0000-0000-000000000001@42:0,1 | 42 42 1 - - - 00000000-0000-0000-0000-000000000001@42 00000000-0000-0000-0000-000000000001@42 -
+0; join a t; join b t = a@1:0,1 b@2:- | 2 2 2 a@1/0:1 b@2/0:0 - a@1 a@1 -
+0; join a t; join b t; beat a 1 null; beat a 1 1; beat b 2 null = a@1:0,1 b@2:- a@1:1 a@2:null b@2:0 | 2 2 2 a@2/1:1 b@2/0:0 - b@2 a@1 -
+0; join a t; join b t; beat a 1 0,1; beat a 1 0 = a@1:0,1 b@2:- a@1:1 a@1:null | 2 2 2 a@1/0:1 b@2/0:0 - a@1 a@1 -
+0; join a t; join b t; join a t; beat b 2 null = a@1:0,1 b@2:- a@2:1 b@2:0 | 2 2 2 a@2/1:1 b@2/0:0 - b@2 a@1 -
+0; join a t; beat a 2 null; beat b 1 null; beat a -3 null = a@1:0,1 FencedMemberEpoch UnknownMemberId InvalidRequest | 1 1 1 a@1/0:0,1 - - a@1 a@1 -
+0; join a t; join b t; leave a; beat b 2 null = a@1:0,1 b@2:- a@-1:null b@3:0,1 | 3 3 1 past b@3/2:0,1 - b@3 b@3 -
+0; join a t; leave a; join a t = a@1:0,1 a@-1:null a@3:0,1 | 3 3 1 a@3/0:0,1 - - a@3 a@3 -
+0; join a t; image 3; beat a 1 null = a@1:0,1 a@2:0,1,2 | 2 2 1 a@2/1:0,1,2 - - a@1 a@1 a@2
+0; join a -; join b t; join c t = a@1:- b@2:0,1 c@3:- | 3 3 3 a@1/0:- b@2/0:1 c@3/0:0 b@2 b@2 -
+0; join a t range; join b t = a@1:0,1 b@2:- | 2 2 2 a@1/0:0 b@2/0:1 - a@1 a@1 -
+0; join a t sticky; leave a = UnsupportedAssignor UnknownMemberId | 0 0 0 - - - - - -
+2147483646; join a t; join b t; leave a = a@2147483647:0,1 CoordinatorNotAvailable a@-1:null | 2147483647 2147483647 0 past - - - - -
+2147483646; join a t; beat a 2147483647 null; image 3; beat a 2147483647 null = a@2147483647:0,1 a@2147483647:null CoordinatorNotAvailable | 2147483647 2147483647 1 a@2147483647/0:0,1 - - a@2147483647 a@2147483647 -
+2147483647; join a t; join a t range; join a t sticky = CoordinatorNotAvailable CoordinatorNotAvailable UnsupportedAssignor | 2147483647 2147483647 0 - - - - - -
+";
+
+/// A group, and the image that its heartbeats meet.
+#[derive(Drop)]
+struct Told {
+    group: Group,
+    image: Image,
+    steps: u64,
 }
-
-/// A join that names the topic `t`.
-const JOIN: Beat = Beat {
-    group: "g",
-    member: "",
-    epoch: 0,
-    instance: None,
-    timeout: 60_000,
-    names: Some(&["t"]),
-    assignor: None,
-    owned: None,
-};
-
-/// Heartbeats at a group that nobody has joined, what each is answered, and what the group is after the last.
-struct Row {
-    name: &'static str,
-    /// The epoch of the group and of its target at first.
-    epoch: i32,
-    beats: &'static [(Beat, &'static str)],
-    group: &'static str,
-}
-
-const CLOSES: &str = "closes";
-
-const INVALID: &str = "InvalidRequest, member none, epoch 0, 0 ms, partitions none";
-
-const UNSUPPORTED: &str = "UnsupportedAssignor, member none, epoch 0, 0 ms, partitions none";
-
-const NOT_AVAILABLE: &str = "CoordinatorNotAvailable, member none, epoch 0, 0 ms, partitions none";
-
-const ACCEPTED: &str =
-    "NoError, member 00000000-0000-0000-0000-000000000001, epoch 1, 5000 ms, partitions 11:0 11:1.";
-
-const ACCEPTED_WITHOUT_PARTITIONS: &str =
-    "NoError, member 00000000-0000-0000-0000-000000000001, epoch 1, 5000 ms, partitions.";
-
-const ACCEPTED_AT_42: &str =
-    "NoError, member 00000000-0000-0000-0000-000000000001, epoch 42, 5000 ms, partitions 11:0 11:1.";
-
-const ACCEPTED_AT_THE_GREATEST: &str =
-    "NoError, member 00000000-0000-0000-0000-000000000001, epoch 2147483647, 5000 ms, partitions 11:0 11:1.";
-
-const NOBODY: &str = "epoch 0, target epoch 0, members 0; \
-    the first: epochs none, target none, granted none; t: epochs none, target none, granted none";
-
-const NOBODY_AT_THE_GREATEST: &str = "epoch 2147483647, target epoch 2147483647, members 0; \
-    the first: epochs none, target none, granted none; t: epochs none, target none, granted none";
-
-const FIRST: &str = "epoch 1, target epoch 1, members 1; \
-    the first: epochs 1 0, target 11:0 11:1, granted 11:0 11:1; t: epochs none, target none, granted none";
-
-const FIRST_WITHOUT_PARTITIONS: &str = "epoch 1, target epoch 1, members 1; \
-    the first: epochs 1 0, target none, granted none; t: epochs none, target none, granted none";
-
-const FIRST_AT_42: &str = "epoch 42, target epoch 42, members 1; \
-    the first: epochs 42 0, target 11:0 11:1, granted 11:0 11:1; t: epochs none, target none, granted none";
-
-const FIRST_AT_THE_GREATEST: &str = "epoch 2147483647, target epoch 2147483647, members 1; \
-    the first: epochs 2147483647 0, target 11:0 11:1, granted 11:0 11:1; t: epochs none, target none, granted none";
-
-static ROWS: [Row; 19] = [
-    Row {
-        name: "the first member owns all",
-        epoch: 0,
-        beats: &[(JOIN, ACCEPTED), (JOIN, CLOSES)],
-        group: FIRST,
-    },
-    Row {
-        name: "what is no first join closes",
-        epoch: 0,
-        beats: &[
-            (Beat { epoch: 3, ..JOIN }, CLOSES),
-            (Beat { epoch: -1, ..JOIN }, CLOSES),
-            (Beat { epoch: -2, ..JOIN }, CLOSES),
-            (Beat { epoch: -3, ..JOIN }, CLOSES),
-            (
-                Beat {
-                    member: "m",
-                    ..JOIN
-                },
-                CLOSES,
-            ),
-            (
-                Beat {
-                    instance: Some("i"),
-                    ..JOIN
-                },
-                CLOSES,
-            ),
-        ],
-        group: NOBODY,
-    },
-    Row {
-        name: "a member without names owns nothing",
-        epoch: 0,
-        beats: &[(
-            Beat {
-                names: Some(&[]),
-                ..JOIN
-            },
-            ACCEPTED_WITHOUT_PARTITIONS,
-        )],
-        group: FIRST_WITHOUT_PARTITIONS,
-    },
-    Row {
-        name: "the first member owns all under range",
-        epoch: 41,
-        beats: &[(
-            Beat {
-                assignor: Some("range"),
-                ..JOIN
-            },
-            ACCEPTED_AT_42,
-        )],
-        group: FIRST_AT_42,
-    },
-    Row {
-        name: "the first member owns all under uniform",
-        epoch: 41,
-        beats: &[(
-            Beat {
-                assignor: Some("uniform"),
-                ..JOIN
-            },
-            ACCEPTED_AT_42,
-        )],
-        group: FIRST_AT_42,
-    },
-    Row {
-        name: "the epoch rises to the greatest",
-        epoch: 2_147_483_646,
-        beats: &[(JOIN, ACCEPTED_AT_THE_GREATEST)],
-        group: FIRST_AT_THE_GREATEST,
-    },
-    Row {
-        name: "the epoch rises to the greatest under range",
-        epoch: 2_147_483_646,
-        beats: &[(
-            Beat {
-                assignor: Some("range"),
-                ..JOIN
-            },
-            ACCEPTED_AT_THE_GREATEST,
-        )],
-        group: FIRST_AT_THE_GREATEST,
-    },
-    Row {
-        name: "no epoch comes after the greatest",
-        epoch: 2_147_483_647,
-        beats: &[
-            (JOIN, NOT_AVAILABLE),
-            (
-                Beat {
-                    assignor: Some("range"),
-                    ..JOIN
-                },
-                NOT_AVAILABLE,
-            ),
-        ],
-        group: NOBODY_AT_THE_GREATEST,
-    },
-    Row {
-        name: "the request is checked before the epoch",
-        epoch: 2_147_483_647,
-        beats: &[
-            (
-                Beat {
-                    assignor: Some("sticky"),
-                    ..JOIN
-                },
-                UNSUPPORTED,
-            ),
-            (
-                Beat {
-                    assignor: Some("sticky"),
-                    timeout: -1,
-                    ..JOIN
-                },
-                INVALID,
-            ),
-        ],
-        group: NOBODY_AT_THE_GREATEST,
-    },
-    Row {
-        name: "a join says its timeout",
-        epoch: 0,
-        beats: &[
-            (
-                Beat {
-                    timeout: -1,
-                    ..JOIN
-                },
-                INVALID,
-            ),
-            (
-                Beat {
-                    timeout: -2,
-                    ..JOIN
-                },
-                INVALID,
-            ),
-        ],
-        group: NOBODY,
-    },
-    Row {
-        name: "a timeout may be 0",
-        epoch: 0,
-        beats: &[(Beat { timeout: 0, ..JOIN }, ACCEPTED)],
-        group: FIRST,
-    },
-    Row {
-        name: "a join names its group",
-        epoch: 0,
-        beats: &[(Beat { group: "", ..JOIN }, INVALID)],
-        group: NOBODY,
-    },
-    Row {
-        name: "a join says its topics",
-        epoch: 0,
-        beats: &[(
-            Beat {
-                names: None,
-                ..JOIN
-            },
-            INVALID,
-        )],
-        group: NOBODY,
-    },
-    Row {
-        name: "a join owns nothing",
-        epoch: 0,
-        beats: &[(
-            Beat {
-                owned: Some(&[0]),
-                ..JOIN
-            },
-            INVALID,
-        )],
-        group: NOBODY,
-    },
-    Row {
-        name: "an entry without indexes names no partition",
-        epoch: 0,
-        beats: &[(
-            Beat {
-                owned: Some(&[]),
-                ..JOIN
-            },
-            ACCEPTED,
-        )],
-        group: FIRST,
-    },
-    Row {
-        name: "assignors are range and uniform",
-        epoch: 0,
-        beats: &[
-            (
-                Beat {
-                    assignor: Some("sticky"),
-                    ..JOIN
-                },
-                UNSUPPORTED,
-            ),
-            (
-                Beat {
-                    assignor: Some(""),
-                    ..JOIN
-                },
-                UNSUPPORTED,
-            ),
-        ],
-        group: NOBODY,
-    },
-    Row {
-        name: "range is an assignor",
-        epoch: 0,
-        beats: &[(
-            Beat {
-                assignor: Some("range"),
-                ..JOIN
-            },
-            ACCEPTED,
-        )],
-        group: FIRST,
-    },
-    Row {
-        name: "uniform is an assignor",
-        epoch: 0,
-        beats: &[(
-            Beat {
-                assignor: Some("uniform"),
-                ..JOIN
-            },
-            ACCEPTED,
-        )],
-        group: FIRST,
-    },
-    Row {
-        name: "an invalid request is told before its assignor",
-        epoch: 0,
-        beats: &[(
-            Beat {
-                assignor: Some(""),
-                timeout: -1,
-                ..JOIN
-            },
-            INVALID,
-        )],
-        group: NOBODY,
-    },
-];
 
 #[test]
 fn heartbeats_are_answered(rt: HostRuntime) -> Result<(), Fail> {
     heartbeats_have_one_answer();
     first_joins_are_answered();
-    for row in &ROWS {
-        let alloc = rt.alloc();
-        let differing = differing(alloc, row).or_else(|_| differing(alloc, row))?;
-        assert_eq!(rt; differing.as_str(), "", "{}", row.name);
-    }
+    let wrong = wrong_rows(rt.alloc(), RandomState::new(&rt)?)?;
+    assert_eq!(rt; wrong.as_str(), "");
     Ok(())
 }
 
-/// Nothing where a row comes to what it says, else what it comes to and what it says.
-fn differing(alloc: Global, row: &Row) -> Result<String, AllocError> {
-    let mut text = said(alloc, row)?;
-    let expected = expected(alloc, row)?;
-    if text == expected {
-        text.clear();
-    } else {
-        write!(text, "\nin place of\n{expected}")?;
+/// The rows whose answer is another one, each with that answer.
+fn wrong_rows(alloc: Global, hasher: RandomState) -> Result<String, AllocError> {
+    let mut wrong = String::new(alloc);
+    for row in GROUPS.lines() {
+        let (question, wanted) = row.split_once(" = ").unwrap_or((row, row));
+        let answer = answer(alloc, hasher, question).or_else(|_| answer(alloc, hasher, question))?;
+        if answer.as_str() != wanted {
+            writeln!(wrong, "{question} = {answer}")?;
+        }
     }
-    Ok(text)
+    Ok(wrong)
 }
 
-/// The answers and the group that a row has, a line each.
-fn expected(alloc: Global, row: &Row) -> Result<String, AllocError> {
-    let mut text = String::new(alloc);
-    for (_, answer) in row.beats {
-        writeln!(text, "{answer}")?;
+/// What the steps are answered, and what the group then is.
+fn answer(alloc: Global, hasher: RandomState, question: &str) -> Result<String, AllocError> {
+    let mut out = String::new(alloc);
+    if question.is_empty() {
+        return Ok(out);
     }
-    text.push_str(row.group)?;
-    Ok(text)
+    let (epoch, steps) = question.split_once("; ").unwrap_or((question, ""));
+    let mut told = new_told(alloc, hasher, tables::number(epoch))?;
+    for step in steps.split("; ").filter(|step| !step.is_empty()) {
+        take_step(alloc, &mut told, step, &mut out)?;
+    }
+    part_words(&mut out)?;
+    out.push('|')?;
+    tell_group(&told.group, &mut out)?;
+    Ok(out)
 }
 
-/// What the row's heartbeats are answered, and what the group then is, a line each.
-fn said(alloc: Global, row: &Row) -> Result<String, AllocError> {
-    let image = image(alloc)?;
-    let epoch = EpochNumber::of_i32(row.epoch).unwrap_or(EpochNumber::zero());
-    let mut group = Group::starting_at(alloc, 0, epoch);
-    let mut text = String::new(alloc);
-    for (beat, _) in row.beats {
-        put_answer(alloc, &mut group, beat, &image, &mut text)?;
-    }
-    put_group(&mut text, &group)?;
-    Ok(text)
+fn new_told(alloc: Global, hasher: RandomState, epoch: i32) -> Result<Told, AllocError> {
+    let epoch = EpochNumber::of_i32(epoch).unwrap_or(EpochNumber::zero());
+    Ok(Told {
+        group: Group::starting_at(alloc, 0, hasher, epoch),
+        image: image_of(alloc, 2)?,
+        steps: 0,
+    })
 }
 
-/// An image of one topic `t` of two partitions, whose id is sixteen bytes 0x11.
-fn image(alloc: Global) -> Result<Image, AllocError> {
+/// An image of the topic `t`, whose id is sixteen bytes 0x11.
+fn image_of(alloc: Global, count: i32) -> Result<Image, AllocError> {
     let topic = TopicEntry {
         name: String::from_str(alloc, "t")?,
-        id: Uuid::from_bytes([0x11; 16]),
-        count: 2,
+        id: topic_id(),
+        count,
     };
     let mut topics = Vec::new(alloc);
     topics.push(topic)?;
     Image::of(alloc, topics).map_err(|_| AllocError)
 }
 
-/// Puts what a heartbeat is answered.
-fn put_answer(
+fn topic_id() -> Uuid {
+    Uuid::from_bytes([0x11; 16])
+}
+
+fn take_step(
     alloc: Global,
-    group: &mut Group,
-    beat: &Beat,
-    image: &Image,
-    text: &mut String,
+    told: &mut Told,
+    step: &str,
+    out: &mut String,
 ) -> Result<(), AllocError> {
-    let request = request_of(alloc, beat)?;
-    let outcome = answer(alloc, group, &request, image, text)?;
-    put_outcome(text, &outcome)
-}
-
-fn put_outcome(text: &mut String, outcome: &Outcome) -> Result<(), AllocError> {
-    match outcome {
-        Outcome::Closes => text.push_str("closes\n"),
-        Outcome::Replied(reply) => put_reply(text, reply),
+    told.steps = told.steps.saturating_add(1);
+    let (verb, words) = cut(step);
+    if verb == "image" {
+        told.image = image_of(alloc, tables::number(words))?;
+        return Ok(());
     }
+    let request = request_of(alloc, verb, words)?;
+    let mut frame = Vec::new(alloc);
+    let outcome = heartbeat(alloc, told, &request, &mut frame, out)?;
+    part_words(out)?;
+    tell_outcome(&outcome, out)
 }
 
-/// The message of a heartbeat.
-fn request_of<'a>(alloc: Global, beat: &Beat) -> Result<HeartbeatRequest<'a>, AllocError> {
-    let names = names_of(alloc, beat.names)?;
-    Ok(HeartbeatRequest {
-        group_id: beat.group,
-        member_id: beat.member,
-        member_epoch: beat.epoch,
-        instance_id: beat.instance,
-        rack_id: None,
-        rebalance_timeout_ms: beat.timeout,
-        subscribed_topic_names: names,
-        server_assignor: beat.assignor,
-        topic_partitions: owned_of(alloc, beat.owned)?,
-        tags: TaggedFields::new(alloc),
-    })
-}
-
-fn names_of<'a>(
+/// The request of a step: all fields that are not said are null, and the timeout of a join is 60,000 ms.
+fn request_of<'a>(
     alloc: Global,
-    names: Option<&[&'a str]>,
-) -> Result<Option<Array<&'a str>>, AllocError> {
-    let Some(names) = names else {
-        return Ok(None);
-    };
-    let mut given = Array::new(alloc);
-    for name in names {
-        given.push(*name)?;
+    verb: &str,
+    words: &'a str,
+) -> Result<HeartbeatRequest<'a>, AllocError> {
+    let (id, words) = cut(words);
+    let empty = empty_request(alloc, if id == "-" { "" } else { id });
+    let (first, second) = cut(words);
+    match verb {
+        "join" => Ok(HeartbeatRequest {
+            rebalance_timeout_ms: 60_000,
+            subscribed_topic_names: Some(names_of(alloc, first)?),
+            server_assignor: Some(second).filter(|name| !name.is_empty()),
+            ..empty
+        }),
+        "beat" => Ok(HeartbeatRequest {
+            member_epoch: tables::number(first),
+            topic_partitions: owned_of(alloc, second)?,
+            ..empty
+        }),
+        _ => Ok(HeartbeatRequest {
+            member_epoch: -1,
+            ..empty
+        }),
     }
-    Ok(Some(given))
+}
+
+fn empty_request<'a>(alloc: Global, id: &'a str) -> HeartbeatRequest<'a> {
+    HeartbeatRequest {
+        group_id: "g",
+        member_id: id,
+        member_epoch: 0,
+        instance_id: None,
+        rack_id: None,
+        rebalance_timeout_ms: -1,
+        subscribed_topic_names: None,
+        server_assignor: None,
+        topic_partitions: None,
+        tags: TaggedFields::new(alloc),
+    }
+}
+
+fn names_of<'a>(alloc: Global, words: &'a str) -> Result<Array<&'a str>, AllocError> {
+    let mut names = Array::new(alloc);
+    for name in words.split(',').filter(|name| *name != "-") {
+        names.push(name)?;
+    }
+    Ok(names)
 }
 
 fn owned_of<'a>(
     alloc: Global,
-    indexes: Option<&[i32]>,
+    words: &str,
 ) -> Result<Option<Array<TopicPartitions<'a>>>, AllocError> {
-    let Some(indexes) = indexes else {
+    if words == "null" {
         return Ok(None);
-    };
+    }
     let mut partitions = Array::new(alloc);
-    for index in indexes {
-        partitions.push(*index)?;
+    for index in words.split(',').filter(|index| *index != "-") {
+        partitions.push(tables::number(index))?;
     }
     let mut list = Array::new(alloc);
     list.push(TopicPartitions {
-        topic_id: Uuid::from_bytes([0x11; 16]),
+        topic_id: topic_id(),
         partitions,
         tags: TaggedFields::new(alloc),
     })?;
     Ok(Some(list))
 }
 
-/// What a group answers. Where a growth is refused nothing may have changed, and the heartbeat is sent once more.
-fn answer(
+/// What the group answers. Where a growth is refused nothing may have changed, and the heartbeat is sent once more.
+fn heartbeat<'a>(
     alloc: Global,
-    group: &mut Group,
-    request: &HeartbeatRequest<'_>,
-    image: &Image,
-    text: &mut String,
-) -> Result<Outcome, AllocError> {
+    told: &mut Told,
+    request: &HeartbeatRequest<'a>,
+    frame: &mut Vec<u8>,
+    out: &mut String,
+) -> Result<Outcome<'a>, AllocError> {
     let stamp = Stamp {
         connection: 1,
-        frame: 1,
+        frame: told.steps,
     };
     let now = Moment::of_millis(7);
-    let before = (group.epoch(), group.target().epoch(), group.members());
-    if let Ok(outcome) = group.heartbeat(alloc, request, stamp, now, image) {
+    let before = numbers_of(&told.group);
+    if let Ok(outcome) = told
+        .group
+        .heartbeat(alloc, request, stamp, now, &told.image, frame)
+    {
         return Ok(outcome);
     }
-    if before != (group.epoch(), group.target().epoch(), group.members()) {
-        text.push_str("a refused growth has changed the group\n")?;
+    if before != numbers_of(&told.group) {
+        out.push_str("a refused growth has changed the group")?;
     }
-    group.heartbeat(alloc, request, stamp, now, image)
+    told.group
+        .heartbeat(alloc, request, stamp, now, &told.image, frame)
 }
 
-fn put_reply(text: &mut String, reply: &Reply) -> Result<(), AllocError> {
-    let member = match &reply.member {
-        Some(member) => member.as_str(),
-        None => "none",
+fn numbers_of(group: &Group) -> (u32, u32, usize) {
+    let target = group.target().epoch();
+    (group.epoch().as_u32(), target.as_u32(), group.members())
+}
+
+fn tell_outcome(outcome: &Outcome<'_>, out: &mut String) -> Result<(), AllocError> {
+    match outcome {
+        Outcome::Closes => out.push_str("closes"),
+        Outcome::Replied(reply) => tell_reply(reply, out),
+    }
+}
+
+fn tell_reply(reply: &Reply<'_>, out: &mut String) -> Result<(), AllocError> {
+    let Some(member) = &reply.member else {
+        return write!(out, "{:?}", reply.code);
     };
-    let (code, epoch, interval) = (reply.code, reply.epoch, reply.interval);
-    write!(
-        text,
-        "{code:?}, member {member}, epoch {epoch}, {interval} ms, partitions"
-    )?;
+    write!(out, "{}@{}:", member.as_str(), reply.epoch)?;
     match &reply.assignment {
-        Some(set) => {
-            put_set(text, set)?;
-            text.push_str(".\n")
-        }
-        None => text.push_str(" none\n"),
+        Some(shown) => tell_set(Some(shown.set()), out),
+        None => out.push_str("null"),
     }
 }
 
-/// Puts a group's numbers, and what it has for the first member and for one that it never has.
-pub(super) fn put_group(text: &mut String, group: &Group) -> Result<(), AllocError> {
-    let (epoch, members) = (group.epoch().as_u32(), group.members());
-    let target = group.target().epoch().as_u32();
-    write!(
-        text,
-        "epoch {epoch}, target epoch {target}, members {members}; the first: "
-    )?;
-    put_member(text, group, "00000000-0000-0000-0000-000000000001")?;
-    text.push_str("; t: ")?;
-    put_member(text, group, "t")
-}
-
-fn put_member(text: &mut String, group: &Group, id: &str) -> Result<(), AllocError> {
-    put_epochs(text, group, id)?;
-    text.push_str(", target")?;
-    put_partitions(text, group.target().of(id).set())?;
-    text.push_str(", granted")?;
-    put_partitions(text, group.granted(id))
-}
-
-/// Puts the epoch of a member, and the one before it.
-fn put_epochs(text: &mut String, group: &Group, id: &str) -> Result<(), AllocError> {
-    let Some((epoch, previous)) = group.epochs(id) else {
-        return text.push_str("epochs none");
+/// The indexes of a set, or `-` where there are none.
+fn tell_set(set: Option<&PartSet>, out: &mut String) -> Result<(), AllocError> {
+    let Some(set) = set.filter(|set| !set.is_empty()) else {
+        return out.push('-');
     };
-    match epoch.number() {
-        Some(epoch) => write!(text, "epochs {} {}", epoch.as_u32(), previous.as_u32()),
-        None => text.push_str("away"),
-    }
-}
-
-/// Puts the partitions of a set that may be empty or not there.
-fn put_partitions(text: &mut String, set: Option<&PartSet>) -> Result<(), AllocError> {
-    match set {
-        Some(set) if !set.is_empty() => put_set(text, set),
-        _ => text.push_str(" none"),
-    }
-}
-
-/// Puts partitions, each by the first byte of its topic's id and its index.
-fn put_set(text: &mut String, set: &PartSet) -> Result<(), AllocError> {
     for part in set.iter() {
-        let topic = part.topic.as_bytes()[0];
-        write!(text, " {topic:02x}:{}", part.index)?;
+        if out.as_str().ends_with(|last: char| last.is_ascii_digit()) {
+            out.push(',')?;
+        }
+        write!(out, "{}", part.index)?;
     }
     Ok(())
+}
+
+/// Tells what the group is.
+pub(super) fn tell_group(group: &Group, out: &mut String) -> Result<(), AllocError> {
+    let (epoch, target, members) = numbers_of(group);
+    write!(out, " {epoch} {target} {members}")?;
+    for id in ["a", "b", "c"] {
+        out.push(' ')?;
+        tell_member(group, id, out)?;
+    }
+    for index in 0..3 {
+        out.push(' ')?;
+        tell_partition(group, index, out)?;
+    }
+    Ok(())
+}
+
+fn tell_member(group: &Group, id: &str, out: &mut String) -> Result<(), AllocError> {
+    let Some((epoch, previous)) = group.epochs(id) else {
+        return out.push_str(if group.remembers(id) { "past" } else { "-" });
+    };
+    let epoch = epoch.number().unwrap_or(EpochNumber::zero()).as_u32();
+    write!(out, "{id}@{epoch}/{}:", previous.as_u32())?;
+    tell_set(group.target().of(id).set(), out)
+}
+
+/// Who may read the partition, and since when; `?` where the member's own set doesn't have it.
+fn tell_partition(group: &Group, index: i32, out: &mut String) -> Result<(), AllocError> {
+    let part = Partition {
+        topic: topic_id(),
+        index,
+    };
+    let grants = group.grants();
+    match (grants.holder(&part), grants.granted_at(&part)) {
+        (Some(id), Some(since)) => {
+            let known = group.granted(id).is_some_and(|set| set.contains(&part));
+            let mark = if known { "" } else { "?" };
+            write!(out, "{mark}{id}@{}", since.as_u32())
+        }
+        (None, None) => out.push('-'),
+        _ => out.push('?'),
+    }
 }

@@ -1,6 +1,6 @@
 //! Frames at a node, and replies worked out by hand from the Kafka protocol guide and KIP-848.
 
-use super::groups::put_group;
+use super::groups::tell_group;
 use coord_node::{Answered, Image, Moment, Node, NodeEvent, Stamp, one_answer, path_is_answered};
 use std::alloc::{AllocError, Global};
 use std::collections::VecDeque;
@@ -49,15 +49,24 @@ const INVALID: &[u8] =
 
 const NO_GROUP: &str = "no group g";
 
-const FIRST: &str = "epoch 1, target epoch 1, members 1; \
-    the first: epochs 1 0, target 11:0 11:1, granted 11:0 11:1; t: epochs none, target none, granted none";
+/// The frame that answers a second join beside the first member: member id 2, epoch 2, and no partition yet.
+const SECOND: &[u8] = b"\x00\x00\x00\x3d\x00\x00\x00\x07\x00\x00\x00\x00\x00\x00\x00\x00\
+\x2500000000-0000-0000-0000-000000000002\x00\x00\x00\x02\x00\x00\x13\x88\x01\x01\x00\x00";
+
+/// The group's epoch, its target's, its members, none of them named, and the holders of both partitions.
+const FIRST: &str =
+    " 1 1 1 - - - 00000000-0000-0000-0000-000000000001@1 00000000-0000-0000-0000-000000000001@1 -";
+
+const BOTH: &str =
+    " 2 2 2 - - - 00000000-0000-0000-0000-000000000001@1 00000000-0000-0000-0000-000000000001@1 -";
 
 /// Bodies that come to a node over the topic `t` of two partitions, what becomes of each, the bytes that are appended,
 /// and what the group `g` is then.
 struct Row {
     name: &'static str,
     bodies: &'static [(&'static [u8], Answered)],
-    out: &'static [u8],
+    /// The frames that are appended.
+    out: &'static [&'static [u8]],
     group: &'static str,
 }
 
@@ -65,31 +74,31 @@ static ROWS: [Row; 5] = [
     Row {
         name: "a first join makes the group",
         bodies: &[(JOIN, Answered::Replied)],
-        out: REPLY,
+        out: &[REPLY],
         group: FIRST,
     },
     Row {
         name: "a join of a group that is there",
-        bodies: &[(JOIN, Answered::Replied), (JOIN, Answered::Closes)],
-        out: REPLY,
-        group: FIRST,
+        bodies: &[(JOIN, Answered::Replied), (JOIN, Answered::Replied)],
+        out: &[REPLY, SECOND],
+        group: BOTH,
     },
     Row {
         name: "a commit closes and changes nothing",
         bodies: &[(JOIN, Answered::Replied), (COMMIT, Answered::Closes)],
-        out: REPLY,
+        out: &[REPLY],
         group: FIRST,
     },
     Row {
         name: "a commit of a group that isn't there",
         bodies: &[(COMMIT, Answered::Closes)],
-        out: b"",
+        out: &[],
         group: NO_GROUP,
     },
     Row {
         name: "a refused join makes no group",
         bodies: &[(JOIN_WITHOUT_NAMES, Answered::Replied)],
-        out: INVALID,
+        out: &[INVALID],
         group: NO_GROUP,
     },
 ];
@@ -125,7 +134,11 @@ fn expected(alloc: Global, row: &Row) -> Result<String, AllocError> {
     for (_, answered) in row.bodies {
         writeln!(text, "{answered:?}")?;
     }
-    writeln!(text, "{:?}", row.out)?;
+    let mut out = Vec::new(alloc);
+    for frame in row.out {
+        out.extend_from_slice(frame)?;
+    }
+    writeln!(text, "{:?}", out.as_slice())?;
     text.push_str(row.group)?;
     Ok(text)
 }
@@ -164,7 +177,7 @@ fn put_answers(
 fn put_node(text: &mut String, node: &Node, out: &[u8]) -> Result<(), AllocError> {
     writeln!(text, "{out:?}")?;
     match node.group("g") {
-        Some(group) => put_group(text, group),
+        Some(group) => tell_group(group, text),
         None => text.push_str(NO_GROUP),
     }
 }
@@ -190,14 +203,19 @@ fn answer(
     text: &mut String,
 ) -> Result<Answered, AllocError> {
     let now = Moment::of_millis(0);
-    let before = (out.len(), node.group("g").is_some());
+    let before = (out.len(), members_of(node));
     if let Ok(answered) = node.answer(alloc, body, STAMP, now, out) {
         return Ok(answered);
     }
-    if before != (out.len(), node.group("g").is_some()) {
+    if before != (out.len(), members_of(node)) {
         text.push_str("a refused growth has changed the node\n")?;
     }
     node.answer(alloc, body, STAMP, now, out)
+}
+
+/// How many members the group has, where it is there.
+fn members_of(node: &Node) -> Option<usize> {
+    node.group("g").map(|group| group.members())
 }
 
 #[test]
@@ -249,13 +267,21 @@ fn events_are_taken_in_their_order(rt: HostRuntime) -> Result<(), Fail> {
     Ok(())
 }
 
-/// Whether a node takes all events and appends the one reply.
+/// Whether a node takes all events, appends both replies, and remembers the first member alone of those that are asked for.
 fn are_taken(alloc: Global, hasher: RandomState) -> Result<bool, AllocError> {
     let mut events = events(alloc)?;
     let mut node = Node::new(alloc, 0, hasher);
     let mut out = Vec::new(alloc);
     let is_sound = run(alloc, &mut node, &mut events, &mut out)?;
-    Ok(is_sound && events.is_empty() && node.group("g").is_some() && out.as_slice() == REPLY)
+    let is_known = node.remembers("g", "00000000-0000-0000-0000-000000000001")
+        && !node.remembers("g", "x")
+        && !node.remembers("h", "00000000-0000-0000-0000-000000000001");
+    Ok(is_sound && is_known && events.is_empty() && are_both(out.as_slice()))
+}
+
+/// Whether these are the replies to two joins.
+fn are_both(out: &[u8]) -> bool {
+    out.len() == REPLY.len() + SECOND.len() && out.starts_with(REPLY) && out.ends_with(SECOND)
 }
 
 /// The image of topic `t` of two partitions, and then a join twice.
@@ -287,8 +313,8 @@ fn run(
     if node.run(alloc, events, out).is_ok() {
         return Ok(true);
     }
-    let left = if out.is_empty() { 2 } else { 1 };
-    let is_sound = events.len() == left && node.group("g").is_some() == (left == 1);
+    let left = events.len();
+    let members = members_of(node).unwrap_or(0);
     node.run(alloc, events, out)?;
-    Ok(is_sound)
+    Ok(left >= 1 && members.saturating_add(left.min(2)) == 2)
 }
