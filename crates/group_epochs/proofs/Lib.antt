@@ -5,3 +5,6 @@ pub mod Tabled
 pub mod Others
 pub mod Ordered
 pub mod Ranked
+pub mod Earliest
+pub mod Counted
+pub mod Listed

@@ -11,13 +11,13 @@ use Rattle.std.proofs.Math.ListN.{length-map}
 use Rattle.std.proofs.Math.Seq.{get_or-append_seam}
 use Rattle.std.proofs.lemmas.List.Folds.{list_any-append}
 use Rattle.std.proofs.lemmas.List.Sorted.{IsPermutation-insert, IsPermutation-swap_remove, list_any-IsPermutation}
-use Rattle.std.proofs.lemmas.Map.Keys.{IsDistinct-head, IsDistinct-IsPermutation}
+use Rattle.std.proofs.lemmas.Map.Keys.{IsDistinct-head, IsDistinct-IsPermutation, IsDistinct-tail}
 use Rattle.std.proofs.lemmas.Option.{slice_get-get_or, get_or_from_slice_get}
 use Rattle.indexmap.proofs.SetLemmas.{map-insert}
 use Rattle.group_types.specs.Text.{Text, text_cmp}
 use Rattle.group_types.specs.Sets.{has, of_list}
 use Rattle.group_types.proofs.BoolLemmas.{taken_away}
-use Rattle.group_types.proofs.Lookups.{same_text}
+use Rattle.group_types.proofs.Lookups.{same_text, text_ties}
 use Rattle.group_types.proofs.Orders.{text_cmp_total, text_cmp-IsAntisymmetric}
 use Rattle.group_types.proofs.RisingLists.{absent-gap, found-search, gap-search, of_list-remove, sorted-insert, sorted-remove, there-found}
 use Rattle.group_types.proofs.SetLemmas.{has-of_list, has-without}
@@ -157,12 +157,73 @@ others_differ (t ∷ ts) zero rise within = weaker (λ y. text_cmp t y ≡ Less)
 others_differ (t ∷ ts) (suc r) rise within =
     (λ same. less_differs t (get_or ts r []) (at_place (λ y. text_cmp t y ≡ Less) ts r [] (omega (arith, within)) rise.0) same, others_differ ts r rise.1 (omega (arith, within)))
 
+-- a place is at one rank alone
+others_elsewhere : (texts : List Text) (places : List ℕ) → IsIdOrder texts places → (r p : ℕ) → r < length places → p ≡ get_or places r 0 → AllByRecursion (λ k. k ≢ p) (remove places r)
+others_elsewhere texts places order r p here is =
+    let long = length-map places (text_at texts) in
+    let text_here : get_or (texts_at texts places) r [] ≡ text_at texts p = get_or-map (text_at texts) places r 0 [] here ∙ ap (text_at texts) (sym is) in
+    weaker (λ k. text_at texts k ≢ get_or (texts_at texts places) r []) (λ k. k ≢ p) (λ k other same. other (ap (text_at texts) same ∙ sym text_here)) (remove places r)
+    (of-map (λ t. t ≢ get_or (texts_at texts places) r []) (text_at texts) (remove places r)
+    (subst (AllByRecursion (λ t. t ≢ get_or (texts_at texts places) r [])) (map-remove (text_at texts) places r) (others_differ (texts_at texts places) r order.rise (omega (arith, long, here)))))
+
 none_tied : (m : Text) (ts : List Text) → AllByRecursion (λ t. eq_by_cmp text_cmp m t ≡ false) ts → list_any (eq_by_cmp text_cmp m) ts ≡ false
 none_tied m [] none = refl
 none_tied m (t ∷ ts) none = ap (λ b. b || list_any (eq_by_cmp text_cmp m) ts) none.0 ∙ none_tied m ts none.1
 
 is_itself : (k : ℕ) → (k == k) ≡ true
 is_itself k = (Decides-eqb k k).1 refl
+
+-- a text that stands at a place is there
+pub held_there : (texts : List Text) (p : ℕ) (m : Text) → p < length texts → text_at texts p ≡ m → list_any (eq_by_cmp text_cmp m) texts ≡ true
+held_there [] p m within is = absurd (omega (arith, within))
+held_there (t ∷ ts) zero m within is = ap (λ b. b || list_any (eq_by_cmp text_cmp m) ts) (ap (eq_by_cmp text_cmp m) is ∙ text_ties m)
+held_there (t ∷ ts) (suc p) m within is = ap (λ b. eq_by_cmp text_cmp m t || b) (held_there ts p m (omega (arith, within)) is) ∙ or_true (eq_by_cmp text_cmp m t)
+  where
+    or_true : (b : Bool) → (b || true) ≡ true
+    or_true true = refl
+    or_true false = refl
+
+-- a text that differs from all others is at one place alone
+head_apart : (t : Text) (ts : List Text) → IsDistinct (eq_by_cmp text_cmp) (t ∷ ts) → (j : ℕ) → j < length ts → t ≡ text_at ts j → ⊥
+head_apart t ts distinct j within same =
+    true≢false (sym (text_ties t) ∙ ap (eq_by_cmp text_cmp t) same ∙ at_place (λ y. eq_by_cmp text_cmp t y ≡ false) ts j [] within (IsDistinct-head (eq_by_cmp text_cmp) t ts distinct))
+
+same_place : (texts : List Text) → IsDistinct (eq_by_cmp text_cmp) texts → (i j : ℕ) → i < length texts → j < length texts → text_at texts i ≡ text_at texts j → i ≡ j
+same_place [] distinct i j in_i in_j same = absurd (omega (arith, in_i))
+same_place (t ∷ ts) distinct zero zero in_i in_j same = refl
+same_place (t ∷ ts) distinct zero (suc j) in_i in_j same = absurd (head_apart t ts distinct j (omega (arith, in_j)) same)
+same_place (t ∷ ts) distinct (suc i) zero in_i in_j same = absurd (head_apart t ts distinct i (omega (arith, in_i)) (sym same))
+same_place (t ∷ ts) distinct (suc i) (suc j) in_i in_j same =
+    ap suc (same_place ts (IsDistinct-tail (eq_by_cmp text_cmp) t ts distinct) i j (omega (arith, in_i)) (omega (arith, in_j)) same)
+
+other_number : (last to k : ℕ) → k ≢ last → renumbered last to k ≡ k
+other_number last to k other =
+    elim (k == last) as (λ b. (k == last) ≡ b → cond b to k ≡ k) [
+      | true ↦ λ so. absurd (other ((Decides-eqb k last).0 so))
+      | false ↦ λ so. refl
+    ] refl
+
+others_stay : (last to : ℕ) (ks : List ℕ) → AllByRecursion (λ k. k ≢ last) ks → map (renumbered last to) ks ≡ ks
+others_stay last to [] other = refl
+others_stay last to (k ∷ ks) other = λ i. other_number last to k other.0 i ∷ others_stay last to ks other.1 i
+
+one_renumbered : (last to : ℕ) (places : List ℕ) (r : ℕ) → r < length places → get_or places r 0 ≡ last → AllByRecursion (λ k. k ≢ last) (remove places r) → set places r to ≡ map (renumbered last to) places
+one_renumbered last to [] r here is other = absurd (omega (arith, here))
+one_renumbered last to (k ∷ ks) zero here is other =
+    let own : renumbered last to k ≡ to = ap (renumbered last to) is ∙ ap (λ b. cond b to last) (is_itself last) in
+    λ i. sym own i ∷ sym (others_stay last to ks other) i
+one_renumbered last to (k ∷ ks) (suc r) here is other =
+    λ i. sym (other_number last to k other.0) i ∷ one_renumbered last to ks r (omega (arith, here)) is other.1 i
+
+-- to write another number at the rank of a text is to renumber its place
+pub rank_renumbered : (texts : List Text) (places : List ℕ) (m : Text) (r last to : ℕ) → IsIdOrder texts places → IsDistinct (eq_by_cmp text_cmp) texts
+    → IsRank texts places m (Ok r) → last < length texts → text_at texts last ≡ m → set places r to ≡ map (renumbered last to) places
+rank_renumbered texts places m r last to order distinct rank within named =
+    let p = get_or places r 0 in
+    let there = rank_place texts places m r p order rank (sym (get_or_default places r p 0 rank.0)) in
+    let at_end : p ≡ last = same_place texts distinct p last there.0 within (there.1 ∙ sym named) in
+    one_renumbered last to places r rank.0 at_end
+    (subst (λ n. AllByRecursion (λ k. k ≢ n) (remove places r)) at_end (others_elsewhere texts places order r p rank.0 refl))
 
 module _ (texts : List Text) (places : List ℕ) (order : IsIdOrder texts places) (distinct : IsDistinct (eq_by_cmp text_cmp) texts) (r p : ℕ) (m : Text)
     (here : r < length places) (is : p ≡ get_or places r 0) (named : m ≡ text_at texts p) where
@@ -230,9 +291,7 @@ module _ (texts : List Text) (places : List ℕ) (order : IsIdOrder texts places
   rest_known : AllByRecursion (λ k. (k < length texts) × (k ≢ p)) (remove places r)
   rest_known =
       both (λ k. k < length texts) (λ k. k ≢ p) (remove places r) (all-remove (λ k. k < length texts) places r order.within)
-      (weaker (λ k. text_at texts k ≢ get_or (texts_at texts places) r []) (λ k. k ≢ p) (λ k other same. other (ap (text_at texts) same ∙ sym named ∙ sym text_here)) (remove places r)
-      (of-map (λ t. t ≢ get_or (texts_at texts places) r []) (text_at texts) (remove places r)
-      (subst (AllByRecursion (λ t. t ≢ get_or (texts_at texts places) r [])) (map-remove (text_at texts) places r) (others_differ (texts_at texts places) r order.rise long_texts))))
+      (others_elsewhere texts places order r p here is)
 
   texts_without : texts_at fewer (map (renumbered (length texts - 1) p) (remove places r)) ≡ remove (texts_at texts places) r
   texts_without =

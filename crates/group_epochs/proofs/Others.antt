@@ -1,7 +1,7 @@
 -- The rows of others than a member: what their records are beside it, in which order the records stand, and who is apart.
-use Rattle.std.proofs.Common.{◌≡◌, ◌+◌, Bool, true, false, cond, not, ◌||◌, Option, Some, None, is_some, List, [], ◌∷◌, length, map, get_or, String, refl, sym, ap, subst, ◌∙◌, true≢false, inl, inr, arith}
+use Rattle.std.proofs.Common.{◌≡◌, ◌+◌, Bool, true, false, cond, not, Option, Some, None, is_some, List, [], ◌∷◌, length, map, get_or, String, refl, sym, ap, subst, ◌∙◌, true≢false, inl, inr, arith}
 use Rattle.std.specs.Prelude.{string_bytes, IsPermutation}
-use Rattle.std.specs.List.{AllByRecursion, IsDistinct, list_any}
+use Rattle.std.specs.List.{AllByRecursion, IsDistinct}
 use Rattle.std.specs.Map.{keys_of, lookup}
 use Rattle.std.specs.Ordering.{eq_by_cmp, is_eq}
 use Rattle.std.specs.declared.cmp.Ordering.TheVariants.{Less, Equal, Greater}
@@ -13,7 +13,7 @@ use Rattle.std.specs.FinMap.Entries.{by_order}
 use Rattle.std.proofs.lemmas.Bool.{cases_order}
 use Rattle.std.proofs.lemmas.List.{get_or-map, nil_from_length}
 use Rattle.std.proofs.Math.ListN.{length-map}
-use Rattle.std.proofs.lemmas.List.Sorted.{IsPermutation-cons, IsPermutation-map, IsPermutation-middle, IsPermutation-refl, IsPermutation-sym, IsPermutation-trans, list_any-IsPermutation}
+use Rattle.std.proofs.lemmas.List.Sorted.{IsPermutation-cons, IsPermutation-map, IsPermutation-middle, IsPermutation-refl, IsPermutation-sym, IsPermutation-trans}
 use Rattle.std.proofs.lemmas.Map.{NonePasses, lookup-none}
 use Rattle.std.proofs.lemmas.Map.Entries.{lookup-filter-keys}
 use Rattle.std.proofs.lemmas.Map.Keys.{IsDistinct-head, IsDistinct-tail, apart_from_distinct}
@@ -21,17 +21,13 @@ use Rattle.std.proofs.lemmas.Map.Made.{IsDistinct-keys_filter}
 use Rattle.std.proofs.lemmas.Option.{slice_get_within, get_or_from_slice_get}
 use Rattle.std.proofs.lemmas.Slice.Eq.{bytes_eq-Decides}
 use Rattle.group_types.specs.Text.{Text, text_cmp}
-use Rattle.group_types.specs.Sets.{has, union}
-use Rattle.group_types.specs.Topics.{Names, Topics}
 use Rattle.group_types.specs.Assignors.{IdsAreApart, Subscriber}
 use Rattle.group_types.specs.Group.{Record, Records}
-use Rattle.group_types.specs.Renewal.{is_subscribed, subscriber_of, view_for}
-use Rattle.group_types.proofs.BoolLemmas.{or_group}
+use Rattle.group_types.specs.Renewal.{subscriber_of}
 use Rattle.group_types.proofs.Lookups.{Tie, ties, differs, tie, not_none, some_is, text_ties}
 use Rattle.group_types.proofs.Orders.{text_cmp_total}
-use Rattle.group_types.proofs.SetLemmas.{has-union}
 use Rattle.group_epochs.specs.Seen.{is_instance, seen_as}
-use Rattle.group_epochs.specs.Table.{first_with, others, records_in, seen_of, texts_in, with_names_of}
+use Rattle.group_epochs.specs.Table.{first_with, others, records_in, seen_of, texts_in}
 use Rattle.group_epochs.specs.declared.entry.Entry.{Entry}
 use Rattle.group_epochs.proofs.Rows.{get-records_in, inserted, kept_in, removed, tied_bytes, tied_bytes_turned}
 
@@ -53,12 +49,12 @@ put_moves k v (e ∷ es) none =
           (IsPermutation-cons e ((k, v) ∷ es) (put text_cmp k v es) (put_moves k v es (sym (ap (λ r. cond (is_eq r) (Some e.1) (find text_cmp k es)) is) ∙ none)))
     ] refl
 
-insert_moves : (s : Records) (k : Text) (v : Record) → finite.get s k ≡ None → IsPermutation ((k, v) ∷ finite.entries s) (finite.entries (finite.insert s k v))
+pub insert_moves : (s : Records) (k : Text) (v : Record) → finite.get s k ≡ None → IsPermutation ((k, v) ∷ finite.entries s) (finite.entries (finite.insert s k v))
 insert_moves s k v none =
     subst (IsPermutation ((k, v) ∷ finite.entries s)) (sym (finite.entries-insert text_cmp_total s k v))
     (put_moves k v (finite.entries s) (sym (finite.get-entries s k) ∙ none))
 
-no_entries : finite.entries (finite.empty {X = Record} {R = text_cmp}) ≡ []
+pub no_entries : finite.entries (finite.empty {X = Record} {R = text_cmp}) ≡ []
 no_entries = nil_from_length _ (sym (finite.len-entries finite.empty) ∙ finite.len-empty text_cmp Record)
 
 turned : {A : Type 0} (b : Bool) (x y : A) → cond (not b) x y ≡ cond b y x
@@ -66,7 +62,7 @@ turned true x y = refl
 turned false x y = refl
 
 -- a record put in over the others' is one put in over all
-insert_over : (s : Records) (id : Text) (r : Record) → finite.insert (finite.remove s id) id r ≡ finite.insert s id r
+pub insert_over : (s : Records) (id : Text) (r : Record) → finite.insert (finite.remove s id) id r ≡ finite.insert s id r
 insert_over s id r =
     inserted s (finite.insert (finite.remove s id) id r) id r
     (λ q. finite.get-insert text_cmp_total (finite.remove s id) id r q
@@ -99,10 +95,10 @@ module _ {Y : Type 0} where
 
   -- ---- keys that are apart
 
-  absent_later : (row : String Y × Entry) (rows : List (String Y × Entry)) → IsDistinct string_eq (keys_of (row ∷ rows)) → lookup (λ k. bytes_eq (string_bytes row.0) (string_bytes k)) rows ≡ None
-  absent_later row rows apart = lookup-none (string_eq row.0) rows (passes rows (IsDistinct-head string_eq row.0 (keys_of rows) apart))
+  pub absent_later : {X : Type 0} (row : String Y × X) (rows : List (String Y × X)) → IsDistinct string_eq (keys_of (row ∷ rows)) → lookup (λ k. bytes_eq (string_bytes row.0) (string_bytes k)) rows ≡ None
+  absent_later {X} row rows apart = lookup-none (string_eq row.0) rows (passes rows (IsDistinct-head string_eq row.0 (keys_of rows) apart))
     where
-      passes : (rows : List (String Y × Entry)) → AllByRecursion (λ k. string_eq row.0 k ≡ false) (keys_of rows) → NonePasses (string_eq row.0) rows
+      passes : (rows : List (String Y × X)) → AllByRecursion (λ k. string_eq row.0 k ≡ false) (keys_of rows) → NonePasses (string_eq row.0) rows
       passes [] all = all
       passes (r ∷ rs) all = (all.0, passes rs all.1)
 
@@ -152,31 +148,6 @@ module _ {Y : Type 0} where
       (IsPermutation-trans ((id, r) ∷ map pair rest) ((id, r) ∷ finite.entries (records_in rest)) (finite.entries (finite.insert (records_in rest) id r))
       (IsPermutation-cons (id, r) (map pair rest) (finite.entries (records_in rest)) (entries_move rest distinct))
       (insert_moves (records_in rest) id r none))
-
-  -- ---- the names
-
-  has-with_names_of : (names : Names) (rows : List (String Y × Entry)) (name : Text) → has (with_names_of names rows) name ≡ (has names name || list_any (λ r. has r.names name) (map (λ e. e.1) (map pair rows)))
-  has-with_names_of names [] name = or_none (has names name)
-    where
-      or_none : (a : Bool) → a ≡ (a || false)
-      or_none true = refl
-      or_none false = refl
-  has-with_names_of names (row ∷ rows) name =
-      has-with_names_of (union names row.1.kept.names) rows name
-      ∙ ap (λ b. b || list_any (λ r. has r.names name) (map (λ e. e.1) (map pair rows))) (has-union text_cmp_total names row.1.kept.names name)
-      ∙ sym (or_group (has names name) (has row.1.kept.names name) (list_any (λ r. has r.names name) (map (λ e. e.1) (map pair rows))))
-
-  -- the names of a record and of the others are those that are subscribed
-  pub subscribed_with : (rows : List (String Y × Entry)) (id : Text) (r : Record) → IsDistinct string_eq (keys_of rows) → (name : Text)
-      → has (with_names_of r.names (others id rows)) name ≡ is_subscribed (finite.insert (records_in rows) id r) name
-  subscribed_with rows id r apart name =
-      has-with_names_of r.names (others id rows) name
-      ∙ list_any-IsPermutation (λ r. has r.names name) (r ∷ map (λ e. e.1) (map pair (others id rows))) (finite.values (finite.insert (records_in rows) id r))
-      (IsPermutation-map (λ (e : Text × Record). e.1) ((id, r) ∷ map pair (others id rows)) (finite.entries (finite.insert (records_in rows) id r)) (entries_with rows id r apart))
-
-  pub view_with_names : (image : Topics) (rows : List (String Y × Entry)) (id : Text) (r : Record) → IsDistinct string_eq (keys_of rows)
-      → finite.retain_keys image (has (with_names_of r.names (others id rows))) ≡ view_for image (finite.insert (records_in rows) id r)
-  view_with_names image rows id r apart = λ i. finite.retain_keys image (λ name. subscribed_with rows id r apart name i)
 
   -- ---- one entry a text
 

@@ -1,5 +1,5 @@
 -- The rows in the order of ids: they have the records of all rows, and are the records' entries.
-use Rattle.std.proofs.Common.{◌≡◌, ℕ, zero, suc, ◌<◌, ◌≤◌, Bool, true, false, cond, ◌&&◌, Option, Some, None, is_some, List, [], ◌∷◌, length, map, get_or, slice_get, String, T, refl, sym, ap, subst, ◌∙◌, true≢false, arith, inl, inr}
+use Rattle.std.proofs.Common.{◌≡◌, ℕ, zero, suc, ◌<◌, ◌≤◌, Bool, true, false, cond, ◌&&◌, Option, Some, None, is_some, List, [], ◌∷◌, length, map, get_or, slice_get, String, T, refl, sym, ap, subst, ◌∙◌, true≢false, arith, inl, inr, Ok}
 use Rattle.std.specs.Prelude.{string_bytes, option_map, option_and_then, MatchOption}
 use Rattle.std.specs.List.{AllByRecursion, IsDistinct, list_any}
 use Rattle.std.specs.List.Sorted.{IsStrictlySortedBy}
@@ -16,6 +16,7 @@ use Rattle.std.proofs.lemmas.Map.Entries.{lookup_from_place, place_from_lookup}
 use Rattle.std.proofs.lemmas.Map.Keys.{IsDistinct-from_sorted, Less-from_sorted}
 use Rattle.std.proofs.lemmas.Slice.Eq.{bytes_eq-Decides}
 use Rattle.std.specs.Cmp.{tied_itself}
+use Rattle.std.proofs.Math.ListN.{length-map}
 use Rattle.std.proofs.lemmas.Option.{slice_get_within, get_or_from_slice_get, slice_get-get_or}
 use Rattle.group_types.proofs.Entries.{entries_found}
 use Rattle.group_types.specs.Text.{Text, text_cmp}
@@ -23,7 +24,7 @@ use Rattle.group_types.specs.Group.{Record}
 use Rattle.group_types.specs.Tick.{NoneIsDue, is_due}
 use Rattle.group_types.proofs.Lookups.{not_none, same_text, some_is}
 use Rattle.group_types.proofs.Orders.{text_cmp_total, text_cmp-IsAntisymmetric}
-use Rattle.group_epochs.specs.Table.{IsFirstRank, IsIdOrder, NoneIsDueBefore, is_due_at, is_row_due, member_at, records_in, rows_at, text_at, texts_at, texts_in, with_row}
+use Rattle.group_epochs.specs.Table.{IsFirstRank, IsIdOrder, IsRank, NoneIsDueBefore, is_due_at, is_row_due, member_at, records_in, rows_at, text_at, texts_at, texts_in, with_row}
 use Rattle.group_epochs.specs.declared.entry.Entry.{Entry}
 use Rattle.group_epochs.proofs.Others.{pair}
 use Rattle.group_epochs.proofs.Rows.{get-records_in, kept_in, length-texts_in, text_found, texts_hold, tied_bytes}
@@ -76,7 +77,7 @@ module _ {Y : Type 0} where
   is_sorted_rows [] rise = tt
   is_sorted_rows (row ∷ rows) rise = both_hold _ _ (is_sorted_below (string_bytes row.0) rows rise.0) (is_sorted_rows rows rise.1)
 
-slice_get_of_map : {A B : Type 0} (f : A → B) (xs : List A) (i : ℕ) → slice_get (map f xs) i ≡ option_map f (slice_get xs i)
+pub slice_get_of_map : {A B : Type 0} (f : A → B) (xs : List A) (i : ℕ) → slice_get (map f xs) i ≡ option_map f (slice_get xs i)
 slice_get_of_map f [] i = refl
 slice_get_of_map f (x ∷ xs) zero = refl
 slice_get_of_map f (x ∷ xs) (suc i) = slice_get_of_map f xs i
@@ -95,7 +96,7 @@ find_place (e ∷ es) q r is = by (eq_by_cmp text_cmp q e.0) refl is (λ later. 
     by true so is later = (0, λ i. Some (sym (same_text q e.0 so) i, some_is e.1 r is i))
     by false _ is later = let rest = later is in (suc rest.0, rest.1)
 
-entry_there : (es : List (Text × Record)) (P : Text × Record → Type 0) (j : ℕ) (m : Text × Record) → AllByRecursion P es → slice_get es j ≡ Some m → P m
+pub entry_there : (es : List (Text × Record)) (P : Text × Record → Type 0) (j : ℕ) (m : Text × Record) → AllByRecursion P es → slice_get es j ≡ Some m → P m
 entry_there [] P j m all is = absurd (not_none m is)
 entry_there (e ∷ es) P zero m all is = subst P (some_is e m is) all.0
 entry_there (e ∷ es) P (suc j) m all is = entry_there es P j m all.1 is
@@ -165,6 +166,15 @@ module _ {Y : Type 0} (rows : List (String Y × Entry)) (places : List ℕ) (ord
           let long = length-texts_in (rows_at rows places) in
           let below = slice_get_within (rows_at rows places) r row at in
           (omega (arith, long, below), text_found (rows_at rows places) r row at ∙ ap (λ (m : Text × Record). m.0) (some_is (pair row) m is))
+
+  -- the rank of a member, in the order of ids
+  pub rank_of_member : (r : ℕ) (m : Text × Record) → member_at (records_in rows) r ≡ Some m → IsRank (texts_in rows) places m.0 (Ok r)
+  rank_of_member r m is =
+      let here = text_of_member r m is in
+      subst (λ texts. (r < length places) × (slice_get texts r ≡ Some m.0)) (texts_of_rows rows places within) (
+        subst (λ n. r < n) (ap length (texts_of_rows rows places within) ∙ length-map places (text_at (texts_in rows))) here.0,
+        slice_get-get_or (texts_in (rows_at rows places)) r [] here.0 ∙ ap Some here.1,
+      )
 
   -- ---- who is due
 

@@ -6,3 +6,6 @@ pub mod Past
 pub mod Records
 pub mod Seen
 pub mod Table
+pub mod Deadlines
+pub mod Counts
+pub mod Whole

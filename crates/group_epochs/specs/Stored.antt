@@ -15,7 +15,7 @@ use Rattle.group_types.specs.Group.{Record, Past}
 abbrev pub text_code : Coded Text
 text_code = coded_list coded_ℕ
 
-abbrev names_code : Coded Names
+abbrev pub names_code : Coded Names
 names_code = set.code text_code
 
 abbrev pub partitions_code : Coded Partitions

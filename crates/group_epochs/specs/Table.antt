@@ -14,8 +14,6 @@ use Rattle.indexmap.specs.IndexMap.{IndexMap, IsUnique, UpdatesBy, index_map_len
 use Rattle.group_types.specs.declared.stamp.Stamp.{Stamp}
 use Rattle.group_types.specs.Limits.{MOST_PAST_MEMBERS}
 use Rattle.group_types.specs.Text.{Text, text_cmp}
-use Rattle.group_types.specs.Sets.{union}
-use Rattle.group_types.specs.Topics.{Names}
 use Rattle.group_types.specs.Assignors.{Subscriber}
 use Rattle.group_types.specs.Group.{Record, Records}
 use Rattle.group_types.specs.Members.{past_stamp}
@@ -94,9 +92,9 @@ module _ {Y S : Type 0} where
     pub order : IsIdOrder (texts_in members.entries) by_id
 
 -- what callers see of it
-abbrev pub state_of : {Y S : Type 0} → IndexMap (String Y) Entry S → PastState → ℕ → RecordsState
-state_of members past order =
-    record { records = records_in members.entries; past = past.past; marks = marks_in members.entries; room = room_in members past order }
+abbrev pub state_of : {Y S : Type 0} → IndexMap (String Y) Entry S → PastState → ℕ → ℕ → RecordsState
+state_of members past order names_room =
+    record { records = records_in members.entries; past = past.past; marks = marks_in members.entries; room = room_in members past order; names_room = names_room }
 
 -- the first entry of a member with the instance id
 abbrev pub first_with : {Y : Type 0} → Text → List (String Y × Entry) → Option Entry
@@ -106,11 +104,6 @@ first_with i (row ∷ rows) = if is_instance i row.1.kept.instance then Some row
 -- a member as an assignor sees it
 abbrev pub seen_of : {Y : Type 0} → String Y × Entry → Subscriber
 seen_of row = seen_as row.1.id row.1.kept
-
--- the names, and those that the members of the rows subscribe
-abbrev pub with_names_of : {Y : Type 0} → Names → List (String Y × Entry) → Names
-with_names_of names [] = names
-with_names_of names (row ∷ rows) = with_names_of (union names row.1.kept.names) rows
 
 -- ---- changes at one id
 

@@ -3,6 +3,8 @@
 //! Start from [`Past`], the ids of former members that a group remembers.
 #![tactic(auto)]
 
+mod counts;
+mod deadlines;
 mod entry;
 mod given;
 mod names;
@@ -12,6 +14,7 @@ mod records;
 mod sets;
 mod table;
 
+pub use names::NewNames;
 pub use past::Past;
 pub use record::Record;
 pub use records::{NewMember, Records};

@@ -14,7 +14,9 @@ ghost use Rattle.range_assign.specs.Members.{subscriber_of};
 ghost use Rattle.group_epochs.specs.Joins.{returned_epoch};
 ghost use Rattle.group_epochs.specs.Records.{beaten};
 ghost use Rattle.group_epochs.specs.Seen.{is_instance, seen_as};
+ghost use Rattle.group_epochs.specs.Deadlines.{first_deadline};
 
+use crate::deadlines::earlier;
 use crate::{given, sets};
 use group_types::limits::SESSION_TIMEOUT;
 use group_types::{AssignorName, Epoch, EpochNumber, MemberId, Moment, NameSet, PartSet, Stamp};
@@ -212,6 +214,16 @@ impl Record {
         self.epoch = Epoch::Away;
         self.release_deadline = None;
         self.beat(stamp, now);
+    }
+
+    /// The first of the member's deadlines. Takes no memory.
+    pub(crate) fn first_deadline(&self) -> Moment
+        ensures { result ≡ first_deadline self.now }
+    {
+        match self.release_deadline {
+            Some(deadline) => earlier(self.session_deadline, deadline),
+            None => self.session_deadline,
+        }
     }
 
     /// Whether a deadline of the member has come.

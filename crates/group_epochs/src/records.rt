@@ -1,26 +1,30 @@
 //! The records of a group's members.
 
-ghost use Rattle.std.specs.Prelude.{◌≡◌, ◌≢◌, ◌<◌, [], IfOk, OnOk, MatchOption, Some, None};
+ghost use Rattle.std.specs.Prelude.{◌≡◌, ◌≢◌, ◌<◌, ◌≤◌, [], IsTrue, IsSome, IfOk, OnOk, MatchOption, Some, None};
 ghost use Rattle.std.specs.Option.{option_copied, option_map};
 ghost use Rattle.group_types.specs.Tick.{NoneIsDue};
 ghost use Rattle.group_epochs.specs.Table.{IsFirstRank, NoneIsDueBefore, member_at};
 ghost use Rattle.std.specs.FinMap as finite;
+ghost use Rattle.group_types.specs.Sets.{size};
 ghost use Rattle.group_types.specs.Text.{Text};
 ghost use Rattle.group_types.specs.Group.{Record as Kept};
 ghost use Rattle.group_types.specs.Members.{HasInstance, is_remembered, past_stamp, taken_over, with_record, without_record};
 ghost use Rattle.group_types.specs.Leave.{away};
 ghost use Rattle.group_types.specs.Renewal.{AreMembers, view_for};
-ghost use Rattle.group_epochs.specs.Records.{IsInstanceFreeFor, IsMember, beaten, members_in};
+ghost use Rattle.group_epochs.specs.Records.{CanJoin, CanReplace, IsInstanceFreeFor, IsMember, KeepsNames, beaten, members_in};
 
+use crate::counts::{Counts, add_counted, count_down, count_up};
+use crate::deadlines::{earlier, first_of_all};
 use crate::entry::{Entry, Table};
+use crate::names::NewNames;
 use crate::past::Past;
 use crate::record::Record;
 use crate::table::{
-    add, add_names_of_others, add_others, beat, first_due, first_with, go_away, mark, put,
-    stamp_of, take_out,
+    add, add_others, beat, first_due, first_with, go_away, mark, put, rank_at, take_out,
+    take_out_at,
 };
-use group_types::limits::LONGEST_STRING;
-use group_types::{EpochNumber, MemberId, Moment, Stamp};
+use group_types::limits::SESSION_TIMEOUT;
+use group_types::{EpochNumber, MemberId, Moment, NameSet, Stamp};
 use indexmap::IndexMap;
 use range_assign::Subs;
 use std::alloc::{AllocError, Global};
@@ -28,24 +32,24 @@ use std::collections::hash_map::RandomState;
 use std::marker::Model;
 use topic_meta::{Image, View};
 
-/// An id under which a member is about to join, with what its records need of memory. Callers see it as the id.
+/// A member that is about to join: its id and the names that it subscribes, with what the records need of memory for them.
 #[derive(Drop)]
 pub struct NewMember {
     id: MemberId,
     text: String,
+    names: NewNames,
 }
 
 impl Model for NewMember {
-    ghost use Rattle.group_types.specs.Text.{Text as Id};
-    ghost use Rattle.group_epochs.specs.Stored.{text_code};
+    ghost use Rattle.group_epochs.specs.Records.{Newcomer, newcomer_code};
 
-    ghost Value = { Id };
+    ghost Value = { Newcomer };
 
-    ghost coded = { text_code };
+    ghost coded = { newcomer_code };
 
     ghost use Rattle.std.specs.Prelude.{◌≡◌, string_bytes};
 
-    ghost view = { λ a. a.id };
+    ghost view = { λ a. record { id = a.id; names = a.names } };
 
     ghost invariant = { λ a. string_bytes a.text ≡ a.id };
 }
@@ -57,6 +61,10 @@ pub struct Records {
     /// The members' places, in the order of their ids.
     by_id: Vec<usize>,
     past: Past,
+    /// How many members subscribe each name.
+    counts: Counts,
+    /// No deadline of a member comes before it.
+    earliest: Moment,
 }
 
 impl Model for Records {
@@ -67,11 +75,13 @@ impl Model for Records {
 
     ghost coded = { records_state_code };
 
-    ghost use Rattle.group_epochs.specs.Table.{IsTable, state_of};
+    ghost use Rattle.indexmap.specs.IndexMap.{spare};
+    ghost use Rattle.group_epochs.specs.Table.{state_of};
+    ghost use Rattle.group_epochs.specs.Whole.{AreWhole};
 
-    ghost view = { λ a. state_of a.members a.past (vec_capacity a.by_id - vec_len a.by_id) };
+    ghost view = { λ a. state_of a.members a.past (vec_capacity a.by_id - vec_len a.by_id) (spare a.counts) };
 
-    ghost invariant = { λ a. IsTable a.members a.by_id.items a.past };
+    ghost invariant = { λ a. AreWhole a.members a.by_id.items a.past a.counts a.earliest };
 }
 
 impl Records {
@@ -85,6 +95,8 @@ impl Records {
             members: IndexMap::with_hasher(alloc, hasher),
             by_id: Vec::new(alloc),
             past: Past::new(alloc, hasher),
+            counts: IndexMap::with_hasher(alloc, hasher),
+            earliest: Moment::of_millis(u64::MAX),
         }
     }
 
@@ -142,8 +154,8 @@ impl Records {
         self.past.stamp_of(id)
     }
 
-    /// The members in member order, with this record for the id in place of the one that is kept, if any. Fails where memory is
-    /// short.
+    /// The members in member order, with this record for the id in place of the one that is kept, if any. They are listed in the
+    /// order of ids, so that a group without static members needs no sort. Fails where memory is short.
     pub fn subs_with<'a>(
         &'a self,
         alloc: Global,
@@ -153,8 +165,11 @@ impl Records {
         ensures { IfOk result (λ subs. AreMembers (finite.insert self.now.records id.now «record».now) subs) }
     {
         let mut members = Vec::with_capacity(alloc, self.members.len() + 1)?;
+        let rank = rank_at(&self.members, &self.by_id, id.as_str());
+        let (before, after) = self.by_id.split_at(rank);
+        add_others(&mut members, &self.members, before, id.as_str())?;
         members.push(record.as_subscriber(id))?;
-        add_others(&mut members, &self.members, &self.by_id, id.as_str())?;
+        add_others(&mut members, &self.members, after, id.as_str())?;
         Ok(Subs::of(members))
     }
 
@@ -170,41 +185,65 @@ impl Records {
         ensures { IfOk result (λ view. view ≡ view_for image.now (finite.insert self.now.records id.now «record».now)) }
     {
         let mut names = record.names().copy(alloc)?;
-        add_names_of_others(alloc, &mut names, &self.members, id)?;
+        add_counted(alloc, &mut names, &self.counts, self.get(id))?;
         image.view(alloc, &names)
     }
 
-    /// Makes room for one member more, and what the records need of a new id. Where memory is short, or else, nothing changes
-    /// but the room.
-    pub fn prepare(&mut self, alloc: Global, id: &str) -> Result<NewMember, AllocError>
-        ensures id { IfOk result (λ new. new ≡ id.now) }
-        ensures room { OnOk result (0 < self.new.room) }
+    /// Makes room for one member more with this record, and what the records need of its id and its names. Where memory is short,
+    /// or else, nothing changes but the room.
+    pub fn prepare(
+        &mut self,
+        alloc: Global,
+        id: &MemberId,
+        record: &Record,
+    ) -> Result<NewMember, AllocError>
+        ensures id { IfOk result (λ new. new.id ≡ id.now) }
+        ensures room { IfOk result (λ new. CanJoin self.new new «record».now) }
         ensures members { members_in self.new ≡ members_in self.old }
         ensures marks { self.new.marks ≡ self.old.marks }
     {
-        if id.len() > LONGEST_STRING {
-            return Err(AllocError);
+        self.make_room(record.names())?;
+        let text = String::from_str(alloc, id.as_str())?;
+        let names = NewNames::of(alloc, record.names())?;
+        Ok(NewMember {
+            id: id.copy(alloc)?,
+            text,
+            names,
+        })
+    }
+
+    /// What the records need of the names of a member's new record, and room for them; none where its names stay. Where memory is
+    /// short, or else, nothing changes but the room.
+    pub fn prepare_names(
+        &mut self,
+        alloc: Global,
+        id: &str,
+        record: &Record,
+    ) -> Result<Option<NewNames>, AllocError>
+        ensures names { IfOk result (λ names. CanReplace self.new id.now «record».now names) }
+        ensures members { members_in self.new ≡ members_in self.old }
+        ensures marks { self.new.marks ≡ self.old.marks }
+    {
+        if self.keeps_names(id, record) {
+            return Ok(None);
         }
-        self.members.reserve(1)?;
-        self.by_id.reserve(1)?;
-        self.past
-            .make_room(self.members.len() + self.past.len() + 1)?;
-        let text = String::from_str(alloc, id)?;
-        let id = MemberId::of(alloc, id)?;
-        Ok(NewMember { id, text })
+        self.counts.reserve(record.names().len())?;
+        Ok(Some(NewNames::of(alloc, record.names())?))
     }
 
     /// Stores the record of a new member, which is no former member any more. Takes no memory.
-    pub fn join(&mut self, id: NewMember, record: Record)
-        requires room { 0 < self.old.room }
-        requires named { id ≢ [] }
-        requires absent { finite.get self.old.records id ≡ None }
-        requires instance { IsInstanceFreeFor self.old.records id «record» }
-        ensures members { members_in self.new ≡ with_record (members_in self.old) id «record» }
+    pub fn join(&mut self, new: NewMember, record: Record)
+        requires room { CanJoin self.old new «record» }
+        requires named { new.id ≢ [] }
+        requires absent { finite.get self.old.records new.id ≡ None }
+        requires instance { IsInstanceFreeFor self.old.records new.id «record» }
+        ensures members { members_in self.new ≡ with_record (members_in self.old) new.id «record» }
         ensures marks { self.new.marks ≡ self.old.marks }
     {
-        let NewMember { id, text } = id;
+        let NewMember { id, text, names } = new;
+        count_up(&mut self.counts, names.into_texts());
         self.past.forget(id.as_str());
+        self.earliest = earlier(self.earliest, record.first_deadline());
         let entry = Entry {
             id,
             kept: record,
@@ -214,14 +253,19 @@ impl Records {
     }
 
     /// Replaces the record of a member, and takes its mark away. Takes no memory.
-    pub fn put(&mut self, id: &str, record: Record)
+    pub fn put(&mut self, id: &str, names: Option<NewNames>, record: Record)
         requires there { IsMember self.old id.now }
+        requires names { CanReplace self.old id.now «record» names }
         requires instance { IsInstanceFreeFor self.old.records id.now «record» }
         ensures members { members_in self.new ≡ with_record (members_in self.old) id.now «record» }
         ensures marks { self.new.marks ≡ finite.remove self.old.marks id.now }
-        ensures room { self.new.room ≡ self.old.room }
     {
-        put(&mut self.members, id, record);
+        self.earliest = earlier(self.earliest, record.first_deadline());
+        let former = put(&mut self.members, id, record);
+        if let Some(names) = names {
+            count_down(&mut self.counts, former.names());
+            count_up(&mut self.counts, names.into_texts());
+        }
     }
 
     /// Stores the stamp and the time of a heartbeat that gives nothing else. Takes no memory, and no walk over the members.
@@ -233,6 +277,7 @@ impl Records {
         ensures marks { self.new.marks ≡ self.old.marks }
         ensures room { self.new.room ≡ self.old.room }
     {
+        self.earliest = earlier(self.earliest, now.plus(SESSION_TIMEOUT));
         beat(&mut self.members, id, stamp, now);
     }
 
@@ -254,7 +299,23 @@ impl Records {
         ensures marks { self.new.marks ≡ finite.remove self.old.marks id.now }
     {
         let former = take_out(&mut self.members, &mut self.by_id, id);
-        self.past.remember(former, stamp);
+        count_down(&mut self.counts, former.kept.names());
+        self.past.remember(former.id, stamp);
+    }
+
+    /// The member at a rank, in the order of the members' ids, leaves for good, and its id is remembered with its last stamp; where
+    /// [`group_types::limits::MOST_PAST_MEMBERS`] ids are remembered the oldest is forgotten. Takes no memory.
+    pub fn leave_at(&mut self, rank: usize)
+        requires { IsSome (member_at self.old.records rank) }
+        ensures members { (m : Text) (r : Kept) → member_at self.old.records rank ≡ Some (m, r)
+            → members_in self.new ≡ without_record (members_in self.old) m r.stamp }
+        ensures marks { (m : Text) (r : Kept) → member_at self.old.records rank ≡ Some (m, r)
+            → self.new.marks ≡ finite.remove self.old.marks m }
+    {
+        let former = take_out_at(&mut self.members, &mut self.by_id, rank);
+        count_down(&mut self.counts, former.kept.names());
+        let latest = former.kept.stamp();
+        self.past.remember(former.id, latest);
     }
 
     /// A static member goes away for a while (KIP-848, member epoch -2), and its mark is taken away. Takes no memory.
@@ -266,26 +327,30 @@ impl Records {
         ensures marks { self.new.marks ≡ finite.remove self.old.marks id.now }
         ensures room { self.new.room ≡ self.old.room }
     {
+        self.earliest = earlier(self.earliest, now.plus(SESSION_TIMEOUT));
         go_away(&mut self.members, id, stamp, now);
     }
 
     /// An heir takes a member's place under its own id, with this record, and the old id is remembered with its last stamp
     /// (KIP-848, "Static Membership"). Takes no memory.
     pub fn take_over(&mut self, old: &str, heir: NewMember, record: Record)
-        requires room { 0 < self.old.room }
+        requires room { CanJoin self.old heir «record» }
         requires there { IsMember self.old old.now }
-        requires named { heir ≢ [] }
-        requires absent { finite.get self.old.records heir ≡ None }
+        requires named { heir.id ≢ [] }
+        requires absent { finite.get self.old.records heir.id ≡ None }
         requires instance { IsInstanceFreeFor self.old.records old.now «record» }
         ensures members { (r : Kept) → finite.get self.old.records old.now ≡ Some r
-            → members_in self.new ≡ taken_over (members_in self.old) old.now heir «record» r.stamp }
+            → members_in self.new ≡ taken_over (members_in self.old) old.now heir.id «record» r.stamp }
         ensures marks { self.new.marks ≡ finite.remove self.old.marks old.now }
     {
-        let NewMember { id, text } = heir;
+        let NewMember { id, text, names } = heir;
         self.past.forget(id.as_str());
-        let last = stamp_of(&self.members, old);
         let former = take_out(&mut self.members, &mut self.by_id, old);
-        self.past.remember(former, last);
+        count_down(&mut self.counts, former.kept.names());
+        count_up(&mut self.counts, names.into_texts());
+        let last = former.kept.stamp();
+        self.past.remember(former.id, last);
+        self.earliest = earlier(self.earliest, record.first_deadline());
         let entry = Entry {
             id,
             kept: record,
@@ -295,12 +360,21 @@ impl Records {
     }
 
     /// The first rank, from one on, in the order of the members' ids, at which a member's deadline has come (KIP-848, "Session
-    /// Management"); none where no deadline has come. Before the rank to begin with, nobody is due. Takes no memory.
-    pub fn first_due(&self, from: usize, clock: Moment) -> Option<usize>
-        ensures { NoneIsDueBefore self.now.records clock from
-            → MatchOption result (NoneIsDue self.now.records clock) (λ rank. IsFirstRank self.now.records clock rank) }
+    /// Management"); none where no deadline has come. Before the rank to begin with, nobody is due. Where the clock is before every
+    /// deadline no record is looked at. Takes no memory.
+    pub fn first_due(&mut self, from: usize, clock: Moment) -> Option<usize>
+        ensures first { NoneIsDueBefore self.old.records clock from
+            → MatchOption result (NoneIsDue self.old.records clock) (λ rank. IsFirstRank self.old.records clock rank) }
+        ensures same { self.new ≡ self.old }
     {
-        first_due(&self.members, &self.by_id, from, clock)
+        if clock < self.earliest {
+            return None;
+        }
+        let due = first_due(&self.members, &self.by_id, from, clock);
+        if due.is_none() {
+            self.earliest = first_of_all(&self.members);
+        }
+        due
     }
 
     /// The id at a rank, in the order of the members' ids; none past the last. Takes no memory.
@@ -311,6 +385,29 @@ impl Records {
         match self.members.get_index(*place) {
             Some((_, entry)) => Some(&entry.id),
             None => None,
+        }
+    }
+
+    /// Makes room for one member more with these names. The members stay as they are, also where memory is short.
+    fn make_room(&mut self, names: &NameSet) -> Result<(), AllocError>
+        ensures room { OnOk result ((0 < self.new.room) × (size names.now ≤ self.new.names_room)) }
+        ensures members { members_in self.new ≡ members_in self.old }
+        ensures marks { self.new.marks ≡ self.old.marks }
+    {
+        self.members.reserve(1)?;
+        self.by_id.reserve(1)?;
+        self.past
+            .make_room(self.members.len() + self.past.len() + 1)?;
+        self.counts.reserve(names.len())
+    }
+
+    /// Whether a member's names are those of the record. Takes no memory.
+    fn keeps_names(&self, id: &str, record: &Record) -> bool
+        ensures { IsTrue result → KeepsNames self.now.records id.now «record».now }
+    {
+        match self.members.get(id) {
+            Some(entry) => entry.kept.names().equals(record.names()),
+            None => false,
         }
     }
 }

@@ -1,22 +1,22 @@
 //! The members of a group by their ids' texts: what the records do to them.
 
-ghost use Rattle.std.specs.Prelude.{◌≡◌, ◌<◌, ◌≤◌, ◌++◌, ◌∷◌, [], ℕ, length, false, true, bytes_eq, slice_get, if◌then◌else◌, MatchOption, None, Some, IsSome, OnOk, map, string_bytes, vec_capacity, vec_len};
-ghost use Rattle.group_types.specs.Text.{text_cmp};
+ghost use Rattle.std.specs.Prelude.{Ok, ◌≡◌, ◌<◌, ◌≤◌, ◌-◌, ◌++◌, ◌∷◌, [], ℕ, length, false, true, bytes_eq, slice_get, if◌then◌else◌, MatchOption, None, Some, IsSome, OnOk, map, string_bytes, vec_capacity, vec_len};
+ghost use Rattle.group_types.specs.Text.{Text, text_cmp};
 ghost use Rattle.std.specs.Option.{option_copied};
 ghost use Rattle.std.specs.String.{string_eq};
-ghost use Rattle.indexmap.specs.IndexMap.{IsUnique, get, get_by_text, spare};
+ghost use Rattle.indexmap.specs.IndexMap.{IsUnique, get, get_by_text, index_map_len, spare};
 ghost use Rattle.group_epochs.specs.Seen.{seen_as};
 ghost use Rattle.group_epochs.specs.declared.entry.Entry.{Entry as Stored};
 ghost use Rattle.range_assign.specs.Members.{subscribers_in};
-ghost use Rattle.group_epochs.specs.Table.{Adds, IsIdOrder, IsRank, Rewrites, TakesOut, first_with, is_due_at, is_row_due, marked_at, others, seen_of, with_away, with_beat, with_names_of, with_record_kept, renumbered, rows_at, text_at, texts_in};
+ghost use Rattle.group_epochs.specs.Table.{Adds, IsIdOrder, IsRank, Rewrites, TakesOut, first_with, is_due_at, is_row_due, marked_at, others, seen_of, with_away, with_beat, with_record_kept, renumbered, rows_at, text_at, texts_in};
 
 use crate::entry::{Entry, Table};
-use crate::names::add_names;
 use crate::record::Record;
-use group_types::{EpochNumber, MemberId, Moment, NameSet, Stamp};
+use group_types::{EpochNumber, Moment, Stamp};
 use range_assign::Subscriber;
 use std::alloc::{AllocError, Global};
 use std::cmp::Ordering;
+use std::mem;
 
 /// A member comes in under its id, for which there is room. Takes no memory.
 pub fn add(members: &mut Table, by_id: &mut Vec<usize>, text: String, entry: Entry)
@@ -38,16 +38,17 @@ pub fn add(members: &mut Table, by_id: &mut Vec<usize>, text: String, entry: Ent
     };
 }
 
-/// Replaces the record of a member, and takes its mark away. Takes no memory.
-pub fn put(members: &mut Table, id: &str, record: Record)
+/// Replaces the record of a member, takes its mark away, and gives the former record. Takes no memory.
+pub fn put(members: &mut Table, id: &str, record: Record) -> Record
     requires { IsSome (get_by_text members.old id.now) }
-    ensures { Rewrites members.old members.new id.now (with_record_kept «record») }
+    ensures given { (e : Stored) → get_by_text members.old id.now ≡ Some e → result ≡ e.kept }
+    ensures rewritten { Rewrites members.old members.new id.now (with_record_kept «record») }
 {
     let Some(entry) = members.get_mut(id) else {
         unreachable!()
     };
-    entry.kept = record;
     entry.mark = None;
+    mem::replace(&mut entry.kept, record)
 }
 
 /// Stores the stamp and the time of a heartbeat that gives nothing else. Takes no memory.
@@ -84,45 +85,64 @@ pub fn go_away(members: &mut Table, id: &str, stamp: Stamp, now: Moment)
     entry.mark = None;
 }
 
-/// The last stamp of a member.
-pub fn stamp_of(members: &Table, id: &str) -> Stamp
-    requires { IsSome (get_by_text members.now id.now) }
-    ensures { (e : Stored) → get_by_text members.now id.now ≡ Some e → result ≡ e.kept.stamp }
-{
-    let Some(entry) = members.get(id) else {
-        unreachable!()
-    };
-    entry.kept.stamp()
-}
-
-/// A member goes, and gives its id. Takes no memory.
-pub fn take_out(members: &mut Table, by_id: &mut Vec<usize>, id: &str) -> MemberId
+/// A member goes, and gives what was kept of it. Takes no memory.
+pub fn take_out(members: &mut Table, by_id: &mut Vec<usize>, id: &str) -> Entry
     requires there { IsSome (get_by_text members.old id.now) }
     requires distinct { IsUnique string_eq members.old }
     requires order { IsIdOrder (texts_in members.old.entries) by_id.old.items }
-    ensures taken { TakesOut members.old members.new id.now result }
+    ensures given { (e : Stored) → get_by_text members.old id.now ≡ Some e → result ≡ e }
+    ensures taken { TakesOut members.old members.new id.now result.id }
     ensures order_room { vec_len by_id.new < vec_capacity by_id.new }
     ensures order { IsIdOrder (texts_in members.new.entries) by_id.new.items }
 {
     let Ok(rank) = rank_of(members, by_id, id) else {
         unreachable!()
     };
-    let place = by_id.remove(rank);
+    take_out_at(members, by_id, rank)
+}
+
+/// The member at a rank goes, and gives what was kept of it. Takes no memory.
+pub fn take_out_at(members: &mut Table, by_id: &mut Vec<usize>, rank: usize) -> Entry
+    requires there { rank < length by_id.old.items }
+    requires distinct { IsUnique string_eq members.old }
+    requires order { IsIdOrder (texts_in members.old.entries) by_id.old.items }
+    ensures given { (m : Text) (e : Stored) → IsRank (texts_in members.old.entries) by_id.old.items m (Ok rank) → get_by_text members.old m ≡ Some e → result ≡ e }
+    ensures taken { (m : Text) → IsRank (texts_in members.old.entries) by_id.old.items m (Ok rank) → TakesOut members.old members.new m result.id }
+    ensures order_room { vec_len by_id.new < vec_capacity by_id.new }
+    ensures order { IsIdOrder (texts_in members.new.entries) by_id.new.items }
+{
+    let place = by_id[rank];
+    renumber(members, by_id, place);
+    by_id.remove(rank);
     let Some((_, entry)) = members.swap_remove_index(place) else {
         unreachable!()
     };
-    renumber(by_id, members.len(), place);
-    entry.id
+    entry
 }
 
-/// Gives the last place another number.
-fn renumber(places: &mut [usize], last: usize, to: usize)
-    ensures { places.new ≡ map (renumbered last to) places.old }
+/// The last place, found by the text of the member there, gets another number.
+fn renumber(members: &Table, places: &mut [usize], to: usize)
+    requires some { 0 < index_map_len members.now }
+    requires distinct { IsUnique string_eq members.now }
+    requires order { IsIdOrder (texts_in members.now.entries) places.old }
+    ensures { places.new ≡ map (renumbered (index_map_len members.now - 1) to) places.old }
 {
-    for place in places.iter_mut() {
-        if *place == last {
-            *place = to;
-        }
+    let Some((text, _)) = members.last() else {
+        unreachable!()
+    };
+    let Ok(rank) = rank_of(members, places, text.as_str()) else {
+        unreachable!()
+    };
+    places[rank] = to;
+}
+
+/// The rank of an id, or else that at which its place goes.
+pub fn rank_at(members: &Table, by_id: &[usize], id: &str) -> usize
+    requires { IsIdOrder (texts_in members.now.entries) by_id.now }
+    ensures { result ≤ length by_id.now }
+{
+    match rank_of(members, by_id, id) {
+        Ok(rank) | Err(rank) => rank,
     }
 }
 
@@ -212,21 +232,4 @@ fn is_due(members: &Table, place: usize, clock: Moment) -> bool
         Some((_, entry)) => entry.kept.is_due(clock),
         None => false,
     }
-}
-
-/// Adds the names that the members but this one subscribe. Where memory is short, some of them may be in already.
-pub fn add_names_of_others(
-    alloc: Global,
-    names: &mut NameSet,
-    members: &Table,
-    id: &str,
-) -> Result<(), AllocError>
-    ensures { OnOk result (names.new ≡ with_names_of names.old (others id.now members.now.entries)) }
-{
-    for (text, entry) in members {
-        if text.as_str() != id {
-            add_names(alloc, names, entry.kept.names())?;
-        }
-    }
-    Ok(())
 }

@@ -1,3 +1,6 @@
+use Rattle.group_epochs.proofs.Counted.{rewritten_counted}
+use Rattle.std.proofs.Common.{arith}
+use Rattle.group_epochs.proofs.Earliest.{rewritten_later}
 use Rattle.std.proofs.Common.{refl, ap, ◌∙◌}
 use Rattle.std.specs.FinMap as finite
 use Rattle.group_epochs.specs.Records.{RecordsState, members_in}
@@ -10,16 +13,26 @@ mark-requires c = member_there c.self.inside.members c.args.self.now c.args.id.n
 
 pub invariant_of-self : goal.invariant_of-self
 invariant_of-self c =
-    table_rewritten c.self.inside.members c.mark.new.members c.self.inside.past c.args.id.now (marked_at c.args.epoch) c.mark.ensures c.self.invariant
-    (member_there c.self.inside.members c.args.self.now c.args.id.now (ap (λ (s : RecordsState). s.records) c.self.view_is) c.requires) (λ e. refl)
+    record {
+      table =
+          table_rewritten c.self.inside.members c.mark.new.members c.self.inside.past c.args.id.now (marked_at c.args.epoch) c.mark.ensures c.self.invariant.table
+          (member_there c.self.inside.members c.args.self.now c.args.id.now (ap (λ (s : RecordsState). s.records) c.self.view_is) c.requires) (λ e. refl);
+      counted =
+          rewritten_counted c.self.inside.members c.mark.new.members c.self.inside.past c.args.id.now (marked_at c.args.epoch) c.mark.ensures c.self.invariant.table
+          (member_there c.self.inside.members c.args.self.now c.args.id.now (ap (λ (s : RecordsState). s.records) c.self.view_is) c.requires) c.self.inside.counts (λ e. refl) c.self.invariant.counted;
+      some = c.self.invariant.some;
+      deadlines =
+          rewritten_later c.self.inside.members c.mark.new.members c.self.inside.past c.args.id.now (marked_at c.args.epoch) c.mark.ensures c.self.invariant.table
+          (member_there c.self.inside.members c.args.self.now c.args.id.now (ap (λ (s : RecordsState). s.records) c.self.view_is) c.requires) c.self.inside.earliest c.self.inside.earliest (omega arith) (λ e was. was) c.self.invariant.deadlines;
+    }
 
 pub returns-clause-members : goal.returns-clause-members
 returns-clause-members c =
     let there = member_there c.self.inside.members c.args.self.now c.args.id.now (ap (λ (s : RecordsState). s.records) c.self.view_is) c.requires in
-    let kept = record_stays c.self.inside.members c.mark.new.members c.self.inside.past c.args.id.now (marked_at c.args.epoch) c.mark.ensures c.self.invariant there (λ e. refl) in
+    let kept = record_stays c.self.inside.members c.mark.new.members c.self.inside.past c.args.id.now (marked_at c.args.epoch) c.mark.ensures c.self.invariant.table there (λ e. refl) in
     (λ i. record { records = kept i; past = c.self.inside.past.past }) ∙ ap members_in c.self.view_is
 
 pub returns-clause-marks : goal.returns-clause-marks
 returns-clause-marks c =
     let there = member_there c.self.inside.members c.args.self.now c.args.id.now (ap (λ (s : RecordsState). s.records) c.self.view_is) c.requires in
-    mark_set c.self.inside.members c.mark.new.members c.self.inside.past c.args.id.now (marked_at c.args.epoch) c.mark.ensures c.self.invariant there c.args.epoch (λ e. refl) ∙ ap (λ (s : RecordsState). finite.insert s.marks c.args.id.now c.args.epoch) c.self.view_is
+    mark_set c.self.inside.members c.mark.new.members c.self.inside.past c.args.id.now (marked_at c.args.epoch) c.mark.ensures c.self.invariant.table there c.args.epoch (λ e. refl) ∙ ap (λ (s : RecordsState). finite.insert s.marks c.args.id.now c.args.epoch) c.self.view_is
