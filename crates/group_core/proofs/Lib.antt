@@ -9,7 +9,10 @@ pub mod OneStep
 pub mod FewPartitions
 pub mod Views
 pub mod Renewing
+pub mod HandOvers
+pub mod Idle
 pub mod Settling
+pub mod Sharing
 pub mod SoleMember
 pub mod Answered
 pub mod ListingLemmas
@@ -22,3 +25,4 @@ pub mod Results
 pub mod TakenIn
 pub mod SteadyBeats
 pub mod Marking
+pub mod Ticking

@@ -1,5 +1,5 @@
 -- What keeps the marks of steady members true.
-use Rattle.std.proofs.Common.{◌≡◌, ◌≢◌, ℕ, ◌≤◌, Bool, true, false, cond, not, ◌&&◌, ◌||◌, Option, Some, None, MatchOption, unwrap_or, refl, sym, ap, ◌∙◌, arith}
+use Rattle.std.proofs.Common.{◌≡◌, ◌≢◌, ℕ, ◌≤◌, Bool, true, false, cond, not, ◌&&◌, ◌||◌, Option, Some, None, MatchOption, unwrap_or, refl, sym, ap, ◌∙◌, arith, max}
 use Rattle.std.specs.Ordering.{eq_by_cmp}
 use Rattle.std.specs.Option.{option_map_or}
 use Rattle.std.specs.Str.{bytes_eq}
@@ -12,11 +12,13 @@ use Rattle.group_types.specs.Sets.{has}
 use Rattle.group_types.specs.Partition.{Partitions}
 use Rattle.group_types.specs.Topics.{Topics}
 use Rattle.group_types.specs.Owners.{Spread, owns, without_owner}
-use Rattle.group_types.specs.Group.{Grants, Group, held, wanted}
-use Rattle.group_types.specs.Leave.{left}
+use Rattle.group_types.specs.Group.{Grants, Offsets, Group, Record, held, wanted}
+use Rattle.group_types.specs.Leave.{gone_away, left, risen, without_member}
 use Rattle.group_types.specs.Settle.{grants_after, grants_of_others, is_free_for, moved}
 use Rattle.group_types.specs.Renewal.{IsTarget}
+use Rattle.group_types.specs.HeartbeatStep.{sent_after}
 use Rattle.group_types.specs.Sound.{IsSound}
+use Rattle.std.specs.Option.{IfSome}
 use Rattle.group_types.proofs.GrantLemmas.{has-held, has-moved, has-others}
 use Rattle.group_types.proofs.Lookups.{Tie, ties, differs, tie, not_none, get-insert_other, found_without}
 use Rattle.group_types.proofs.Orders.{partition_cmp_total, partition_cmp-IsAntisymmetric, text_cmp_total}
@@ -29,19 +31,13 @@ use Rattle.group_core.specs.declared.state.State.{State}
 use Rattle.group_core.specs.declared.draft.Draft.{Draft as Drafted}
 use Rattle.group_core.specs.declared.renewal.Renewal.{Renewal}
 use Rattle.group_core.specs.GroupView.{group_of}
-use Rattle.group_core.specs.Stages.{IsRenewalOf, epoch_if, group_then, moves, part_of, records_with, target_then}
+use Rattle.group_core.specs.Stages.{IsHeirOf, IsRenewalOf, carried, epoch_if, grants_then, group_then, heir_in, moves, part_of, record_then, records_with, target_then}
 use Rattle.group_core.specs.Steady.{AreMarked, IsSteady}
+use Rattle.group_core.proofs.HandOvers.{apart_of, heir_is_absent, marked_beside}
 
 -- ---- what others hold
 
-apart_of : (n m : Text) → n ≢ m → eq_by_cmp text_cmp n m ≡ false
-apart_of n m other = by (tie n m)
-  where
-    by : Tie n m → eq_by_cmp text_cmp n m ≡ false
-    by (ties same) = absurd (other same)
-    by (differs _ apart) = apart
-
-held_others : (b : Bool) (g : Grants) (m n : Text) (part : Partitions) → n ≢ m → held (grants_after b g m part) n ≡ held g n
+pub held_others : (b : Bool) (g : Grants) (m n : Text) (part : Partitions) → n ≢ m → held (grants_after b g m part) n ≡ held g n
 held_others false g m n part other = refl
 held_others true g m n part other =
     same_set partition_cmp_total partition_cmp-IsAntisymmetric _ _
@@ -76,8 +72,26 @@ wanted_left t m n other =
 
 -- ---- a leave
 
-pub marked_left : (g : Group) (marks : Marks) → AreMarked g marks → (m : Text) (stamp : Stamp) (moment : ℕ) → AreMarked (left g m stamp moment) (finite.remove marks m)
-marked_left g marks are m stamp moment = λ n e is.
+-- who is steady stays so at another group epoch, clock and offsets
+pub marked_at : (g : Group) (marks : Marks) → AreMarked g marks → (epoch clock : ℕ) (offsets : Offsets) → AreMarked (record g { epoch = epoch; clock = clock; offsets = offsets }) marks
+marked_at g marks are epoch clock offsets = λ n e is.
+    let was = are n e is in (
+      was.0,
+      λ same.
+          let steady = was.1 same in
+          record {
+            kept = steady.kept;
+            is_kept = steady.is_kept;
+            arrived = steady.arrived;
+            unasked = steady.unasked;
+            holds = steady.holds;
+            sent = steady.sent;
+          },
+    )
+
+-- and without a member
+pub marked_without : (g : Group) (marks : Marks) → AreMarked g marks → (m : Text) (stamp : Stamp) → AreMarked (without_member g m stamp) (finite.remove marks m)
+marked_without g marks are m stamp = λ n e is.
     let before = found_without marks m n e is in
     let was = are n e before.0 in (
       was.0,
@@ -93,19 +107,43 @@ marked_left g marks are m stamp moment = λ n e is.
           },
     )
 
+pub marked_left : (g : Group) (marks : Marks) → AreMarked g marks → (m : Text) (stamp : Stamp) (moment : ℕ) → AreMarked (left g m stamp moment) (finite.remove marks m)
+marked_left g marks are m stamp moment =
+    marked_without (record g { epoch = risen g.epoch; clock = max g.clock moment }) marks (marked_at g marks are (risen g.epoch) (max g.clock moment) g.offsets) m stamp
+
+-- ---- a member that goes away
+
+pub marked_away : (g : Group) (marks : Marks) → AreMarked g marks → (m : Text) (r : Record) (stamp : Stamp) (moment : ℕ) → AreMarked (gone_away g m r stamp moment) (finite.remove marks m)
+marked_away g marks are m r stamp moment = λ n e is.
+    let before = found_without marks m n e is in
+    let was = are n e before.0 in (
+      was.0,
+      λ same.
+          let steady = was.1 same in
+          record {
+            kept = steady.kept;
+            is_kept = get-insert_other g.records m _ n (apart_of n m before.1) ∙ steady.is_kept;
+            arrived = steady.arrived;
+            unasked = steady.unasked;
+            holds = steady.holds;
+            sent = steady.sent;
+          },
+    )
+
 -- ---- a join or a beat
 
 module _ (s : State) (sound : IsSound (group_of s)) (marks : AreMarked (group_of s) s.records.marks)
-    (d : Drafted) (now : ℕ) (image : Topics) (r : Renewal) (is : IsRenewalOf s d image r) (owned sent : Option Partitions) where
-  abbrev After : Group
-  After = group_then s d now r owned sent
+    (d : Drafted) (heir : IfSome d.heir (IsHeirOf s.records.records d.id)) (now : ℕ) (image : Topics) (r : Renewal) (is : IsRenewalOf s d image r) (owned sent : Option Partitions) where
+  -- all but the record
+  abbrev Granted : Group
+  Granted = record (carried s d now r) { grants = grants_then s d r owned }
 
   -- where the target stays, another member is as steady as it was
-  other_steady : target_then s r ≡ s.target → (n : Text) → n ≢ d.id → IsSteady (group_of s) n → IsSteady After n
+  other_steady : target_then s r ≡ s.target → (n : Text) → n ≢ d.id → IsSteady (group_of s) n → IsSteady Granted n
   other_steady stays n other steady =
       record {
         kept = steady.kept;
-        is_kept = get-insert_other s.records.records d.id _ n (apart_of n d.id other) ∙ steady.is_kept;
+        is_kept = steady.is_kept;
         arrived = steady.arrived ∙ ap (λ (t : TargetState). At t.epoch) (sym stays);
         unasked = steady.unasked;
         holds = held_others (moves s d r owned) (pairs s.grants) d.id n (part_of s d r) other ∙ steady.holds ∙ ap (λ (t : TargetState). wanted t.owners n) (sym stays);
@@ -120,13 +158,15 @@ module _ (s : State) (sound : IsSound (group_of s)) (marks : AreMarked (group_of
       by false at = let most : s.target.epoch ≤ s.epoch = sound.target_epoch in omega (arith, most, at)
 
   pub marked_then : (new : Marks) → ((n : Text) (e : ℕ) → finite.get new n ≡ Some e → (finite.get s.records.marks n ≡ Some e) × (n ≡ d.id → finite.get s.records.records d.id ≡ None))
-      → AreMarked After new
-  marked_then new keeps = λ n e there. by n e (keeps n e there) r.target refl is.target
+      → AreMarked (group_then s d now r owned sent) new
+  marked_then new keeps =
+      marked_beside Granted d.id (sent_after (record_then s d r owned now) sent) (heir_in s d) (heir_is_absent s.records.records d.id (finite.get s.records.records d.id) d.heir heir) new
+      (λ n e there. by n e (keeps n e there) r.target refl is.target)
     where
       by : (n : Text) (e : ℕ) → (finite.get s.records.marks n ≡ Some e) × (n ≡ d.id → finite.get s.records.records d.id ≡ None)
           → (o : Option TargetState) → r.target ≡ o
           → MatchOption o (r.epoch ≡ s.target.epoch) (λ (t : TargetState). (¬ (r.epoch ≡ s.target.epoch)) × (t.epoch ≡ r.epoch) × IsTarget (records_with s d) r.view s.target.owners t.owners)
-          → (e ≤ (target_then s r).epoch) × (e ≡ (target_then s r).epoch → IsSteady After n)
+          → (e ≤ (target_then s r).epoch) × (e ≡ (target_then s r).epoch → (n ≢ d.id) × IsSteady Granted n)
       by n e (was, fresh) None none same =
           let stays : target_then s r ≡ s.target = ap (λ o. unwrap_or o s.target) none in
           let before = marks n e was in
@@ -134,7 +174,8 @@ module _ (s : State) (sound : IsSound (group_of s)) (marks : AreMarked (group_of
             let low = before.0 in omega (arith, low, epoch),
             λ so.
                 let steady = before.1 (so ∙ epoch) in
-                other_steady stays n (λ it. not_none steady.kept (sym (fresh it) ∙ ap (finite.get s.records.records) (sym it) ∙ steady.is_kept)) steady,
+                let other : n ≢ d.id = λ it. not_none steady.kept (sym (fresh it) ∙ ap (finite.get s.records.records) (sym it) ∙ steady.is_kept) in
+                (other, other_steady stays n other steady),
           )
       by n e (was, fresh) (Some t) some (apart, at, target) =
           let epoch : (target_then s r).epoch ≡ r.epoch = ap (λ o. (unwrap_or o s.target).epoch) some ∙ at in

@@ -1,11 +1,14 @@
 -- The change and the renewal of a draft are the machine's.
-use Rattle.std.proofs.Common.{◌≡◌, ◌==◌, ℕ, ◌≤◌, Bool, true, false, Option, Some, None, MatchOption, unwrap_or, refl, sym, subst, arith, true≢false}
+use Rattle.std.proofs.Common.{◌≡◌, ◌==◌, ℕ, ◌≤◌, Bool, true, false, Option, Some, None, MatchOption, unwrap_or, is_some, IsTrue, refl, sym, ap, subst, ◌∙◌, arith, true≢false}
 use Rattle.std.specs.FinMap as finite
 use Rattle.std.proofs.lemmas.Bool.Decides.{Decides-eqb}
 use Rattle.group_types.specs.Topics.{Topics}
-use Rattle.group_types.specs.Group.{Group, Record}
+use Rattle.group_types.specs.Group.{Group, Record, Records}
 use Rattle.group_types.specs.Renewal.{IsChange, IsTarget, Renews, RenewsWhere, changed_if}
 use Rattle.group_types.specs.Sound.{IsSound}
+use Rattle.group_types.specs.declared.partition.Partition.{Partition}
+use Rattle.group_types.specs.Text.{Text}
+use Rattle.group_types.proofs.Lookups.{Tie, ties, differs, tie, get-inserted, get-insert_other}
 use Rattle.group_types.proofs.TargetOwners.{target_owners}
 use Rattle.group_target.specs.TargetState.{TargetState}
 use Rattle.group_core.specs.declared.state.State.{State}
@@ -13,6 +16,13 @@ use Rattle.group_core.specs.declared.draft.Draft.{Draft as Drafted}
 use Rattle.group_core.specs.declared.renewal.Renewal.{Renewal}
 use Rattle.group_core.specs.GroupView.{group_of}
 use Rattle.group_core.specs.Stages.{AreOfView, draft_in, epoch_if, renewed_by, target_then}
+
+still_there : (records : Records) (m : Text) (r : Record) (n : Text) → IsTrue (finite.contains_key records n) → IsTrue (finite.contains_key (finite.insert records m r) n)
+still_there records m r n there = by (tie n m)
+  where
+    by : Tie n m → IsTrue (finite.contains_key (finite.insert records m r) n)
+    by (ties same) = ap (λ k. is_some (finite.get (finite.insert records m r) k)) same ∙ ap is_some (get-inserted records m r)
+    by (differs _ apart) = ap is_some (get-insert_other records m r n apart) ∙ there
 
 -- without a change the view is the stored one
 view_stays : (o : Option Record) (after : Record) (stored view : Topics) → IsChange false o after stored view → stored ≡ view
@@ -69,3 +79,11 @@ module _ (s : State) (d : Drafted) (now : ℕ) (r : Renewal) where
       by : (o : Option TargetState) → IsRenewed o → AreOfView (unwrap_or o s.target).owners r.view
       by None same = stored change is epoch same
       by (Some t) is = λ p m owns. (target_owners The.records r.view s.target.owners t.owners is.2 p m owns).1
+
+  -- who owns a partition has a record, the draft's or one before it
+  pub owner_is_member : IsSound (group_of s) → IsRenewed r.target → (p : Partition) (m : Text) → finite.get (target_then s r).owners p ≡ Some m → IsTrue (finite.contains_key The.records m)
+  owner_is_member sound renewed p m = by r.target renewed
+    where
+      by : (o : Option TargetState) → IsRenewed o → finite.get (unwrap_or o s.target).owners p ≡ Some m → IsTrue (finite.contains_key The.records m)
+      by None same owns = still_there s.records.records d.id d.record m (sound.owners m p owns)
+      by (Some t) is owns = (target_owners The.records r.view s.target.owners t.owners is.2 p m owns).0

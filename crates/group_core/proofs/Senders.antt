@@ -1,5 +1,5 @@
 -- Whom a heartbeat is of, and what the records and the past say of it.
-use Rattle.std.proofs.Common.{◌≡◌, Bool, true, false, cond, ◌&&◌, ◌||◌, [], ◌∷◌, Some, None, refl, sym, ap, ◌∙◌}
+use Rattle.std.proofs.Common.{◌≡◌, Bool, true, false, cond, ◌&&◌, ◌||◌, [], ◌∷◌, Option, Some, None, IsTrue, is_some, true≢false, refl, sym, ap, ◌∙◌}
 use Rattle.std.specs.Option.{option_map_or}
 use Rattle.std.specs.Ordering.{eq_by_cmp}
 use Rattle.std.specs.FinMap as finite
@@ -11,6 +11,11 @@ use Rattle.group_types.specs.Sound.{IsPast}
 use Rattle.group_types.specs.Request.{Heartbeat}
 use Rattle.group_types.specs.Checks.{is_late, is_of_past, other_with, record_under, sender_of}
 use Rattle.group_types.proofs.Lookups.{same_text, not_none}
+
+-- what is there
+pub there_is : {X : Type 0} (o : Option X) → IsTrue (is_some o) → (x : X) × (o ≡ Some x)
+there_is None never = absurd (true≢false (sym never))
+there_is (Some x) there = (x, refl)
 
 -- the record under an id, where the empty id has none
 pub record_under-get : (records : Records) (m : Text) → finite.get records [] ≡ None → record_under records m ≡ finite.get records m
@@ -39,8 +44,3 @@ of_past records (e ∷ past) m stamp is =
       | true ↦ λ same. ap (λ b. is_late stamp e.1 || b) (of_none past m stamp (ap (past_stamp past) (same_text m e.0 same) ∙ is.2)) ∙ or_false (is_late stamp e.1)
       | false ↦ λ apart. of_past records past m stamp is.3
     ] refl
-
--- where no instance is named the sender is the member alone
-pub sender_alone : (records : Records) (q : Heartbeat) → q.instance ≡ None → finite.get records [] ≡ None
-    → sender_of records q ≡ record { own = finite.get records q.member; other = None }
-sender_alone records q none named = λ i. record { own = record_under-get records q.member named i; other = other_with records q.member (none i) }

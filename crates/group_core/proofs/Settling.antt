@@ -1,21 +1,25 @@
 -- The settling of a draft and its reply are the machine's.
-use Rattle.std.proofs.Common.{◌≡◌, ℕ, ◌||◌, Option, Some, refl, sym, ap, subst, ◌∙◌}
+use Rattle.std.proofs.Common.{◌≡◌, ℕ, ◌||◌, Option, Some, None, refl, sym, ap, subst, ◌∙◌}
 use Rattle.std.specs.FinMap as finite
+use Rattle.std.specs.Option.{IfSome}
 use Rattle.group_types.specs.Topics.{Topics}
 use Rattle.group_types.specs.Partition.{Partitions}
 use Rattle.group_types.specs.Request.{Heartbeat, is_full, reported}
 use Rattle.group_types.specs.Group.{Group, Record, Records}
 use Rattle.group_types.specs.Renewal.{view_for}
 use Rattle.group_types.specs.Settle.{settled, settled_by}
-use Rattle.group_types.specs.HeartbeatStep.{Draft, Replied, RepliesTo, RepliesWith, SettlesAndReplies, acceptance, assignment_of, is_news, sent_after}
+use Rattle.group_types.specs.Members.{past_stamp, remembering, without_past}
+use Rattle.group_types.specs.HeartbeatStep.{Draft, Heir, Replied, RepliesTo, RepliesWith, SettlesAndReplies, acceptance, assignment_of, handed_over, heir_or, is_news, sent_after}
 use Rattle.group_types.proofs.Lookups.{get-inserted}
 use Rattle.group_types.proofs.Orders.{text_cmp_total, text_cmp-IsAntisymmetric}
 use Rattle.group_core.specs.declared.state.State.{State}
 use Rattle.group_core.specs.declared.draft.Draft.{Draft as Drafted}
 use Rattle.group_core.specs.declared.renewal.Renewal.{Renewal}
 use Rattle.group_core.specs.Outcome.{IsCurrent}
-use Rattle.group_core.specs.Stages.{draft_in, grants_then, group_then, moves, record_then, renewed_by, shown_then}
+use Rattle.group_core.specs.Stages.{carried, draft_in, grants_then, group_then, heir_in, moves, record_then, renewed_by, shown_then, stored_in}
 use Rattle.group_core.proofs.Kept.{settled_names, settled_sent, sent_names}
+use Rattle.group_core.proofs.HandOvers.{remove-inserted, view_for-heir}
+use Rattle.group_core.proofs.SteadyBeats.{kept_past}
 use Rattle.group_core.proofs.Single.{insert-insert}
 use Rattle.group_core.proofs.Views.{view_for-either}
 
@@ -44,17 +48,29 @@ module _ (s : State) (d : Drafted) (now : ℕ) (r : Renewal) (q : Heartbeat) whe
   abbrev Assigned : Option Partitions
   Assigned = assignment_of (is_full q || is_news d.record.sent Shown) Shown
 
-  stored : (sent : Option Partitions) → group_then s d now r Owned sent ≡ record Settled { records = finite.insert (finite.insert Before d.id After) d.id (sent_after After sent) }
-  stored sent = ap (λ (rs : Records). record Settled { records = rs })
-      (sym (insert-insert text_cmp_total text_cmp-IsAntisymmetric Before d.id After (sent_after After sent)
-      ∙ insert-insert text_cmp_total text_cmp-IsAntisymmetric s.records.records d.id d.record (sent_after After sent)))
+  -- all but the record
+  abbrev Granted : Group
+  Granted = record (carried s d now r) { grants = grants_then s d r Owned }
 
-  pub settles_and_replies : SettlesAndReplies Renewed (draft_in s d now) q (Replied (acceptance d.id After Assigned)) (group_then s d now r Owned Assigned)
-  settles_and_replies =
+  stored : (o : Option Heir) → IfSome o (λ h. past_stamp s.records.past d.id ≡ None) → (last : Record) → stored_in Granted d.id last o ≡ handed_over Settled d.id last o
+  stored None fresh last = ap (λ (rs : Records). record Settled { records = rs })
+      (sym (insert-insert text_cmp_total text_cmp-IsAntisymmetric Before d.id After last
+      ∙ insert-insert text_cmp_total text_cmp-IsAntisymmetric s.records.records d.id d.record last))
+  stored (Some h) fresh last =
+      let without : finite.remove Settled.records d.id ≡ finite.remove s.records.records d.id =
+      remove-inserted Before d.id After ∙ remove-inserted s.records.records d.id d.record in
+      λ i. record (handed_over Settled d.id last (Some h)) {
+        records = finite.insert (sym without i) h.id last;
+        past = remembering (without_past (sym (kept_past s.records.past d.id fresh) i) h.id) d.id h.last;
+      }
+
+  pub settles_and_replies : IfSome (heir_in s d) (λ h. past_stamp s.records.past d.id ≡ None)
+      → SettlesAndReplies Renewed (draft_in s d now) q (Replied (acceptance (heir_or d.id (heir_in s d)) After Assigned)) (group_then s d now r Owned Assigned)
+  settles_and_replies fresh =
       let D : Draft = draft_in s d now in
       let new : Group = group_then s d now r Owned Assigned in
-      let answer = Replied (acceptance d.id After Assigned) in
-      let replied : RepliesWith Settled D After Assigned answer new = (refl, stored Assigned) in
+      let answer = Replied (acceptance (heir_or d.id (heir_in s d)) After Assigned) in
+      let replied : RepliesWith Settled D After Assigned answer new = (refl, stored (heir_in s d) fresh (sent_after After Assigned)) in
       let told : RepliesTo Settled D (Some After) (is_full q) answer new =
       subst (λ o. RepliesWith Settled D After (assignment_of (is_full q || is_news o Shown) Shown) answer new) (sym (settled_sent (moves s d r Owned) d.record _ now)) replied in
       let looked : RepliesTo Settled D (finite.get Settled.records d.id) (is_full q) answer new =
@@ -62,6 +78,16 @@ module _ (s : State) (d : Drafted) (now : ℕ) (r : Renewal) (q : Heartbeat) whe
       subst (λ (g : Group). RepliesTo g D (finite.get g.records d.id) (is_full q) answer new) (sym settles) looked
 
   -- the view is that of the image still
-  pub current_then : (image : Topics) (sent : Option Partitions) → r.view ≡ view_for image Before → IsCurrent (group_then s d now r Owned sent) image
-  current_then image sent is =
-      is ∙ sym (view_for-either image s.records.records d.id (sent_after After sent) d.record (sent_names After sent ∙ settled_names (moves s d r Owned) d.record _ now))
+  pub current_then : IfSome (heir_in s d) (λ h. finite.get s.records.records h.id ≡ None) → (image : Topics) (owned sent : Option Partitions) → r.view ≡ view_for image Before
+      → IsCurrent (group_then s d now r owned sent) image
+  current_then absent image owned sent is = by (heir_in s d) absent
+    where
+      last : Record
+      last = sent_after (record_then s d r owned now) sent
+
+      names : last.names ≡ d.record.names
+      names = sent_names (record_then s d r owned now) sent ∙ settled_names (moves s d r owned) d.record _ now
+
+      by : (o : Option Heir) → IfSome o (λ h. finite.get s.records.records h.id ≡ None) → IsCurrent (stored_in (record (carried s d now r) { grants = grants_then s d r owned }) d.id last o) image
+      by None tt = is ∙ sym (view_for-either image s.records.records d.id last d.record names)
+      by (Some h) none = is ∙ sym (view_for-heir image s.records.records d.id h.id d.record last none names)

@@ -76,7 +76,7 @@ no_news r set sent =
 
 -- ---- a member that has a record isn't of the past
 
-kept_past : (past : Past) (m : Text) → past_stamp past m ≡ None → without_past past m ≡ past
+pub kept_past : (past : Past) (m : Text) → past_stamp past m ≡ None → without_past past m ≡ past
 kept_past [] m none = refl
 kept_past (e ∷ past) m none =
     elim (eq_by_cmp text_cmp m e.0) as (λ b. cond b (Some e.1) (past_stamp past m) ≡ None → cond (not b) (e ∷ without_past past m) (without_past past m) ≡ e ∷ past) [

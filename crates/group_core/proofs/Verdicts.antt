@@ -1,12 +1,14 @@
 -- The checks on the request alone come first, and what they let through meets the others.
-use Rattle.std.proofs.Common.{◌≡◌, ◌≢◌, zero, suc, ℤ, pos, negsuc, Bool, true, false, cond, ◌&&◌, ◌||◌, List, [], ◌∷◌, refl, ap, ◌∙◌, int_le}
+use Rattle.std.proofs.Common.{◌≡◌, ◌≢◌, ℕ, zero, suc, not, nat_le, is_none, Option, Some, None, sym, ℤ, pos, negsuc, Bool, true, false, cond, ◌&&◌, ◌||◌, List, [], ◌∷◌, refl, ap, ◌∙◌, int_le}
+use Rattle.std.specs.FinMap as finite
 use Rattle.group_types.specs.declared.code.Code.{Code}
 use Rattle.group_types.specs.declared.code.Code.TheVariants as codes
 use Rattle.group_types.specs.declared.stamp.Stamp.{Stamp}
+use Rattle.group_types.specs.Limits.{MOST_MEMBERS}
 use Rattle.group_types.specs.Request.{Heartbeat, Kind, Joins, Beats, Leaves, GoesAway, IsNone, kind_of, is_empty, is_invalid, is_invalid_as, is_unknown, is_unsupported}
-use Rattle.group_types.specs.Group.{Group}
-use Rattle.group_types.specs.Checks.{Check, Verdict, Accepted, Refused, Overtaken, Sender, checks_of, first_of, verdict_on}
-use Rattle.group_core.specs.Checks.{verdict_on_request}
+use Rattle.group_types.specs.Group.{Group, Record}
+use Rattle.group_types.specs.Checks.{Check, Member, Verdict, Accepted, Refused, Overtaken, Sender, checks_of, first_of, is_another, is_away, is_of_past, is_overtaken, is_too_many, is_unreleased, verdict_on}
+use Rattle.group_core.specs.Checks.{verdict_on_place, verdict_on_request}
 
 -- ---- refused by the request
 
@@ -43,6 +45,62 @@ refused_by_request (negsuc (suc zero)) q at code is sender g stamp =
     one_of (is_invalid q) (is_unsupported q) _ code (ap (λ e. int_le (pos 0) e && is_unknown q.assignor) at) is
 refused_by_request (negsuc (suc (suc n))) q at code is sender g stamp =
     invalid_of (is_invalid q) (is_unsupported q) code (ap (λ e. is_empty q.group || is_invalid_as q (kind_of e)) at ∙ or_true (is_empty q.group)) is
+
+-- ---- a request that is let through meets the other checks
+
+passes : (a b : Bool) → first_of ((a, Refused codes.InvalidRequest) ∷ (b, Refused codes.UnsupportedAssignor) ∷ []) ≡ Accepted → (a ≡ false) × (b ≡ false)
+passes true b is = absurd (cc)
+passes false true is = absurd (cc)
+passes false false is = (refl, refl)
+
+pub join_checks : (q : Heartbeat) → verdict_on_request q ≡ Accepted → (sender : Sender) (g : Group) (stamp : Stamp)
+    → verdict_on Joins sender g q stamp ≡ cond (is_overtaken stamp sender.own || is_of_past g.past q.member stamp) Overtaken (verdict_on_place sender (finite.len g.records))
+join_checks q valid sender g stamp =
+    let by = passes (is_invalid q) (is_unsupported q) valid in
+    λ i. first_of
+    ((by.0 i, Refused codes.InvalidRequest)
+    ∷ (by.1 i, Refused codes.UnsupportedAssignor)
+    ∷ (is_overtaken stamp sender.own || is_of_past g.past q.member stamp, Overtaken)
+    ∷ (is_unreleased sender.own sender.other, Refused codes.UnreleasedInstanceId)
+    ∷ (is_too_many sender.own sender.other (finite.len g.records), Refused codes.GroupMaxSizeReached)
+    ∷ [])
+
+pub going_checks : (q : Heartbeat) → verdict_on_request q ≡ Accepted → (sender : Sender) (g : Group) (stamp : Stamp)
+    → verdict_on GoesAway sender g q stamp ≡ cond (is_another sender.own q.instance) (Refused codes.UnknownMemberId) (cond (is_overtaken stamp sender.own) Overtaken Accepted)
+going_checks q valid sender g stamp =
+    ap (λ b. cond b (Refused codes.InvalidRequest) (cond (is_another sender.own q.instance) (Refused codes.UnknownMemberId) (cond (is_overtaken stamp sender.own) Overtaken Accepted)))
+    (passes (is_invalid q) (is_unsupported q) valid).0
+
+-- a join beside another member that has its instance
+pub beside_other : (own : Option Record) (other : Member) (members : ℕ)
+    → verdict_on_place (record { own = own; other = Some other }) members ≡ cond (is_none own && is_away other.kept.epoch) Accepted (Refused codes.UnreleasedInstanceId)
+beside_other (Some r) other members = refl
+beside_other None other members =
+    elim (is_away other.kept.epoch) as (λ b. cond (not b) (Refused codes.UnreleasedInstanceId) Accepted ≡ cond b Accepted (Refused codes.UnreleasedInstanceId)) [ true ↦ refl | false ↦ refl ]
+
+-- and where there is no such member
+pub alone : (own : Option Record) (members : ℕ)
+    → verdict_on_place (record { own = own; other = None }) members ≡ cond (is_none own && nat_le MOST_MEMBERS members) (Refused codes.GroupMaxSizeReached) Accepted
+alone (Some r) members = refl
+alone None members = refl
+
+-- ---- an accepted join
+
+accepted_of : (a b c d e : Bool)
+    → first_of ((a, Refused codes.InvalidRequest) ∷ (b, Refused codes.UnsupportedAssignor) ∷ (c, Overtaken) ∷ (d, Refused codes.UnreleasedInstanceId) ∷ (e, Refused codes.GroupMaxSizeReached) ∷ []) ≡ Accepted
+    → (d ≡ false) × (e ≡ false)
+accepted_of true b c d e is = absurd (cc)
+accepted_of false true c d e is = absurd (cc)
+accepted_of false false true d e is = absurd (cc)
+accepted_of false false false true e is = absurd (cc)
+accepted_of false false false false true is = absurd (cc)
+accepted_of false false false false false is = (refl, refl)
+
+-- its instance is released, and the group takes its member
+pub joins_accepted : (sender : Sender) (g : Group) (q : Heartbeat) (stamp : Stamp) → verdict_on Joins sender g q stamp ≡ Accepted
+    → (is_unreleased sender.own sender.other ≡ false) × (is_too_many sender.own sender.other (finite.len g.records) ≡ false)
+joins_accepted sender g q stamp is =
+    accepted_of (is_invalid q) (is_unsupported q) (is_overtaken stamp sender.own || is_of_past g.past q.member stamp) (is_unreleased sender.own sender.other) (is_too_many sender.own sender.other (finite.len g.records)) is
 
 -- ---- a refusal has the code of an error
 

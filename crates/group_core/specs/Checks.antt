@@ -3,7 +3,7 @@ use Rattle.std.specs.Prelude.{◌≡◌, ℕ, nat_le, pos, [], ◌∷◌, None}
 use Rattle.group_types.specs.declared.code.Code.TheVariants as codes
 use Rattle.group_types.specs.Limits.{GREATEST_EPOCH}
 use Rattle.group_types.specs.Request.{Heartbeat, is_invalid, is_unsupported}
-use Rattle.group_types.specs.Checks.{Verdict, Refused, first_of}
+use Rattle.group_types.specs.Checks.{Verdict, Refused, Sender, first_of, is_too_many, is_unreleased}
 
 -- KIP-848, "Consumer Group Heartbeat": a member joins that has neither an id nor an instance
 pub record MakesMember (q : Heartbeat) : Type 0 where
@@ -15,6 +15,14 @@ pub record MakesMember (q : Heartbeat) : Type 0 where
 abbrev pub verdict_on_request : Heartbeat → Verdict
 verdict_on_request q =
     first_of ((is_invalid q, Refused codes.InvalidRequest) ∷ (is_unsupported q, Refused codes.UnsupportedAssignor) ∷ [])
+
+-- The checks of a join that look at other members: its instance is released, and the group takes one member more.
+abbrev pub verdict_on_place : Sender → ℕ → Verdict
+verdict_on_place sender members =
+    first_of
+    ((is_unreleased sender.own sender.other, Refused codes.UnreleasedInstanceId)
+    ∷ (is_too_many sender.own sender.other members, Refused codes.GroupMaxSizeReached)
+    ∷ [])
 
 -- of the first join of a group at an epoch: after these, whether the epoch can rise
 abbrev pub verdict_on_first : Heartbeat → ℕ → Verdict

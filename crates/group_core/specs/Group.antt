@@ -1,23 +1,18 @@
 -- How a group's state is stored.
-use Rattle.std.specs.Prelude.{ℕ, ℤ, refl, Option}
-use Rattle.std.specs.Coded.{Coded, code_by, coded×, coded_ℕ, coded_ℤ, coded_option}
+use Rattle.std.specs.Prelude.{ℕ, refl}
+use Rattle.std.specs.Coded.{Coded, code_by, coded×, coded_ℕ}
 use Rattle.std.specs.FinMap as finite
 use Rattle.std.specs.FinSet as set
-use Rattle.group_types.specs.Text.{Text}
 use Rattle.group_types.specs.Partition.{partition_code}
 use Rattle.group_types.specs.Topics.{Topics}
-use Rattle.group_types.specs.Group.{Records, Target, Grants, Committed, Offsets, Past, Group}
+use Rattle.group_types.specs.Group.{Records, Target, Grants, Offsets, Past, Group}
 use Rattle.topic_meta.specs.Stored.{topics_code}
 use Rattle.range_assign.specs.Shares.{owners_code}
 use Rattle.group_epochs.specs.Stored.{text_code, record_code, past_code}
+use Rattle.offset_guard.specs.Stored.{offsets_code}
 
 abbrev grants_code : Coded Grants
 grants_code = set.code (coded× text_code partition_code)
-
-abbrev committed_code : Coded Committed
-committed_code =
-    code_by (ℤ × (ℤ × Option Text)) (coded× coded_ℤ (coded× coded_ℤ (coded_option text_code)))
-    (λ c. (c.offset, (c.leader_epoch, c.metadata))) (λ p. record { offset = p.0; leader_epoch = p.1.0; metadata = p.1.1 }) (λ _. refl)
 
 -- the fields of a group: salt, the epochs, records, target, grants, offsets, view, clock, serial, past
 abbrev GroupFields : Type 0
@@ -46,7 +41,7 @@ group_of_fields p =
 abbrev group_fields_code : Coded GroupFields
 group_fields_code =
     coded× coded_ℕ (coded× coded_ℕ (coded× coded_ℕ (coded× (finite.code text_code record_code) (coded× owners_code
-    (coded× grants_code (coded× (finite.code (coded× text_code coded_ℤ) committed_code) (coded× topics_code
+    (coded× grants_code (coded× offsets_code (coded× topics_code
     (coded× coded_ℕ (coded× coded_ℕ past_code)))))))))
 
 abbrev pub group_code : Coded Group

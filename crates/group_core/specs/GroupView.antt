@@ -1,6 +1,5 @@
 -- A group's fields as its state.
 use Rattle.std.specs.Prelude.{suc}
-use Rattle.std.specs.FinMap as finite
 use Rattle.group_types.specs.Group.{Group}
 use Rattle.group_types.specs.Sound.{IsSound}
 use Rattle.group_reconcile.specs.Holders.{pairs}
@@ -8,7 +7,6 @@ use Rattle.group_core.specs.declared.state.State.{State}
 use Rattle.group_core.specs.declared.group.Group.TheInside.{Inside}
 use Rattle.group_core.specs.Steady.{AreMarked}
 
--- Nothing is committed yet.
 abbrev pub group_of : State → Group
 group_of s =
     record {
@@ -18,7 +16,7 @@ group_of s =
       records = s.records.records;
       target = s.target.owners;
       grants = pairs s.grants;
-      offsets = finite.empty;
+      offsets = s.offsets;
       view = s.view;
       clock = s.clock;
       serial = suc s.ids_made;

@@ -6,7 +6,7 @@ pub mod Outcome
 pub mod Group
 pub mod GroupView
 pub mod FirstMember
-pub mod Built
+pub mod Commits
 pub mod Laws
 pub mod Stages
 pub mod Steady

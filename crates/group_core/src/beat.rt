@@ -1,5 +1,6 @@
 //! A beat at a member epoch of 1 or more (KIP-848, "Consumer Group Heartbeat").
-ghost use Rattle.std.specs.Prelude.{◌≡◌, ◌≤ℤ◌, ◌-◌, IfOk, IsTrue, OnErr, length, pos, vec_capacity};
+ghost use Rattle.std.specs.Prelude.{◌≡◌, ◌≤◌, ◌≤ℤ◌, ◌-◌, IfOk, OnErr, length, pos, vec_capacity};
+ghost use Rattle.group_types.specs.Limits.{LONGEST_STRING};
 ghost use Rattle.group_types.specs.Sound.{IsSound};
 ghost use Rattle.group_types.specs.Checks.{sender_of};
 ghost use Rattle.group_types.specs.HeartbeatStep.{BeatsWith};
@@ -32,6 +33,7 @@ pub fn beat<'a>(
     requires sound { IsSound (group_of state.old) }
     requires marks { AreMarked (group_of state.old) state.old.records.marks }
     requires beats { pos 1 ≤ℤ request.now.member_epoch }
+    requires id { length request.now.member_id.now ≤ LONGEST_STRING }
     requires there { IsMember state.old.records request.now.member_id.now }
     ensures step { let a = arrival_of (heartbeat_request_value request.now) stamp moment image.now in
         IfOk result (λ outcome. BeatsWith (sender_of state.old.records.records a.heartbeat).own (group_of state.old) a (answer_of outcome) (group_of state.new)) }

@@ -1,70 +1,50 @@
-//! Carries out what was planned for a draft: the last growths, and then what can't fail.
-ghost use Rattle.std.specs.Prelude.{◌≡◌, ◌≢◌, ◌<◌, IfOk, MatchOption, OnErr, OnOk, Some, None, [], unwrap_or};
-ghost use Rattle.std.specs.FinMap as finite;
-ghost use Rattle.group_types.specs.Group.{wanted};
-ghost use Rattle.group_types.specs.Members.{with_record};
-ghost use Rattle.group_types.specs.Settle.{grants_after, may_settle, settled_record};
+//! Carries out what was planned for a draft: its record, its target and its view are stored, which can't fail.
+ghost use Rattle.std.specs.Prelude.{◌≡◌, ◌≢◌, IfSome, [], suc, unwrap_or};
+ghost use Rattle.group_types.specs.Settle.{settled_record};
 ghost use Rattle.group_types.specs.HeartbeatStep.{acceptance, sent_after};
 ghost use Rattle.group_reconcile.specs.Holders.{pairs};
-ghost use Rattle.group_reconcile.specs.Offers.{AreIndexed};
-ghost use Rattle.group_epochs.specs.Records.{IsInstanceFreeFor, IsMember, members_in};
+ghost use Rattle.group_epochs.specs.Records.{IsInstanceFreeFor};
 ghost use Rattle.group_core.specs.GroupView.{group_of};
 ghost use Rattle.group_core.specs.Outcome.{reply_of};
-ghost use Rattle.group_core.specs.Stages.{group_then, part_of, record_then};
+ghost use Rattle.group_core.specs.Stages.{CanStore, HasNothing, carried, heir_in, placed_heir, record_after, stored_in, target_then};
 ghost use Rattle.group_core.specs.Steady.{KeepsMarks};
 
 use crate::draft::Draft;
 use crate::outcome::Reply;
-use crate::plan::{Plan, target_of};
+use crate::place::{Place, store};
+use crate::plan::{Plan, Said, Told};
+use crate::ready::{Growth, Ready};
 use crate::renewal::Renewal;
 use crate::state::State;
-use group_epochs::{NewMember, Record, Records};
-use group_reconcile::{Grants, Verdict};
-use group_target::Target;
-use group_types::{EpochNumber, MemberId, Moment, PartSet};
-use std::alloc::{AllocError, Global};
+use group_epochs::Record;
+use group_types::{Epoch, EpochNumber, Moment, PartSet};
 
-/// Settles the member of a draft, stores its record and all that the renewal changed, and replies. Where memory is short, the
-/// group is as it was.
+/// Stores a draft's record and all that its renewal changed, and replies. Takes no memory.
 pub fn carry_out<'a>(
     state: &mut State,
-    alloc: Global,
     draft: Draft,
     renewal: Renewal,
-    plan: Plan<'a>,
+    ready: Ready<'a>,
     now: Moment,
-) -> Result<Reply<'a>, AllocError>
+) -> Reply<'a>
     requires named { draft.id ≢ [] }
     requires instance { IsInstanceFreeFor state.old.records.records draft.id draft.record }
-    requires indexed { AreIndexed (part_of state.old draft renewal) }
-    ensures reply { IfOk result (λ reply. reply_of reply ≡ acceptance plan.entry.id (record_then state.old draft renewal plan.entry.owned now) plan.entry.assignment) }
-    ensures group { OnOk result (group_of state.new ≡ group_then state.old draft now renewal plan.entry.owned plan.entry.sent) }
-    ensures marks { OnOk result (KeepsMarks state.old.records state.new.records draft.id) }
-    ensures err { OnErr result (group_of state.new ≡ group_of state.old) }
-    ensures same { OnErr result (state.new.records.marks ≡ state.old.records.marks) }
+    requires place { CanStore state.old.records draft.id draft.record ready.growth.place }
+    requires same { placed_heir ready.growth.place ≡ draft.heir }
+    requires heir { IfSome draft.heir (HasNothing (target_then state.old renewal).owners (pairs state.old.grants)) }
+    ensures reply { reply_of result ≡ acceptance ready.entry.plan.id (record_after state.old draft renewal ready.entry.growth.moves now) ready.entry.plan.told.said.assignment }
+    ensures group { group_of state.new ≡ stored_in (carried state.old draft now renewal) draft.id
+        (sent_after (record_after state.old draft renewal ready.entry.growth.moves now) ready.entry.plan.told.said.sent) (heir_in state.old draft) }
+    ensures marks { KeepsMarks state.old.records state.new.records draft.id }
 {
-    let new = prepared(&mut state.records, alloc, draft.id.as_str())?;
-    let target = target_of(&renewal.target, &state.target);
-    let target_epoch = target.epoch();
-    let moves = offered(&mut state.grants, alloc, target, &draft.id, &plan.owned)?;
-    let Draft {
-        id: member,
-        ids_made,
-        record,
-    } = draft;
-    let Plan {
-        owned: _,
-        id,
-        assignment,
-        sent,
-    } = plan;
-    let record = settled(record, moves, target_epoch, sent, now);
-    let epoch = record.epoch();
-    store(&mut state.records, new, member.as_str(), record);
-    state.clock = now;
-    state.ids_made = ids_made;
+    let Ready { plan, growth } = ready;
+    let Plan { told, id } = plan;
+    let Told { owned: _, said } = told;
+    let Said { assignment, sent } = said;
+    let Growth { place, moves } = growth;
     take_in(state, renewal);
-    Ok(Reply::acceptance(id, epoch, assignment))
+    let epoch = store_draft(state, draft, place, moves, sent, now);
+    Reply::acceptance(id, epoch, assignment)
 }
 
 /// Stores what a renewal changed. Takes no memory.
@@ -78,37 +58,37 @@ fn take_in(state: &mut State, renewal: Renewal)
     }
 }
 
-/// Makes room for the record of an id that has none.
-fn prepared(records: &mut Records, alloc: Global, id: &str) -> Result<Option<NewMember>, AllocError>
-    ensures new { IfOk result (λ new. MatchOption new (IsMember records.new id.now)
-        (λ n. (n ≡ id.now) × (0 < records.new.room) × (finite.get records.new.records id.now ≡ None))) }
-    ensures members { members_in records.new ≡ members_in records.old }
-    ensures marks { records.new.marks ≡ records.old.marks }
+/// Stores a draft's record once its member was settled and was sent a set, if any, and gives its epoch. Takes no memory.
+fn store_draft(
+    state: &mut State,
+    draft: Draft,
+    place: Place,
+    moves: bool,
+    sent: Option<PartSet>,
+    now: Moment,
+) -> Epoch
+    requires named { draft.id ≢ [] }
+    requires instance { IsInstanceFreeFor state.old.records.records draft.id draft.record }
+    requires place { CanStore state.old.records draft.id draft.record place }
+    requires same { placed_heir place ≡ draft.heir }
+    requires heir { IfSome draft.heir (HasNothing state.old.target.owners (pairs state.old.grants)) }
+    ensures epoch { result ≡ (settled_record moves draft.record state.old.target.epoch now).epoch }
+    ensures group { group_of state.new ≡ stored_in (record (group_of state.old) { clock = now; serial = suc draft.ids_made }) draft.id
+        (sent_after (settled_record moves draft.record state.old.target.epoch now) sent) (heir_in state.old draft) }
+    ensures marks { KeepsMarks state.old.records state.new.records draft.id }
 {
-    if records.get(id).is_some() {
-        return Ok(None);
-    }
-    Ok(Some(records.prepare(alloc, id)?))
-}
-
-/// Offers its part of the target to a member, and says whether it moves.
-fn offered(
-    grants: &mut Grants,
-    alloc: Global,
-    target: &Target,
-    id: &MemberId,
-    owned: &Option<PartSet>,
-) -> Result<bool, AllocError>
-    requires { AreIndexed (wanted target.now.owners id.now) }
-    ensures moves { IfOk result (λ moves. moves ≡ may_settle (pairs grants.old) id.now (wanted target.now.owners id.now) owned.now) }
-    ensures grants { OnOk result (pairs grants.new
-        ≡ grants_after (may_settle (pairs grants.old) id.now (wanted target.now.owners id.now) owned.now) (pairs grants.old) id.now (wanted target.now.owners id.now)) }
-    ensures err { OnErr result (grants.new ≡ grants.old) }
-{
-    match grants.offer(alloc, id, &target.of(id.as_str()), owned.as_ref())? {
-        Verdict::Moves => Ok(true),
-        Verdict::StillHolds => Ok(false),
-    }
+    let Draft {
+        id,
+        ids_made,
+        record,
+        heir: _,
+    } = draft;
+    let record = settled(record, moves, state.target.epoch(), sent, now);
+    let epoch = record.epoch();
+    state.clock = now;
+    state.ids_made = ids_made;
+    store(state, place, id.as_str(), record);
+    epoch
 }
 
 /// The record once its member was settled and was sent a set, if any.
@@ -126,19 +106,4 @@ fn settled(
         record.send(set);
     }
     record
-}
-
-/// Stores the record of a member, or of a new one.
-fn store(records: &mut Records, new: Option<NewMember>, id: &str, record: Record)
-    requires new { MatchOption new (IsMember records.old id.now)
-        (λ n. (n ≡ id.now) × (0 < records.old.room) × (finite.get records.old.records id.now ≡ None)) }
-    requires named { id.now ≢ [] }
-    requires instance { IsInstanceFreeFor records.old.records id.now «record» }
-    ensures members { members_in records.new ≡ with_record (members_in records.old) id.now «record» }
-    ensures marks { KeepsMarks records.old records.new id.now }
-{
-    match new {
-        Some(new) => records.join(new, record),
-        None => records.put(id, record),
-    }
 }

@@ -1,5 +1,5 @@
 //! A group and its heartbeats.
-ghost use Rattle.std.specs.Prelude.{◌≡◌, ◌-◌, IfOk, OnErr, true, length, vec_capacity, unwrap_or, option_map};
+ghost use Rattle.std.specs.Prelude.{◌≡◌, ◌≤◌, ◌-◌, IfOk, OnErr, true, length, vec_capacity, unwrap_or, option_map};
 ghost use Rattle.std.specs.Option.{option_copied};
 ghost use Rattle.std.specs.FinMap as finite;
 ghost use Rattle.group_types.specs.Sets.{nothing};
@@ -7,14 +7,14 @@ ghost use Rattle.group_types.specs.Group.{new_group, starting_group, held};
 ghost use Rattle.group_types.specs.Members.{is_remembered, members_of};
 ghost use Rattle.group_reconcile.specs.Holders.{pairs};
 
-use crate::heartbeat;
 use crate::outcome::Outcome;
 use crate::state::State;
+use crate::{commit, heartbeat, tick};
 use group_epochs::Records;
 use group_reconcile::Grants;
 use group_target::Target;
 use group_types::{Epoch, EpochNumber, Moment, PartSet, Stamp};
-use kip_msgs::HeartbeatRequest;
+use kip_msgs::{CommitReply, CommitRequest, HeartbeatRequest};
 use std::alloc::{AllocError, Global};
 use std::collections::hash_map::RandomState;
 use std::marker::Model;
@@ -43,9 +43,13 @@ impl Model for Group {
 
 impl Group {
     ghost use Rattle.group_types.specs.Sound.{IsSound};
-    ghost use Rattle.kip_msgs.specs.Views.{heartbeat_request_value};
+    ghost use Rattle.kip_msgs.specs.Views.{commit_reply_value, commit_request_value, heartbeat_request_value};
     ghost use Rattle.group_epochs.specs.Request.{arrival_of};
-    ghost use Rattle.group_core.specs.Built.{StepToday};
+    ghost use Rattle.group_types.specs.Limits.{LONGEST_STRING};
+    ghost use Rattle.group_types.specs.HeartbeatStep.{HeartbeatStep};
+    ghost use Rattle.group_types.specs.Tick.{removed_by_tick, ticked};
+    ghost use Rattle.group_epochs.specs.Request.{commit_of};
+    ghost use Rattle.group_core.specs.Commits.{Commits};
     ghost use Rattle.group_core.specs.Outcome.{answer_of, HasFewPartitions, HasRoomFor, IsCurrent, IsCurrentAfter};
 
     /// A new group: epoch 0, and no members. The salt is the first half of the ids that it makes. Takes no memory.
@@ -118,8 +122,8 @@ impl Group {
         self.state.records.remembers(member)
     }
 
-    /// One heartbeat of KIP-848 with its stamp, at a moment, over the node's image, as far as heartbeats are built. A refusal
-    /// and `Closes` change nothing. Where it replies there is room for the reply's frame behind the bytes of `out`, which stay. Fails
+    /// One heartbeat of KIP-848 with its stamp, at a moment, over the node's image. Its member id is one that the wire
+    /// takes. A refusal and `Closes` change nothing. Where it replies there is room for the reply's frame behind the bytes of `out`, which stay. Fails
     /// where memory is short, and then nothing has changed.
     pub fn heartbeat<'a>(
         &mut self,
@@ -130,7 +134,8 @@ impl Group {
         image: &Image,
         out: &mut Vec<u8>,
     ) -> Result<Outcome<'a>, AllocError>
-        ensures step { IfOk result (λ outcome. StepToday self.old
+        requires id { length request.now.member_id.now ≤ LONGEST_STRING }
+        ensures step { IfOk result (λ outcome. HeartbeatStep self.old
             (arrival_of (heartbeat_request_value request.now) stamp now image.now) (answer_of outcome) self.new) }
         ensures few { IfOk result (λ outcome. HasFewPartitions (answer_of outcome)) }
         ensures current { IfOk result (λ outcome. IsCurrentAfter (answer_of outcome) self.new image.now) }
@@ -153,8 +158,9 @@ impl Group {
         is_current: bool,
         out: &mut Vec<u8>,
     ) -> Result<Outcome<'a>, AllocError>
-        requires { is_current ≡ true → IsCurrent self.old image.now }
-        ensures step { IfOk result (λ outcome. StepToday self.old
+        requires id { length request.now.member_id.now ≤ LONGEST_STRING }
+        requires current { is_current ≡ true → IsCurrent self.old image.now }
+        ensures step { IfOk result (λ outcome. HeartbeatStep self.old
             (arrival_of (heartbeat_request_value request.now) stamp now image.now) (answer_of outcome) self.new) }
         ensures few { IfOk result (λ outcome. HasFewPartitions (answer_of outcome)) }
         ensures current { IfOk result (λ outcome. IsCurrentAfter (answer_of outcome) self.new image.now) }
@@ -162,9 +168,6 @@ impl Group {
         ensures out { out.new.items ≡ out.old.items }
         ensures err { OnErr result (self.new ≡ self.old) }
     {
-        if !heartbeat::is_built(request) {
-            return Ok(Outcome::Closes);
-        }
         heartbeat::respond(
             &mut self.state,
             alloc,
@@ -175,5 +178,28 @@ impl Group {
             is_current,
             out,
         )
+    }
+
+    /// Answers a commit of offsets (KIP-848, "OffsetCommit") over the node's image: it is refused as a whole, or taken and answered
+    /// partition by partition, in the request's order. Fails where memory is short, and then nothing has changed.
+    pub fn commit<'a>(
+        &mut self,
+        alloc: Global,
+        request: &CommitRequest<'a>,
+        image: &Image,
+    ) -> Result<CommitReply<'a>, AllocError>
+        ensures step { IfOk result (λ reply. Commits self.old (commit_of (commit_request_value request.now)) image.now (commit_reply_value reply) self.new) }
+        ensures err { OnErr result (self.new ≡ self.old) }
+    {
+        commit::commit(&mut self.state, alloc, request, image)
+    }
+
+    /// Removes the members whose session or release deadline has come (KIP-848, "Session Management", "Rebalance Timeout"), and says
+    /// how many. The target is not renewed. Takes no memory.
+    pub fn tick(&mut self, now: Moment) -> usize
+        ensures ticked { self.new ≡ ticked self.old now }
+        ensures removed { result ≡ removed_by_tick self.old now }
+    {
+        tick::tick(&mut self.state, now)
     }
 }

@@ -1,16 +1,17 @@
 //! One heartbeat at a group (KIP-848, "Consumer Group Heartbeat").
-ghost use Rattle.std.specs.Prelude.{◌≡◌, ◌-◌, IfOk, IsTrue, OnErr, true, length, vec_capacity};
+ghost use Rattle.std.specs.Prelude.{◌≡◌, ◌≤◌, ◌-◌, IfOk, OnErr, true, length, vec_capacity};
+ghost use Rattle.group_types.specs.Limits.{LONGEST_STRING};
 ghost use Rattle.group_types.specs.Sound.{IsSound};
 ghost use Rattle.group_types.specs.Request.{kind_of};
 ghost use Rattle.group_types.specs.Checks.{Accepted, sender_of, verdict_on};
 ghost use Rattle.group_types.specs.HeartbeatStep.{HeartbeatStep, StepOf};
 ghost use Rattle.kip_msgs.specs.Views.{heartbeat_request_value};
 ghost use Rattle.group_epochs.specs.Request.{arrival_of, heartbeat_of};
-ghost use Rattle.group_core.specs.Built.{is_built};
 ghost use Rattle.group_core.specs.GroupView.{group_of};
 ghost use Rattle.group_core.specs.Outcome.{answer_of, HasFewPartitions, HasRoomFor, IsCurrent, IsCurrentAfter};
 ghost use Rattle.group_core.specs.Steady.{AreMarked};
 
+use crate::away::go_away;
 use crate::beat::beat;
 use crate::join::join;
 use crate::judge::judge;
@@ -26,18 +27,7 @@ use kip_msgs::HeartbeatRequest;
 use std::alloc::{AllocError, Global};
 use topic_meta::Image;
 
-/// Whether heartbeats of this kind are built.
-pub fn is_built(request: &HeartbeatRequest<'_>) -> bool
-    ensures { result ≡ is_built (heartbeat_of (heartbeat_request_value request.now)) }
-{
-    match request.member_epoch {
-        0 => request.instance_id.is_none(),
-        -2 => false,
-        _ => true,
-    }
-}
-
-/// Answers a heartbeat that is built, where it may be known that the view is that of the image. Where memory is short, the group is
+/// Answers a heartbeat, where it may be known that the view is that of the image. Where memory is short, the group is
 /// as it was.
 pub fn respond<'a>(
     state: &mut State,
@@ -51,7 +41,7 @@ pub fn respond<'a>(
 ) -> Result<Outcome<'a>, AllocError>
     requires sound { IsSound (group_of state.old) }
     requires marks { AreMarked (group_of state.old) state.old.records.marks }
-    requires built { IsTrue (is_built (heartbeat_of (heartbeat_request_value request.now))) }
+    requires id { length request.now.member_id.now ≤ LONGEST_STRING }
     requires current { is_current ≡ true → IsCurrent (group_of state.old) image.now }
     ensures step { IfOk result (λ outcome. HeartbeatStep (group_of state.old)
         (arrival_of (heartbeat_request_value request.now) stamp moment image.now) (answer_of outcome) (group_of state.new)) }
@@ -70,7 +60,7 @@ pub fn respond<'a>(
     Ok(outcome)
 }
 
-/// Answers a heartbeat that is built. Where memory is short, the group is as it was.
+/// Answers a heartbeat. Where memory is short, the group is as it was.
 fn answer<'a>(
     state: &mut State,
     alloc: Global,
@@ -82,7 +72,7 @@ fn answer<'a>(
 ) -> Result<Outcome<'a>, AllocError>
     requires sound { IsSound (group_of state.old) }
     requires marks { AreMarked (group_of state.old) state.old.records.marks }
-    requires built { IsTrue (is_built (heartbeat_of (heartbeat_request_value request.now))) }
+    requires id { length request.now.member_id.now ≤ LONGEST_STRING }
     ensures step { IfOk result (λ outcome. HeartbeatStep (group_of state.old)
         (arrival_of (heartbeat_request_value request.now) stamp moment image.now) (answer_of outcome) (group_of state.new)) }
     ensures few { IfOk result (λ outcome. HasFewPartitions (answer_of outcome)) }
@@ -99,7 +89,7 @@ fn answer<'a>(
     }
 }
 
-/// Answers a heartbeat that is built and that the checks accept. Where memory is short, the group is as it was.
+/// Answers a heartbeat that the checks accept. Where memory is short, the group is as it was.
 fn accept<'a>(
     state: &mut State,
     alloc: Global,
@@ -111,7 +101,7 @@ fn accept<'a>(
 ) -> Result<Outcome<'a>, AllocError>
     requires sound { IsSound (group_of state.old) }
     requires marks { AreMarked (group_of state.old) state.old.records.marks }
-    requires built { IsTrue (is_built (heartbeat_of (heartbeat_request_value request.now))) }
+    requires id { length request.now.member_id.now ≤ LONGEST_STRING }
     requires accepted { let q = heartbeat_of (heartbeat_request_value request.now) in
         verdict_on (kind_of q.epoch) (sender_of state.old.records.records q) (group_of state.old) q stamp ≡ Accepted }
     ensures step { let a = arrival_of (heartbeat_request_value request.now) stamp moment image.now in
@@ -127,6 +117,7 @@ fn accept<'a>(
     match request.member_epoch {
         0 => join(state, alloc, request, stamp, moment, image, out),
         1.. => beat(state, alloc, request, stamp, moment, image, out),
+        -2 => go_away(state, request.member_id, stamp, moment, out),
         _ => leave(state, request.member_id, stamp, moment, out),
     }
 }

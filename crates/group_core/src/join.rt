@@ -1,7 +1,9 @@
-//! A join under no instance (KIP-848, "Consumer Group Heartbeat").
-ghost use Rattle.std.specs.Prelude.{◌≡◌, ◌-◌, IfOk, None, OnErr, length, pos, vec_capacity};
+//! A join (KIP-848, "Consumer Group Heartbeat").
+ghost use Rattle.std.specs.Prelude.{◌≡◌, ◌≤◌, ◌-◌, IfOk, OnErr, length, pos, vec_capacity};
+ghost use Rattle.group_types.specs.Limits.{LONGEST_STRING};
+ghost use Rattle.group_types.specs.Request.{Joins};
 ghost use Rattle.group_types.specs.Sound.{IsSound};
-ghost use Rattle.group_types.specs.Checks.{sender_of};
+ghost use Rattle.group_types.specs.Checks.{Accepted, sender_of, verdict_on};
 ghost use Rattle.group_types.specs.HeartbeatStep.{JoinsAs};
 ghost use Rattle.kip_msgs.specs.Views.{heartbeat_request_value};
 ghost use Rattle.group_epochs.specs.Request.{arrival_of, heartbeat_of};
@@ -31,7 +33,9 @@ pub fn join<'a>(
     requires sound { IsSound (group_of state.old) }
     requires marks { AreMarked (group_of state.old) state.old.records.marks }
     requires joins { request.now.member_epoch ≡ pos 0 }
-    requires instance { request.now.instance_id ≡ None }
+    requires id { length request.now.member_id.now ≤ LONGEST_STRING }
+    requires accepted { let q = heartbeat_of (heartbeat_request_value request.now) in
+        verdict_on Joins (sender_of state.old.records.records q) (group_of state.old) q stamp ≡ Accepted }
     ensures step { let a = arrival_of (heartbeat_request_value request.now) stamp moment image.now in
         IfOk result (λ outcome. JoinsAs (sender_of state.old.records.records a.heartbeat) (group_of state.old) a (answer_of outcome) (group_of state.new)) }
     ensures few { IfOk result (λ outcome. HasFewPartitions (answer_of outcome)) }

@@ -1,21 +1,21 @@
 //! The checks of a heartbeat that look at a group's records (KIP-848, "ConsumerGroupHeartbeat API").
-ghost use Rattle.std.specs.Prelude.{◌≡◌, ◌≤ℤ◌, ℕ, pos, None, Some, IsTrue, []};
+ghost use Rattle.std.specs.Prelude.{◌≡◌, ◌||◌, ◌≤ℤ◌, ℕ, pos, None, Some, IsTrue, []};
 ghost use Rattle.std.specs.FinMap as finite;
 ghost use Rattle.std.specs.List.{flat_map, list_all};
-ghost use Rattle.std.specs.Option.{option_map};
-ghost use Rattle.group_types.specs.Request.{Joins, Beats, Leaves, kind_of};
-ghost use Rattle.group_types.specs.Checks.{Accepted, are_granted, is_current, is_fenced, is_late, is_of_past, is_overtaken, is_too_many, record_under, sender_of, verdict_on};
+ghost use Rattle.std.specs.Option.{option_copied, option_map};
+ghost use Rattle.group_types.specs.Request.{Joins, Beats, Leaves, GoesAway, kind_of};
+ghost use Rattle.group_types.specs.Checks.{Accepted, are_granted, is_current, is_fenced, is_late, is_another, is_away, is_of_past, is_overtaken, record_under, sender_of, verdict_on};
 ghost use Rattle.group_types.specs.Sound.{IsSound};
 ghost use Rattle.group_reconcile.specs.Holders.{holds, pairs};
 ghost use Rattle.kip_msgs.specs.Topics.{topic_partitions_values};
 ghost use Rattle.kip_msgs.specs.Views.{heartbeat_request_value};
 ghost use Rattle.group_epochs.specs.Request.{heartbeat_of, partitions_of};
-ghost use Rattle.group_core.specs.Built.{is_built};
-ghost use Rattle.group_core.specs.Checks.{verdict_on_request};
+ghost use Rattle.group_core.specs.Checks.{verdict_on_place, verdict_on_request};
 ghost use Rattle.group_core.specs.GroupView.{group_of};
 ghost use Rattle.group_core.specs.Stages.{verdict_of};
 
 use crate::checks;
+use crate::others::other_of;
 use crate::state::State;
 use crate::verdict::Verdict;
 use group_epochs::Record;
@@ -24,10 +24,9 @@ use group_types::limits::MOST_MEMBERS;
 use group_types::{Code, Epoch, Partition, Stamp};
 use kip_msgs::{Array, HeartbeatRequest, TopicPartitions};
 
-/// What the checks of a heartbeat come to, where such heartbeats are built.
+/// What the checks of a heartbeat come to.
 pub fn judge(state: &State, request: &HeartbeatRequest<'_>, stamp: Stamp) -> Verdict
     requires sound { IsSound (group_of state.now) }
-    requires built { IsTrue (is_built (heartbeat_of (heartbeat_request_value request.now))) }
     ensures { let q = heartbeat_of (heartbeat_request_value request.now) in
         verdict_of result ≡ verdict_on (kind_of q.epoch) (sender_of state.now.records.records q) (group_of state.now) q stamp }
 {
@@ -37,27 +36,65 @@ pub fn judge(state: &State, request: &HeartbeatRequest<'_>, stamp: Stamp) -> Ver
     match request.member_epoch {
         0 => judge_join(state, request, stamp),
         1.. => judge_beat(state, request, stamp),
+        -2 => judge_going(state, request, stamp),
         _ => judge_leave(state, request, stamp),
     }
 }
 
-/// What the checks of a join under no instance come to, where its request is valid.
+/// What the checks of a join come to, where its request is valid.
 fn judge_join(state: &State, request: &HeartbeatRequest<'_>, stamp: Stamp) -> Verdict
     requires sound { IsSound (group_of state.now) }
-    requires instance { request.now.instance_id ≡ None }
     requires valid { verdict_on_request (heartbeat_of (heartbeat_request_value request.now)) ≡ Accepted }
     ensures { let q = heartbeat_of (heartbeat_request_value request.now) in
         verdict_of result ≡ verdict_on Joins (sender_of state.now.records.records q) (group_of state.now) q stamp }
 {
-    if is_overtaken(state, request.member_id, stamp)
-        || is_of_past(state, request.member_id, stamp)
-    {
+    if is_late_join(state, request.member_id, stamp) {
         return Verdict::Overtaken;
     }
-    if is_too_many(state, request.member_id) {
-        return Verdict::Refused(Code::GroupMaxSizeReached);
+    judge_place(state, request)
+}
+
+/// What the checks of a join come to that look at the members: a join neither takes what another has, nor makes a member more than
+/// there may be.
+#[tactic(auto, using(crate::proofs::Verdicts::beside_other, crate::proofs::Verdicts::alone))]
+fn judge_place(state: &State, request: &HeartbeatRequest<'_>) -> Verdict
+    requires { IsSound (group_of state.now) }
+    ensures { let sender = sender_of state.now.records.records (heartbeat_of (heartbeat_request_value request.now)) in
+        verdict_of result ≡ verdict_on_place sender (finite.len state.now.records.records) }
+{
+    let is_new = state.records.get(request.member_id).is_none();
+    match other_of(state, request) {
+        Some((_, other)) => {
+            if is_new && is_away(other) {
+                return Verdict::Accepted;
+            }
+            Verdict::Refused(Code::UnreleasedInstanceId)
+        }
+        None => {
+            if is_new && MOST_MEMBERS <= state.records.len() {
+                return Verdict::Refused(Code::GroupMaxSizeReached);
+            }
+            Verdict::Accepted
+        }
     }
-    Verdict::Accepted
+}
+
+/// Whether a later heartbeat of the member, or of a former member with its id, was accepted before.
+fn is_late_join(state: &State, member: &str, stamp: Stamp) -> bool
+    requires { IsSound (group_of state.now) }
+    ensures { result ≡ (is_overtaken stamp (record_under state.now.records.records member.now) || is_of_past state.now.records.past member.now stamp) }
+{
+    is_overtaken(state, member, stamp) || is_of_past(state, member, stamp)
+}
+
+/// Whether the member is away.
+fn is_away(record: &Record) -> bool
+    ensures { result ≡ is_away «record».now.epoch }
+{
+    match record.epoch() {
+        Epoch::At(_) => false,
+        Epoch::Away => true,
+    }
 }
 
 /// What the checks of a beat come to, where its request is valid.
@@ -96,6 +133,38 @@ fn judge_leave(state: &State, request: &HeartbeatRequest<'_>, stamp: Stamp) -> V
     Verdict::Accepted
 }
 
+/// What the checks of a heartbeat come to by which a member goes away, where its request is valid.
+fn judge_going(state: &State, request: &HeartbeatRequest<'_>, stamp: Stamp) -> Verdict
+    requires sound { IsSound (group_of state.now) }
+    requires valid { verdict_on_request (heartbeat_of (heartbeat_request_value request.now)) ≡ Accepted }
+    ensures { let q = heartbeat_of (heartbeat_request_value request.now) in
+        verdict_of result ≡ verdict_on GoesAway (sender_of state.now.records.records q) (group_of state.now) q stamp }
+{
+    if is_another(state.records.get(request.member_id), request.instance_id) {
+        return Verdict::Refused(Code::UnknownMemberId);
+    }
+    if is_overtaken(state, request.member_id, stamp) {
+        return Verdict::Overtaken;
+    }
+    Verdict::Accepted
+}
+
+/// Whether the member isn't there, or isn't the one with the instance.
+fn is_another(own: Option<&Record>, instance: Option<&str>) -> bool
+    ensures { result ≡ is_another (option_copied own.entry) (option_copied instance.entry) }
+{
+    let Some(instance) = instance else {
+        return true;
+    };
+    let Some(record) = own else {
+        return true;
+    };
+    match record.instance() {
+        Some(stored) => stored != instance,
+        None => true,
+    }
+}
+
 /// Whether a later heartbeat of the member was accepted before.
 fn is_overtaken(state: &State, member: &str, stamp: Stamp) -> bool
     requires { finite.get state.now.records.records [] ≡ None }
@@ -116,14 +185,6 @@ fn is_of_past(state: &State, member: &str, stamp: Stamp) -> bool
         Some(last) => !stamp.is_above(last),
         None => false,
     }
-}
-
-/// Whether the join would make a member more than there may be.
-fn is_too_many(state: &State, member: &str) -> bool
-    requires { finite.get state.now.records.records [] ≡ None }
-    ensures { result ≡ is_too_many (record_under state.now.records.records member.now) None (finite.len state.now.records.records) }
-{
-    state.records.get(member).is_none() && MOST_MEMBERS <= state.records.len()
 }
 
 /// Whether the member epoch of a beat isn't that of the member, nor the one before with nothing reported but what is granted.

@@ -39,11 +39,11 @@ pub fn leave<'a>(
     state.grants.drop_member(member);
     state.epoch = risen(state.epoch);
     state.clock = state.clock.later(moment);
-    Ok(Outcome::Replied(Reply::farewell(ReplyId::named(member))))
+    Ok(Outcome::Replied(Reply::farewell(ReplyId::named(member), -1)))
 }
 
 /// The epoch after this one, or the greatest one again.
-fn risen(epoch: EpochNumber) -> EpochNumber
+pub fn risen(epoch: EpochNumber) -> EpochNumber
     ensures { result ≡ risen epoch }
 {
     match epoch.next() {

@@ -1,17 +1,21 @@
 //! One consumer group: what a heartbeat does to it, and what is answered.
 //!
 //! [`Group`] holds a group's whole state, and [`Group::heartbeat`] moves it by exactly one step of the group's machine
-//! (KIP-848), or says that memory is short and changes nothing. Built are joins that name no instance, beats and leaves.
+//! (KIP-848), or says that memory is short and changes nothing.
+//! [`Group::commit`] and [`Group::tick`] likewise.
 //!
-//! A heartbeat goes through stages, a file each: the checks (`checks`, `judge`), the draft of its record (`naming`), the
-//! change and the renewal (`change`), what is told (`plan`), and what is stored (`carry`). A beat that gives nothing, of a
-//! member that has nothing to be told, skips them (`steady`, `mark`). Start from [`Group::new`].
+//! A heartbeat goes through stages, a file each: the checks (`checks`, `judge`, `others`), the draft of its record (`naming`), the
+//! change and the renewal (`change`), what is told (`plan`), what else needs memory (`ready`), and what is stored (`carry`, and
+//! `place`, which ends a take-over). A beat that gives nothing, of a member that has nothing to be told, skips them (`steady`,
+//! `mark`). Start from [`Group::new`].
 #![tactic(auto)]
 
+mod away;
 mod beat;
 mod carry;
 mod change;
 mod checks;
+mod commit;
 mod draft;
 mod group;
 mod heartbeat;
@@ -22,8 +26,11 @@ mod leave;
 mod listing;
 mod mark;
 mod naming;
+mod others;
 mod outcome;
+mod place;
 mod plan;
+mod ready;
 mod renewal;
 mod reply_id;
 mod reported;
@@ -32,6 +39,7 @@ mod shown;
 mod state;
 mod steady;
 mod taking;
+mod tick;
 mod verdict;
 
 pub use group::Group;
@@ -39,7 +47,7 @@ pub use group_epochs::Records;
 pub use group_reconcile::Grants;
 pub use group_target::Target;
 pub use group_types::{Code, Epoch, EpochNumber, MemberId, Moment, PartSet, Partition, Stamp};
-pub use kip_msgs::HeartbeatRequest;
+pub use kip_msgs::{CommitReply, CommitRequest, HeartbeatRequest};
 pub use laws::{first_joins_are_answered, heartbeats_have_one_answer};
 pub use outcome::{Outcome, Reply};
 pub use reply_id::ReplyId;

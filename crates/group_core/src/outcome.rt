@@ -23,7 +23,6 @@ pub struct Reply<'a> {
 impl<'a> Reply<'a> {
     ghost use Rattle.group_types.specs.HeartbeatStep.{epoch_number, farewell, refusal};
     ghost use Rattle.group_types.specs.Limits as limits;
-    ghost use Rattle.group_types.specs.Request.{LEAVES_AT};
     ghost use Rattle.group_core.specs.Outcome.{reply_of};
 
     /// The reply that says an error and nothing else. Takes no memory.
@@ -65,14 +64,14 @@ impl<'a> Reply<'a> {
         }
     }
 
-    /// The reply to a member that leaves for good. Takes no memory.
-    pub(crate) fn farewell(member: ReplyId<'a>) -> Reply<'a>
-        ensures { reply_of result ≡ farewell member.entry LEAVES_AT }
+    /// The reply to a member that leaves, at the member epoch of its heartbeat. Takes no memory.
+    pub(crate) fn farewell(member: ReplyId<'a>, epoch: i32) -> Reply<'a>
+        ensures { reply_of result ≡ farewell member.entry epoch }
     {
         Reply {
             code: Code::NoError,
             member: Some(member),
-            epoch: -1,
+            epoch,
             interval: 0,
             assignment: None,
         }

@@ -7,7 +7,7 @@ ghost use Rattle.group_types.specs.HeartbeatStep.{assignment_of, is_news};
 ghost use Rattle.group_types.specs.Sets.{size};
 ghost use Rattle.kip_msgs.specs.Views.{heartbeat_request_value};
 ghost use Rattle.group_epochs.specs.Request.{heartbeat_of};
-ghost use Rattle.group_core.specs.Stages.{AreOfView, shown_then, target_then};
+ghost use Rattle.group_core.specs.Stages.{AreOfView, shown_then, target_then, told_id};
 
 use crate::draft::Draft;
 use crate::renewal::Renewal;
@@ -21,14 +21,24 @@ use group_types::{MemberId, PartSet};
 use kip_msgs::HeartbeatRequest;
 use std::alloc::{AllocError, Global};
 
-/// What is made for a reply before anything is stored: the partitions that are reported, the id, and what is told.
+/// What is made for a reply before anything is stored: what is told, and the id.
 #[derive(Drop)]
 pub struct Plan<'a> {
-    pub owned: Option<PartSet>,
+    pub told: Told<'a>,
     pub id: ReplyId<'a>,
-    /// The assignment, where one is said.
+}
+
+/// The partitions that are reported, and what is said of the member's.
+#[derive(Drop)]
+pub struct Told<'a> {
+    pub owned: Option<PartSet>,
+    pub said: Said<'a>,
+}
+
+/// The assignment of a reply, where one is said, and a copy of it to be kept as what was sent.
+#[derive(Drop)]
+pub struct Said<'a> {
     pub assignment: Option<Shown<'a>>,
-    /// A copy of it, to be kept as what was sent.
     pub sent: Option<PartSet>,
 }
 
@@ -43,32 +53,70 @@ pub fn plan_of<'a>(
 ) -> Result<Plan<'a>, AllocError>
     requires epoch { pos 0 ≤ℤ request.now.member_epoch }
     requires owned { AreOfView (target_then state.now renewal.now).owners renewal.now.view }
-    ensures owned { IfOk result (λ plan. plan.owned ≡ reported (heartbeat_of (heartbeat_request_value request.now))) }
-    ensures id { IfOk result (λ plan. plan.id ≡ draft.now.id) }
+    ensures owned { IfOk result (λ plan. plan.told.owned ≡ reported (heartbeat_of (heartbeat_request_value request.now))) }
+    ensures id { IfOk result (λ plan. plan.id ≡ told_id draft.now) }
     ensures assignment { let q = heartbeat_of (heartbeat_request_value request.now) in
         let shown = shown_then state.now draft.now renewal.now (reported q) in
-        IfOk result (λ plan. plan.assignment ≡ assignment_of (is_full q || is_news draft.now.record.sent shown) shown) }
-    ensures sent { IfOk result (λ plan. plan.sent ≡ plan.assignment) }
-    ensures few { IfOk result (λ plan. IfSome plan.assignment (λ set. size set ≤ limits.MOST_PARTITIONS)) }
-    ensures room { IfOk result (λ plan. 100 + length plan.id + 30 * option_map_or size plan.assignment 0
+        IfOk result (λ plan. plan.told.said.assignment ≡ assignment_of (is_full q || is_news draft.now.record.sent shown) shown) }
+    ensures sent { IfOk result (λ plan. plan.told.said.sent ≡ plan.told.said.assignment) }
+    ensures few { IfOk result (λ plan. IfSome plan.told.said.assignment (λ set. size set ≤ limits.MOST_PARTITIONS)) }
+    ensures room { IfOk result (λ plan. 100 + length plan.id + 30 * option_map_or size plan.told.said.assignment 0
         ≤ vec_capacity out.new - length out.new.items) }
     ensures out { out.new.items ≡ out.old.items }
+{
+    let told = told_of(state, alloc, draft, renewal, request)?;
+    let id = id_with_room(
+        alloc,
+        draft.told_id(),
+        request.member_id,
+        &told.said.assignment,
+        out,
+    )?;
+    Ok(Plan { told, id })
+}
+
+/// The id in a reply, and room in `out` for a reply with it and this assignment. Fails where memory is short.
+fn id_with_room<'a>(
+    alloc: Global,
+    id: &MemberId,
+    named: &'a str,
+    assignment: &Option<Shown<'_>>,
+    out: &mut Vec<u8>,
+) -> Result<ReplyId<'a>, AllocError>
+    requires { IfSome assignment.now (λ set. size set ≤ limits.MOST_PARTITIONS) }
+    ensures id { IfOk result (λ r. r ≡ id.now) }
+    ensures room { IfOk result (λ r. 100 + length r + 30 * option_map_or size assignment.now 0 ≤ vec_capacity out.new - length out.new.items) }
+    ensures out { out.new.items ≡ out.old.items }
+{
+    let id = reply_id(alloc, id, named)?;
+    make_room(out, id.as_str(), assignment)?;
+    Ok(id)
+}
+
+/// What a member whose draft was renewed is told. Fails where memory is short.
+fn told_of<'a>(
+    state: &State,
+    alloc: Global,
+    draft: &Draft,
+    renewal: &Renewal,
+    request: &HeartbeatRequest<'_>,
+) -> Result<Told<'a>, AllocError>
+    requires epoch { pos 0 ≤ℤ request.now.member_epoch }
+    requires owned { AreOfView (target_then state.now renewal.now).owners renewal.now.view }
+    ensures owned { IfOk result (λ told. told.owned ≡ reported (heartbeat_of (heartbeat_request_value request.now))) }
+    ensures assignment { let q = heartbeat_of (heartbeat_request_value request.now) in
+        let shown = shown_then state.now draft.now renewal.now (reported q) in
+        IfOk result (λ told. told.said.assignment ≡ assignment_of (is_full q || is_news draft.now.record.sent shown) shown) }
+    ensures sent { IfOk result (λ told. told.said.sent ≡ told.said.assignment) }
+    ensures few { IfOk result (λ told. IfSome told.said.assignment (λ set. size set ≤ limits.MOST_PARTITIONS)) }
 {
     // so that the view is known to have no more partitions than an image
     let _ = renewal.view.topics();
     let owned = reported(alloc, request)?;
     let shown = shown_of(state, alloc, draft, renewal, &owned)?;
-    let is_told = is_told(request, &draft.record, &shown);
-    let told = told_of(alloc, shown, is_told)?;
-    let id = reply_id(alloc, &draft.id, request.member_id)?;
-    make_room(out, id.as_str(), &told.assignment)?;
-    let Told { assignment, sent } = told;
-    Ok(Plan {
-        owned,
-        id,
-        assignment,
-        sent,
-    })
+    let is_said = is_said(request, &draft.record, &shown);
+    let said = said_of(alloc, shown, is_said)?;
+    Ok(Told { owned, said })
 }
 
 /// What the member of a draft that was renewed is shown, where it reports so. Fails where memory is short.
@@ -87,34 +135,27 @@ fn shown_of(
         .shown_after(alloc, draft.id.as_str(), &wanted, owned.as_ref())
 }
 
-/// The assignment of a reply, where one is said, and a copy of it to be kept as what was sent.
-#[derive(Drop)]
-struct Told<'a> {
-    assignment: Option<Shown<'a>>,
-    sent: Option<PartSet>,
-}
-
-/// The shown set, where it is told, and its copy. Fails where memory is short.
-fn told_of<'a>(alloc: Global, shown: PartSet, is_told: bool) -> Result<Told<'a>, AllocError>
-    ensures assignment { IfOk result (λ told. told.assignment ≡ assignment_of is_told shown) }
-    ensures sent { IfOk result (λ told. told.sent ≡ assignment_of is_told shown) }
+/// The shown set, where it is said, and its copy. Fails where memory is short.
+fn said_of<'a>(alloc: Global, shown: PartSet, is_said: bool) -> Result<Said<'a>, AllocError>
+    ensures assignment { IfOk result (λ said. said.assignment ≡ assignment_of is_said shown) }
+    ensures sent { IfOk result (λ said. said.sent ≡ assignment_of is_said shown) }
 {
-    if !is_told {
-        return Ok(Told {
+    if !is_said {
+        return Ok(Said {
             assignment: None,
             sent: None,
         });
     }
     let sent = shown.copy(alloc)?;
     let assignment = Shown::of(alloc, shown)?;
-    Ok(Told {
+    Ok(Said {
         assignment: Some(assignment),
         sent: Some(sent),
     })
 }
 
 /// Whether an assignment stands in the reply to a request, where the member has this record and is shown this set.
-fn is_told(request: &HeartbeatRequest<'_>, record: &Record, shown: &PartSet) -> bool
+fn is_said(request: &HeartbeatRequest<'_>, record: &Record, shown: &PartSet) -> bool
     ensures { result ≡ (is_full (heartbeat_of (heartbeat_request_value request.now)) || is_news «record».now.sent shown.now) }
 {
     is_full(request) || record.is_news(shown)

@@ -1,5 +1,6 @@
 //! The group epoch, the view and the target after a heartbeat.
 
+use crate::draft::Draft;
 use group_target::Target;
 use group_types::EpochNumber;
 use topic_meta::View;
@@ -11,4 +12,11 @@ pub struct Renewal {
     pub view: View,
     /// The renewed target, or none where the target stays.
     pub target: Option<Target>,
+}
+
+/// A draft with what it renews.
+#[derive(Drop)]
+pub struct Renewed {
+    pub draft: Draft,
+    pub renewal: Renewal,
 }

@@ -7,6 +7,7 @@ use group_epochs::Records;
 use group_reconcile::Grants;
 use group_target::Target;
 use group_types::{EpochNumber, Moment};
+use offset_guard::Offsets;
 use std::alloc::Global;
 use std::collections::hash_map::RandomState;
 use topic_meta::View;
@@ -19,6 +20,8 @@ pub struct State {
     pub target: Target,
     pub records: Records,
     pub grants: Grants,
+    /// What the members have committed.
+    pub offsets: Offsets,
     pub view: View,
     /// The greatest moment that was used.
     pub clock: Moment,
@@ -40,6 +43,7 @@ impl State {
             target: Target::new(alloc, epoch),
             records: Records::new(alloc, hasher),
             grants: Grants::new(alloc),
+            offsets: Offsets::new(alloc, hasher),
             view: View::empty(alloc),
             clock: Moment::of_millis(0),
             ids_made: 0,

@@ -1,19 +1,19 @@
 //! Takes in the draft of a join or a beat: its change, its renewal, its settling and its reply.
-ghost use Rattle.std.specs.Prelude.{◌≡◌, ◌≢◌, ◌≤ℤ◌, ◌-◌, IfOk, OnErr, [], length, pos, vec_capacity};
+ghost use Rattle.std.specs.Prelude.{◌≡◌, ◌≤ℤ◌, ◌-◌, IfOk, MatchOption, OnErr, length, pos, vec_capacity};
 ghost use Rattle.group_types.specs.Sound.{IsSound};
 ghost use Rattle.group_types.specs.HeartbeatStep.{Replied, TakesIn, refusal};
 ghost use Rattle.kip_msgs.specs.Views.{heartbeat_request_value};
-ghost use Rattle.group_epochs.specs.Records.{IsInstanceFreeFor};
 ghost use Rattle.group_epochs.specs.Request.{heartbeat_of};
 ghost use Rattle.group_core.specs.GroupView.{group_of};
 ghost use Rattle.group_core.specs.Outcome.{answer_of, HasFewPartitions, HasRoomFor, IsCurrentAfter};
 ghost use Rattle.group_core.specs.Steady.{AreMarked};
-ghost use Rattle.group_core.specs.Stages.{draft_in};
+ghost use Rattle.group_core.specs.Stages.{CannotRise, IsFit, IsRenewalOf, draft_in};
 
 use crate::change::renewal_of;
 use crate::draft::Draft;
 use crate::outcome::{Outcome, Reply};
 use crate::plan::make_room_for_refusal;
+use crate::renewal::Renewed;
 use crate::settle::settle;
 use crate::state::State;
 use group_types::{Code, Moment};
@@ -33,8 +33,7 @@ pub fn take_in<'a>(
 ) -> Result<Outcome<'a>, AllocError>
     requires sound { IsSound (group_of state.old) }
     requires marks { AreMarked (group_of state.old) state.old.records.marks }
-    requires named { draft.id ≢ [] }
-    requires instance { IsInstanceFreeFor state.old.records.records draft.id draft.record }
+    requires fit { IsFit state.old draft }
     requires epoch { pos 0 ≤ℤ request.now.member_epoch }
     ensures step { IfOk result (λ outcome. TakesIn (group_of state.old) (draft_in state.old draft now)
         (heartbeat_of (heartbeat_request_value request.now)) image.now (answer_of outcome) (group_of state.new)) }
@@ -45,11 +44,27 @@ pub fn take_in<'a>(
     ensures marks { AreMarked (group_of state.new) state.new.records.marks }
     ensures err { OnErr result (group_of state.new ≡ group_of state.old) }
 {
-    let Some(renewal) = renewal_of(state, alloc, &draft, image)? else {
-        return refuse(Code::CoordinatorNotAvailable, out);
-    };
-    let reply = settle(state, alloc, draft, renewal, request, now, out)?;
-    Ok(Outcome::Replied(reply))
+    match renewed(state, alloc, draft, image)? {
+        Some(renewed) => settle(state, alloc, renewed, request, now, out),
+        None => refuse(Code::CoordinatorNotAvailable, out),
+    }
+}
+
+/// The draft with what it makes of the group epoch, the view and the target; none where the epoch can't rise. Fails where memory is
+/// short.
+fn renewed(
+    state: &State,
+    alloc: Global,
+    draft: Draft,
+    image: &Image,
+) -> Result<Option<Renewed>, AllocError>
+    ensures { IfOk result (λ renewed. MatchOption renewed (CannotRise state.now draft image.now)
+        (λ r. (r.draft ≡ draft) × IsRenewalOf state.now r.draft image.now r.renewal)) }
+{
+    match renewal_of(state, alloc, &draft, image)? {
+        Some(renewal) => Ok(Some(Renewed { draft, renewal })),
+        None => Ok(None),
+    }
 }
 
 /// Refuses a heartbeat; there is room for the reply in `out` then.

@@ -11,7 +11,7 @@ use Rattle.group_types.specs.HeartbeatStep.{assignment_of}
 use Rattle.topic_meta.specs.Facts.{AreImageTopics}
 use Rattle.group_core.specs.Stages.{AreOfView, grants_then, target_then}
 use Rattle.group_core.proofs.FewPartitions.{few_shown}
-use Rattle.group_core.proofs.plan.plan_of.Goals as goal
+use Rattle.group_core.proofs.plan.told_of.Goals as goal
 
 abbrev IsFew : Partitions → Type 0
 IsFew set = size set ≤ MOST_PARTITIONS
@@ -25,18 +25,10 @@ few_of : (view : Topics) (owners : Spread) (m : Text) (held : Partitions) → Ar
 few_of view owners m held image of shown is b told so =
     subst (λ o. IfSome o IsFew) (sym so) (few_told b shown (subst IsFew (sym is) (few_shown view owners m held image of)))
 
-pub make_room-requires : goal.make_room-requires
-make_room-requires c =
-    let s = c.args.state.now in
-    let d = c.args.draft.now in
-    let r = c.args.renewal.now in
-    few_of r.view (target_then s r).owners d.id (held (grants_then s d r c.in_ok-owned.owned) d.id) c.topics.ensures.sound c.requires.owned
-    c.in_ok-shown.shown c.in_ok-shown.ensures c.is_told-is_told.result c.in_ok-told.told.assignment c.in_ok-told.ensures.assignment
-
 pub returns-clause-few : goal.returns-clause-few
 returns-clause-few c =
     let s = c.args.state.now in
     let d = c.args.draft.now in
     let r = c.args.renewal.now in
     few_of r.view (target_then s r).owners d.id (held (grants_then s d r c.in_ok-owned.owned) d.id) c.topics.ensures.sound c.requires.owned
-    c.in_ok-shown.shown c.in_ok-shown.ensures c.is_told-is_told.result c.in_ok-told.told.assignment c.in_ok-told.ensures.assignment
+    c.in_ok-shown.shown c.in_ok-shown.ensures c.is_said-is_said.result c.in_ok-said.said.assignment c.in_ok-said.ensures.assignment
