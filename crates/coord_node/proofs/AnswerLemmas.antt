@@ -1,30 +1,23 @@
 -- From what a node did to the coordinator's step.
-use Rattle.std.proofs.Common.{le-ltb, inl, ◌≡◌, ℕ, ◌≤◌, ◌<◌, ℤ, Bool, true, false, cond, List, ◌++◌, Option, Some, None, refl, sym, ap, subst, ◌∙◌, append-nil, true≢false}
+use Rattle.std.proofs.Common.{le-ltb, inl, ◌≡◌, ℕ, ◌≤◌, ◌<◌, ℤ, Bool, true, false, List, ◌++◌, Option, Some, None, refl, sym, ap, subst, ◌∙◌, append-nil, true≢false}
 use Rattle.std.specs.FinMap as finite
-use Rattle.std.specs.Ordering.{eq_by_cmp}
 use Rattle.std.proofs.lemmas.Bool.Decides.{Decides-ltb}
 use Rattle.group_types.specs.declared.code.Code.TheVariants.{CoordinatorNotAvailable}
 use Rattle.group_types.specs.Limits.{MOST_GROUPS}
 use Rattle.group_types.specs.declared.stamp.Stamp.{Stamp}
-use Rattle.group_types.specs.Text.{Text, text_cmp}
-use Rattle.group_types.proofs.Orders.{text_cmp_total, text_cmp-IsAntisymmetric}
-use Rattle.group_types.proofs.Lookups.{same_text}
 use Rattle.group_types.specs.HeartbeatStep.{Arrival}
 use Rattle.group_types.specs.Group.{Group, new_group}
 use Rattle.group_types.specs.HeartbeatStep as group
 use Rattle.kip_msgs.specs.Values.{RequestHeaderValue, HeartbeatRequestValue, RequestValue, heartbeat_request}
-use Rattle.group_core.specs.Built.{StepIfBuilt, is_built}
-use Rattle.group_core.specs.Built as groups
 use Rattle.group_epochs.specs.Request.{arrival_of}
 use Rattle.coord_node.specs.declared.event.Answered.{Answered}
 use Rattle.coord_node.specs.declared.event.Answered.TheVariants as answered
 use Rattle.coord_node.specs.Replies.{IsReplyFrame, reply_value}
 use Rattle.coord_node.specs.Coordinator.{Coordinator, Groups, Frame, Replied, Closes}
 use Rattle.coord_node.specs.Steps.{has_room, with_group, Makes, MakesBy, HeartbeatAt, Sends, message_of, IsRequest}
-use Rattle.coord_node.specs.Today.{HeartbeatIfBuilt, HeartbeatToday}
 use Rattle.coord_node.specs.Answers.{Answers, IsSent, AnswersHeartbeat, AnswersRequest, succeeds}
 use Rattle.coord_node.specs.declared.kept.Kept.{Kept}
-use Rattle.coord_node.specs.NodeView.{Entries, IsAdmitted, kept, full, groups_of}
+use Rattle.coord_node.specs.NodeView.{Entries, IsAdmitted, fails, kept, full, groups_of}
 use Rattle.coord_node.proofs.GroupLemmas.{as_map-push}
 
 -- a frame was appended
@@ -46,41 +39,23 @@ sent_nothing correlation bytes =
 
 -- ---- a group that is there
 
--- to put in what is there changes nothing
-insert-present : (m : Groups) (name : Text) (g : Group) → finite.get m name ≡ Some g → finite.insert m name g ≡ m
-insert-present m name g there =
-    finite.same_map text_cmp_total text_cmp-IsAntisymmetric (finite.insert m name g) m
-    (λ q. finite.get-insert text_cmp_total m name g q ∙ by q (eq_by_cmp text_cmp q name) refl)
-  where
-    by : (q : Text) (b : Bool) → eq_by_cmp text_cmp q name ≡ b → cond b (Some g) (finite.get m q) ≡ finite.get m q
-    by q true is = sym there ∙ ap (finite.get m) (sym (same_text q name is))
-    by q false is = refl
-
-module _ (c : Coordinator) (h : Arrival) (g after : Group) (there : finite.get c.groups h.heartbeat.group ≡ Some g) where
-  -- the group's step is the coordinator's, where that is built
-  stepped_if_built : (built : Bool) (given : group.Answer) (new : Coordinator) → StepIfBuilt built g h given after → new ≡ with_group c h.heartbeat.group after
-      → HeartbeatIfBuilt built c h given new
-  stepped_if_built true given new step is =
-      subst (λ (found : Option Group). HeartbeatAt found c h given new) (sym there) (after, step, is)
-  stepped_if_built false given new step is = (
-    step.0,
-    is ∙ ap (with_group c h.heartbeat.group) step.1 ∙ ap (λ (m : Groups). let n : Coordinator = record c { groups = m } in n) (insert-present c.groups h.heartbeat.group g there),
-  )
-
-  pub at_present : (given : group.Answer) (new : Coordinator) → groups.StepToday g h given after → new ≡ with_group c h.heartbeat.group after → HeartbeatToday c h given new
-  at_present given new step is = stepped_if_built (is_built h.heartbeat) given new step is
+pub at_present : (c : Coordinator) (h : Arrival) (g after : Group) → finite.get c.groups h.heartbeat.group ≡ Some g
+    → (given : group.Answer) (new : Coordinator) → group.HeartbeatStep g h given after → new ≡ with_group c h.heartbeat.group after
+    → HeartbeatAt (finite.get c.groups h.heartbeat.group) c h given new
+at_present c h g after there given new step is =
+    subst (λ (found : Option Group). HeartbeatAt found c h given new) (sym there) (after, step, is)
 
 -- ---- a new group
 
 module _ (c : Coordinator) (name : List ℕ) (g : Group) where
   -- it isn't kept where it gives no success
-  pub makes_nothing : (given : group.Answer) → succeeds given ≡ false → MakesBy given c name g given c
-  makes_nothing (group.Replied r) fails =
-      subst (λ (b : Bool). Makes b (has_room c) c name g r (group.Replied r) c) (sym fails) (refl, refl)
-  makes_nothing group.Closes fails = (refl, refl)
+  makes_nothing : (given : group.Answer) → succeeds given ≡ false → MakesBy given c name g given c
+  makes_nothing (group.Replied r) fail =
+      subst (λ (b : Bool). Makes b (has_room c) c name g r (group.Replied r) c) (sym fail) (refl, refl)
+  makes_nothing group.Closes fail = (refl, refl)
 
   -- nor where the node is full
-  pub makes_no_more : (given : group.Answer) (refused : group.Reply) → succeeds given ≡ true → MOST_GROUPS ≤ finite.len c.groups
+  makes_no_more : (given : group.Answer) (refused : group.Reply) → succeeds given ≡ true → MOST_GROUPS ≤ finite.len c.groups
       → refused ≡ group.refusal CoordinatorNotAvailable → MakesBy given c name g (group.Replied refused) c
   makes_no_more (group.Replied r) refused success most is =
       let made : Makes true false c name g r (group.Replied refused) c = (ap group.Replied is, refl) in
@@ -89,7 +64,7 @@ module _ (c : Coordinator) (name : List ℕ) (g : Group) where
       subst (λ (b : Bool). Makes b (has_room c) c name g r (group.Replied refused) c) (sym success) by_room
   makes_no_more group.Closes refused success most is = absurd (true≢false (sym success))
 
-  pub makes_one_more : (given : group.Answer) (new : Coordinator) → succeeds given ≡ true → finite.len c.groups < MOST_GROUPS
+  makes_one_more : (given : group.Answer) (new : Coordinator) → succeeds given ≡ true → finite.len c.groups < MOST_GROUPS
       → new ≡ with_group c name g → MakesBy given c name g given new
   makes_one_more (group.Replied r) new success less is =
       let made : Makes true true c name g r (group.Replied r) new = (refl, is) in
@@ -99,40 +74,39 @@ module _ (c : Coordinator) (name : List ℕ) (g : Group) where
   makes_one_more group.Closes new success less is = absurd (true≢false (sym success))
 
 module _ (c : Coordinator) (h : Arrival) (absent : finite.get c.groups h.heartbeat.group ≡ None) (g : Group) where
-  -- what a new group answers is the step, where that is built
-  made_if_built : (built : Bool) (given answer : group.Answer) (new : Coordinator)
-      → StepIfBuilt built (new_group c.salt) h given g → MakesBy given c h.heartbeat.group g answer new
-      → HeartbeatIfBuilt built c h answer new
-  made_if_built true given answer new step makes =
-      subst (λ (there : Option Group). HeartbeatAt there c h answer new) (sym absent) (given, g, step, makes)
-  made_if_built false given answer new step makes =
-      subst (λ (a : group.Answer). MakesBy a c h.heartbeat.group g answer new) step.0 makes
-
+  -- what a new group answers is the step
   pub at_absent : (opened : Group) (given answer : group.Answer) (new : Coordinator) → opened ≡ new_group c.salt
-      → groups.StepToday opened h given g → MakesBy given c h.heartbeat.group g answer new → HeartbeatToday c h answer new
+      → group.HeartbeatStep opened h given g → MakesBy given c h.heartbeat.group g answer new
+      → HeartbeatAt (finite.get c.groups h.heartbeat.group) c h answer new
   at_absent opened given answer new is step makes =
-      made_if_built (is_built h.heartbeat) given answer new (subst (λ (x : Group). groups.StepToday x h given g) is step) makes
+      subst (λ (there : Option Group). HeartbeatAt there c h answer new) (sym absent)
+      (given, g, subst (λ (x : Group). group.HeartbeatStep x h given g) is step, makes)
 
 module _ (c : Coordinator) (h : Arrival) (absent : finite.get c.groups h.heartbeat.group ≡ None) where
-  -- a new group that gave success, once it is kept or refused
+  -- a new group, once it is kept or not
   pub at_admission : (opened : Group) (k : Kept) (given answer : group.Answer) (old entries : Entries) → opened ≡ new_group c.salt
-      → groups.StepToday opened h given k.group → succeeds given ≡ true → groups_of old ≡ c.groups
-      → IsAdmitted old h.heartbeat.group k given answer entries → HeartbeatToday c h answer (record c { groups = groups_of entries })
-  at_admission opened k given answer old entries is step success same (kept room more answers) =
+      → group.HeartbeatStep opened h given k.group → groups_of old ≡ c.groups
+      → IsAdmitted old h.heartbeat.group k given answer entries → HeartbeatAt (finite.get c.groups h.heartbeat.group) c h answer (record c { groups = groups_of entries })
+  at_admission opened k given answer old entries is step same (fails no_success unchanged answers) =
+      let new : groups_of entries ≡ c.groups = ap groups_of unchanged ∙ same in
+      subst (λ (m : Groups). HeartbeatAt (finite.get c.groups h.heartbeat.group) c h answer (record c { groups = m })) (sym new)
+      (subst (λ (a : group.Answer). HeartbeatAt (finite.get c.groups h.heartbeat.group) c h a c) (sym answers)
+      (at_absent c h absent k.group opened given given c is step (makes_nothing c h.heartbeat.group k.group given no_success)))
+  at_admission opened k given answer old entries is step same (kept success room more answers) =
       let none : finite.get (groups_of old) h.heartbeat.group ≡ None = ap (λ (m : Groups). finite.get m h.heartbeat.group) same ∙ absent in
       let new : groups_of entries ≡ finite.insert c.groups h.heartbeat.group k.group =
       ap groups_of more.entries ∙ as_map-push (λ (x : Kept). x.group) old more.key k h.heartbeat.group more.named none
       ∙ ap (λ (m : Groups). finite.insert m h.heartbeat.group k.group) same in
       let less : finite.len c.groups < MOST_GROUPS = subst (λ (m : Groups). finite.len m < MOST_GROUPS) same room in
-      subst (λ (a : group.Answer). HeartbeatToday c h a (record c { groups = groups_of entries })) (sym answers)
+      subst (λ (a : group.Answer). HeartbeatAt (finite.get c.groups h.heartbeat.group) c h a (record c { groups = groups_of entries })) (sym answers)
       (at_absent c h absent k.group opened given given (record c { groups = groups_of entries }) is step
       (makes_one_more c h.heartbeat.group k.group given (record c { groups = groups_of entries }) success less
       (ap (λ (m : Groups). let n : Coordinator = record c { groups = m } in n) new)))
-  at_admission opened k given answer old entries is step success same (full most unchanged answers) =
+  at_admission opened k given answer old entries is step same (full success most unchanged answers) =
       let new : groups_of entries ≡ c.groups = ap groups_of unchanged ∙ same in
       let more : MOST_GROUPS ≤ finite.len c.groups = subst (λ (m : Groups). MOST_GROUPS ≤ finite.len m) same most in
-      subst (λ (m : Groups). HeartbeatToday c h answer (record c { groups = m })) (sym new)
-      (subst (λ (a : group.Answer). HeartbeatToday c h a c) (sym answers)
+      subst (λ (m : Groups). HeartbeatAt (finite.get c.groups h.heartbeat.group) c h answer (record c { groups = m })) (sym new)
+      (subst (λ (a : group.Answer). HeartbeatAt (finite.get c.groups h.heartbeat.group) c h a c) (sym answers)
       (at_absent c h absent k.group opened given (group.Replied (group.refusal CoordinatorNotAvailable)) c is step
       (makes_no_more c h.heartbeat.group k.group given (group.refusal CoordinatorNotAvailable) success more refl)))
 

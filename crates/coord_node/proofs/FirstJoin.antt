@@ -1,5 +1,5 @@
 -- A first join never closes.
-use Rattle.std.proofs.Common.{◌≡◌, ◌≢◌, ℕ, ℤ, pos, Bool, true, false, ◌&&◌, ◌||◌, List, [], ◌∷◌, Option, Some, None, is_none, inl, inr, refl, sym, ap, subst, ◌∙◌, true≢false}
+use Rattle.std.proofs.Common.{◌≡◌, ◌≢◌, ℕ, ℤ, pos, Bool, true, false, ◌&&◌, ◌||◌, List, [], ◌∷◌, Option, Some, None, inl, inr, refl, sym, ap, subst, ◌∙◌, true≢false}
 use Rattle.std.specs.FinMap as finite
 use Rattle.std.specs.Ordering.{eq_by_cmp}
 use Rattle.kip_msgs.specs.Values.{RequestValue, HeartbeatRequestValue, RequestHeaderValue, heartbeat_request}
@@ -17,10 +17,8 @@ use Rattle.group_types.specs.HeartbeatStep as group
 use Rattle.group_types.proofs.Answering.{closes_when_overtaken}
 use Rattle.group_types.proofs.Lookups.{same_text}
 use Rattle.group_epochs.specs.Request.{arrival_of}
-use Rattle.group_core.specs.Built.{is_built, is_built_as}
 use Rattle.coord_node.specs.Coordinator.{Coordinator, Answer, Replied, Closes, Done}
 use Rattle.coord_node.specs.Steps.{is_success, has_room, Makes, MakesBy, HeartbeatAt, Sends, message_of, RequestRelation, IsRequest, RequestStep, FrameStepBy, Step}
-use Rattle.coord_node.specs.Today.{HeartbeatIfBuilt, RequestToday, StepToday}
 use Rattle.coord_node.specs.Laws.{IsFirstJoin, AnswersFirstJoins}
 
 -- an answer that replies
@@ -106,13 +104,6 @@ module _ (c : Coordinator) (v : HeartbeatRequestValue) (stamp : Stamp) (moment :
           made_by at.0 c v.group_id at.1 given new (step_replies (new_group c.salt) TheArrival at.0 at.1 tt first.epoch first.member at.2) at.3
       by (Some g) is at = step_replies g TheArrival given at.0 (first.sound g is).past first.epoch first.member at.1
 
-  -- a first join is built
-  built_replies : HeartbeatIfBuilt (is_built TheArrival.heartbeat) c TheArrival given new → Replies given
-  built_replies step =
-      let kind : kind_of v.member_epoch ≡ Joins = ap kind_of first.epoch in
-      let built : is_built TheArrival.heartbeat ≡ true = ap (λ (k : Kind). is_built_as k TheArrival.heartbeat) kind ∙ ap is_none first.instance in
-      node_replies (subst (λ (b : Bool). HeartbeatIfBuilt b c TheArrival given new) built step)
-
 -- ---- the frame
 
 module _ (one_request : OneRequestABody) where
@@ -131,8 +122,3 @@ module _ (one_request : OneRequestABody) where
   answers_first_joins c header v body stamp moment answer new request first step =
       framed RequestStep c header v body stamp moment answer new request
       (λ at. sent header.correlation_id at.0 answer (node_replies c v stamp moment at.0 new first at.1) at.2) step
-
-  pub answers_first_joins_today : AnswersFirstJoins StepToday
-  answers_first_joins_today c header v body stamp moment answer new request first step =
-      framed RequestToday c header v body stamp moment answer new request
-      (λ at. sent header.correlation_id at.0 answer (built_replies c v stamp moment at.0 new first at.1) at.2) step

@@ -37,7 +37,7 @@ module _ {X Y : Type 0} (f : X → Y) where
   get-as_map es name = finite.get-from_entries text_cmp_total (by_bytes es) name ∙ sym (find-by_bytes es name)
 
   -- what differs from each key isn't found
-  none_found : (k : String Global) (es : List (String Global × X)) → AllByRecursion (λ y. string_eq k y ≡ false) (keys_of es) → entry_at es (string_bytes k) ≡ None
+  pub none_found : (k : String Global) (es : List (String Global × X)) → AllByRecursion (λ y. string_eq k y ≡ false) (keys_of es) → entry_at es (string_bytes k) ≡ None
   none_found k [] differ = refl
   none_found k (e ∷ es) differ = ap (λ b. cond b (Some e.1) (entry_at es (string_bytes k))) (differ.0) ∙ none_found k es differ.1
 
@@ -172,3 +172,8 @@ pub set_value_at-itself : {K X : Type 0} (es : List (K × X)) (i : ℕ) (x : X) 
 set_value_at-itself [] i x at = refl
 set_value_at-itself (e ∷ es) zero x at = ap (λ y. (e.0, y) ∷ es) (sym (some_is e.1 x at))
 set_value_at-itself (e ∷ es) (suc i) x at = ap (λ rest. e ∷ rest) (set_value_at-itself es i x at)
+
+pub length-set_value_at : {K X : Type 0} (es : List (K × X)) (i : ℕ) (x : X) → length (set_value_at es i x) ≡ length es
+length-set_value_at [] i x = refl
+length-set_value_at (e ∷ es) zero x = refl
+length-set_value_at (e ∷ es) (suc i) x = ap suc (length-set_value_at es i x)

@@ -8,7 +8,6 @@ use Rattle.group_types.specs.HeartbeatStep.{Answer, Replied, Closes, Arrival, He
 use Rattle.group_types.specs.Group.{Group}
 use Rattle.group_types.proofs.Lookups.{some_is, not_none}
 use Rattle.group_types.proofs.Answering.{refusal_changes_nothing, closes_when_overtaken}
-use Rattle.group_core.specs.Built.{StepIfBuilt, StepToday, is_built}
 use Rattle.group_core.specs.Outcome.{IsCurrent, IsCurrentAfter}
 use Rattle.coord_node.specs.declared.kept.Kept.{Kept}
 use Rattle.coord_node.specs.Steps.{is_success}
@@ -41,17 +40,13 @@ is_success-code codes.UnsupportedAssignor is = absurd (true≢false (sym is))
 is_success-code codes.StaleMemberEpoch is = absurd (true≢false (sym is))
 
 -- what gives no success changes nothing
-unchanged : (g : Group) (h : Arrival) (a : Answer) (n : Group) → StepToday g h a n → succeeds a ≡ false → n ≡ g
-unchanged g h a n step fails = by (is_built h.heartbeat) step
+unchanged : (g : Group) (h : Arrival) (a : Answer) (n : Group) → HeartbeatStep g h a n → succeeds a ≡ false → n ≡ g
+unchanged g h a n step fails = by a refl fails
   where
-    whole : (answer : Answer) → a ≡ answer → succeeds answer ≡ false → HeartbeatStep g h a n → n ≡ g
-    whole (Replied r) is failed whole_step =
-        refusal_changes_nothing g h a n whole_step r is (λ code. true≢false (sym (ap is_success code) ∙ failed))
-    whole Closes is failed whole_step = (closes_when_overtaken g h a n whole_step is).1
-
-    by : (built : Bool) → StepIfBuilt built g h a n → n ≡ g
-    by true whole_step = whole a refl fails whole_step
-    by false no_step = no_step.1
+    by : (answer : Answer) → a ≡ answer → succeeds answer ≡ false → n ≡ g
+    by (Replied r) is failed =
+        refusal_changes_nothing g h a n step r is (λ code. true≢false (sym (ap is_success code) ∙ failed))
+    by Closes is failed = (closes_when_overtaken g h a n step is).1
 
 not_negative : (z : ℤ) → int_lt z (pos 0) ≡ false → pos 0 ≤ℤ z
 not_negative (pos n) is = omega (arith, ints)
@@ -80,7 +75,7 @@ module _ (generation : Option ℕ) (image : Topics) (k new : Kept) (kept : IsKep
       by n m same = omega arith
 
   -- after a heartbeat
-  pub IsKept-heartbeat : (h : Arrival) (a : Answer) → StepToday k.group h a new.group → IsCurrentAfter a new.group image
+  pub IsKept-heartbeat : (h : Arrival) (a : Answer) → HeartbeatStep k.group h a new.group → IsCurrentAfter a new.group image
       → new.known ≡ known_after a k.known generation → IsKept generation image new
   IsKept-heartbeat h a step current known = by a refl current known
     where

@@ -23,7 +23,7 @@ pub length-int32 : (z : ℤ) → length (int32 z) ≡ 4
 unfolding signed
 length-int32 z = refl
 
-length-int16 : (z : ℤ) → length (int16 z) ≡ 2
+pub length-int16 : (z : ℤ) → length (int16 z) ≡ 2
 unfolding signed
 length-int16 z = refl
 

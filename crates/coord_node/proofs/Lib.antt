@@ -8,3 +8,7 @@ pub mod OneAnswer
 pub mod FirstJoin
 pub mod AnswerLemmas
 pub mod SoundGroups
+pub mod AbsentLemmas
+pub mod CommitLengths
+pub mod CommitLemmas
+pub mod TickLemmas

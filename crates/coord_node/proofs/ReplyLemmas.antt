@@ -14,7 +14,7 @@ use Rattle.kip_msgs.specs.Spelling.{reply_body}
 use Rattle.kip_msgs.specs.Writable.{IsShortIfAny, IsWritableTopic, IsWritableAssignment, IsWritableReply}
 use Rattle.group_core.specs.Listing.{listed}
 use Rattle.group_core.proofs.ListingLemmas.{indexes_in, indexes_in-listed, length-listed}
-use Rattle.coord_node.specs.Answers.{IsSendable}
+use Rattle.coord_node.specs.Answers.{HasRoomInFrame, IsSendable}
 use Rattle.coord_node.specs.Replies.{assignment_value, reply_value}
 use Rattle.coord_node.proofs.LengthLemmas.{HaveAssignedIds, HaveNoTags, HaveNoTags-listed, length-code_text, length-reply_body}
 
@@ -51,7 +51,7 @@ writable_assignment None few = tt
 writable_assignment (Some set) few = IsWritableAssignment-set set few
 
 -- a reply that can be sent can be written
-pub IsWritableReply-reply : (correlation : ℤ) (r : Reply) (left : ℕ) → IsSendable (Replied r) left → IsWritableReply (reply_value correlation r)
+IsWritableReply-reply : (correlation : ℤ) (r : Reply) (left : ℕ) → IsSendable (Replied r) left → IsWritableReply (reply_value correlation r)
 IsWritableReply-reply correlation r left sendable = (
   FitsTaggedFields-nil,
   record {
@@ -63,7 +63,7 @@ IsWritableReply-reply correlation r left sendable = (
 )
 
 -- and its size is one
-pub length-reply : (correlation : ℤ) (r : Reply) (left : ℕ) → IsSendable (Replied r) left → HaveAssignedIds r.assignment
+length-reply : (correlation : ℤ) (r : Reply) (left : ℕ) → IsSendable (Replied r) left → HaveAssignedIds r.assignment
     → length (reply_body (reply_value correlation r)) < 2 ^ 31
 length-reply correlation r left sendable ids =
     omega (arith, length-reply_body correlation r ids, short_id r.member sendable.id, few_partitions r.assignment sendable.few)
@@ -75,6 +75,16 @@ length-reply correlation r left sendable ids =
     few_partitions : (a : Option Partitions) → IfSome a (λ set. length (in_order set) ≤ MOST_PARTITIONS) → option_map_or size a 0 ≤ MOST_PARTITIONS
     few_partitions None few = omega arith
     few_partitions (Some set) few = few
+
+-- and its frame has room
+pub HasRoomInFrame-reply : (correlation : ℤ) (r : Reply) (left : ℕ) → IsSendable (Replied r) left → HaveAssignedIds r.assignment
+    → HasRoomInFrame (reply_value correlation r) left
+HasRoomInFrame-reply correlation r left sendable ids =
+    record {
+      writable = IsWritableReply-reply correlation r left sendable;
+      short = length-reply correlation r left sendable ids;
+      room = omega (arith, length-reply_body correlation r ids, sendable.room);
+    }
 
 -- four bytes of the items from the start on, with the size in their place
 abbrev pub patched : List ℕ → List ℕ → ℕ → List ℕ

@@ -3,13 +3,13 @@ use Rattle.std.proofs.Common.{◌<◌, length, drop, slice_index_or, arith, ◌�
 use Rattle.std.specs.List.{flat_map}
 use Rattle.coord_node.specs.declared.event.NodeEvent.{NodeEvent}
 use Rattle.coord_node.specs.Coordinator.{Coordinator, Event, Answer, bytes_of}
-use Rattle.coord_node.specs.Today.{StepToday, RunToday}
+use Rattle.coord_node.specs.Steps.{Step, Run}
 use Rattle.coord_node.specs.Events.{event_value, Runs}
 
 -- a run, and one step behind it
 Run-push : (events : List Event) (answers : List Answer) (c d n : Coordinator) (event : Event) (answer : Answer)
-    → RunToday c events answers d → StepToday d event answer n → RunToday c (events ++ event ∷ []) (answers ++ answer ∷ []) n
-Run-push [] [] c d n event answer run step = (n, subst (λ (x : Coordinator). StepToday x event answer n) run step, refl)
+    → Run c events answers d → Step d event answer n → Run c (events ++ event ∷ []) (answers ++ answer ∷ []) n
+Run-push [] [] c d n event answer run step = (n, subst (λ (x : Coordinator). Step x event answer n) run step, refl)
 Run-push [] (a ∷ answers) c d n event answer run step = absurd run
 Run-push (e ∷ es) [] c d n event answer run step = absurd run
 Run-push (e ∷ es) (a ∷ answers) c d n event answer run step =
@@ -27,7 +27,7 @@ Runs-start c events bytes =
 
 -- one event more
 pub Runs-step : (c d n : Coordinator) (events left : List NodeEvent) (event : NodeEvent) (answer : Answer) (before middle after : List ℕ)
-    → Runs c events d (event ∷ left) before middle → StepToday d (event_value event) answer n → after ≡ middle ++ bytes_of answer
+    → Runs c events d (event ∷ left) before middle → Step d (event_value event) answer n → after ≡ middle ++ bytes_of answer
     → Runs c events n left before after
 Runs-step c d n events left event answer before middle after runs step more =
     record {
@@ -43,7 +43,7 @@ Runs-step c d n events left event answer before middle after runs step more =
 -- the event in front, and what is left behind it
 pub Runs-front : (c d n : Coordinator) (events items left : List NodeEvent) (event : NodeEvent) (answer : Answer) (before middle after : List ℕ)
     → Runs c events d items before middle → 0 < length items → event ≡ slice_index_or items 0 event → left ≡ drop 1 items
-    → StepToday d (event_value event) answer n → after ≡ middle ++ bytes_of answer
+    → Step d (event_value event) answer n → after ≡ middle ++ bytes_of answer
     → Runs c events n left before after
 Runs-front c d n events [] left event answer before middle after runs some is rest step more = absurd (omega arith)
 Runs-front c d n events (x ∷ xs) left event answer before middle after runs some is rest step more =

@@ -1,5 +1,5 @@
 -- A reply names the id of the request, or one that was made, which is short.
-use Rattle.std.proofs.Common.{◌≡◌, ℕ, ◌≤◌, Bool, true, false, [], ◌∷◌, length, Option, Some, None, IfSome, max, refl, sym, ap, subst, arith}
+use Rattle.std.proofs.Common.{◌≡◌, ℕ, ◌≤◌, Bool, [], ◌∷◌, length, Option, Some, None, IfSome, max, refl, sym, ap, subst, arith}
 use Rattle.group_types.specs.Limits.{LONGEST_STRING}
 use Rattle.group_types.specs.Text.{Text}
 use Rattle.group_types.specs.Topics.{Topics}
@@ -9,10 +9,9 @@ use Rattle.group_types.specs.Group.{Group, Record}
 use Rattle.group_types.specs.Join.{Name, IsNamed, name_of_serial}
 use Rattle.group_types.specs.Renewal.{changed_if, view_for}
 use Rattle.group_types.specs.Checks.{Verdict, Accepted, Refused, Overtaken, Member, Sender, sender_of, verdict_on}
-use Rattle.group_types.specs.HeartbeatStep.{Answer, Replied, Closes, Arrival, Draft, Reply, refusal, heir_or, draft_of_beat, draft_of_join, ByVerdict, verdict_on_change, RepliesTo, SettlesAndReplies, GoesOn, TakesIn, JoinsUnder, BeatsWith, GoesAwayWith, StepOf}
+use Rattle.group_types.specs.HeartbeatStep.{Answer, Replied, Closes, Arrival, Draft, Reply, refusal, heir_or, draft_of_beat, draft_of_join, ByVerdict, verdict_on_change, RepliesTo, SettlesAndReplies, GoesOn, TakesIn, JoinsUnder, BeatsWith, GoesAwayWith, StepOf, HeartbeatStep}
 use Rattle.group_types.proofs.Lookups.{some_is}
 use Rattle.group_types.proofs.MadeIds.{length-made_id}
-use Rattle.group_core.specs.Built.{StepIfBuilt, StepToday, is_built}
 use Rattle.coord_node.specs.Answers.{HasShortId}
 
 abbrev IsShort : Text → Type 0
@@ -106,11 +105,7 @@ whole_short Accepted kind sender g h a n short is = step_short kind sender g h a
 whole_short (Refused code) kind sender g h a n short is = named_short [] a (refused [] a _ is.0 refl) (omega arith)
 whole_short Overtaken kind sender g h a n short is = subst HasShortId (sym is.0) tt
 
-short_if_built : (built : Bool) (g : Group) (h : Arrival) (a : Answer) (n : Group) → IsShort h.heartbeat.member → StepIfBuilt built g h a n → HasShortId a
-short_if_built true g h a n short is =
-    whole_short (verdict_on (kind_of h.heartbeat.epoch) (sender_of g.records h.heartbeat) g h.heartbeat h.stamp) (kind_of h.heartbeat.epoch) (sender_of g.records h.heartbeat) g h a n short is
-short_if_built false g h a n short is = subst HasShortId (sym is.0) tt
-
 -- a reply to a heartbeat under a short id, or none, names a short id, or none
-pub HasShortId-step : (g : Group) (h : Arrival) (a : Answer) (n : Group) → length h.heartbeat.member ≤ LONGEST_STRING → StepToday g h a n → HasShortId a
-HasShortId-step g h a n short is = short_if_built (is_built h.heartbeat) g h a n short is
+pub HasShortId-step : (g : Group) (h : Arrival) (a : Answer) (n : Group) → length h.heartbeat.member ≤ LONGEST_STRING → HeartbeatStep g h a n → HasShortId a
+HasShortId-step g h a n short is =
+    whole_short (verdict_on (kind_of h.heartbeat.epoch) (sender_of g.records h.heartbeat) g h.heartbeat h.stamp) (kind_of h.heartbeat.epoch) (sender_of g.records h.heartbeat) g h a n short is

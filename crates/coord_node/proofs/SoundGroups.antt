@@ -15,11 +15,9 @@ use Rattle.group_types.specs.Sound.{IsSound}
 use Rattle.group_types.specs.Laws.{CommitsAreSound, EveryGroupIsSound, HeartbeatsAreSound, TicksAreSound}
 use Rattle.group_types.proofs.Orders.{text_cmp_total}
 use Rattle.group_types.proofs.Lookups.{Found, this, another, found, not_none, some_is}
-use Rattle.group_core.specs.Built.{is_built}
 use Rattle.group_epochs.specs.Request.{arrival_of, commit_of}
 use Rattle.coord_node.specs.Coordinator.{Coordinator, Event, Frame, Tick, Image, Answer, opening}
 use Rattle.coord_node.specs.Steps.{is_success, has_room, all_ticked, Makes, MakesBy, HeartbeatAt, CommitAt, with_group, RequestRelation, RequestStep, FrameStepBy, EventRelation, RunBy, Step}
-use Rattle.coord_node.specs.Today.{HeartbeatIfBuilt, RequestToday, StepToday}
 use Rattle.coord_node.specs.Laws.{GroupsAreSound, HasSoundGroups, StepsAreSound}
 
 -- a sound group, put in among sound ones
@@ -106,26 +104,6 @@ module _ (every : EveryGroupIsSound) (heartbeats : HeartbeatsAreSound) (ticks : 
       framed_soundly RequestStep c sound body stamp moment answer new (λ v is. requested_soundly c sound v stamp moment answer new is) step
   steps_are_sound c (Tick moment) answer new step sound = subst HasSoundGroups (sym step.1) (ticked_soundly c sound moment)
   steps_are_sound c (Image topics) answer new step sound = subst HasSoundGroups (sym step.1) sound
-
-  -- ---- as far as it is built
-
-  beaten_if_built : (built : Bool) (c : Coordinator) → HasSoundGroups c → (a : Arrival) (answer : group.Answer) (new : Coordinator)
-      → HeartbeatIfBuilt built c a answer new → HasSoundGroups new
-  beaten_if_built true c sound a answer new is = beaten_soundly c sound a (finite.get c.groups a.heartbeat.group) refl answer new is
-  beaten_if_built false c sound a answer new is = subst HasSoundGroups (sym is.1) sound
-
-  requested_today : (c : Coordinator) → HasSoundGroups c → (v : RequestValue) (stamp : Stamp) (moment : ℕ) (answer : Answer) (new : Coordinator)
-      → RequestToday c v stamp moment answer new → HasSoundGroups new
-  requested_today c sound (heartbeat_request header v) stamp moment answer new is =
-      let a : Arrival = arrival_of v stamp moment c.image in
-      beaten_if_built (is_built a.heartbeat) c sound a is.0 new is.1
-  requested_today c sound (commit_request header v) stamp moment answer new is = subst HasSoundGroups (sym is.1) sound
-
-  pub steps_today_are_sound : StepsAreSound StepToday
-  steps_today_are_sound c (Frame body stamp moment) answer new step sound =
-      framed_soundly RequestToday c sound body stamp moment answer new (λ v is. requested_today c sound v stamp moment answer new is) step
-  steps_today_are_sound c (Tick moment) answer new step sound = subst HasSoundGroups (sym step.1) sound
-  steps_today_are_sound c (Image topics) answer new step sound = subst HasSoundGroups (sym step.1) sound
 
 -- ---- one event after the other
 

@@ -1,10 +1,10 @@
 pub mod Replies
 pub mod Coordinator
 pub mod Steps
-pub mod Today
 pub mod Laws
 pub mod Stored
 pub mod Kept
 pub mod NodeView
 pub mod Answers
+pub mod Absent
 pub mod Events

@@ -1,6 +1,6 @@
 -- A node's fields as the coordinator's state: the order in which the groups were made is forgotten, and what is known of their
 -- views.
-use Rattle.std.specs.Prelude.{◌≡◌, ◌<◌, ◌≤◌, List, [], ◌∷◌, ◌++◌, String, map}
+use Rattle.std.specs.Prelude.{true, false, ◌≡◌, ◌<◌, ◌≤◌, List, [], ◌∷◌, ◌++◌, String, length, map}
 use Rattle.std.specs.declared.alloc.Global.{Global}
 use Rattle.std.specs.FinMap as finite
 use Rattle.std.specs.List.{AllByRecursion}
@@ -12,6 +12,7 @@ use Rattle.group_types.specs.HeartbeatStep as group
 use Rattle.coord_node.specs.declared.kept.Kept.{Kept}
 use Rattle.coord_node.specs.declared.node.Node.TheInside.{Inside}
 use Rattle.coord_node.specs.Coordinator.{Coordinator, Groups}
+use Rattle.coord_node.specs.Answers.{succeeds}
 use Rattle.coord_node.specs.Kept.{IsKept}
 
 -- in the order in which they were made
@@ -25,9 +26,14 @@ groups_of entries = finite.from_entries (map (λ e. (string_bytes e.0, e.1.group
 abbrev pub node_view : Inside → Coordinator
 node_view n = record { salt = n.salt; groups = groups_of n.groups.entries; image = n.image }
 
+-- what is known of each group
+abbrev pub AreKept : Inside → Type 0
+AreKept n = AllByRecursion (λ e. IsKept n.generation n.image e.1) n.groups.entries
+
 -- what holds of every node
-abbrev pub IsNode : Inside → Type 0
-IsNode n = AllByRecursion (λ e. IsKept n.generation n.image e.1) n.groups.entries
+pub record IsNode (n : Inside) : Type 0 where
+  pub kept : AreKept n
+  pub few : length n.groups.entries ≤ MOST_GROUPS
 
 -- one more group, under a name, behind the others
 pub record IsOneMore (old : Entries) (name : Text) (k : Kept) (new : Entries) : Type 0 where
@@ -35,8 +41,9 @@ pub record IsOneMore (old : Entries) (name : Text) (k : Kept) (new : Entries) : 
   pub named : string_bytes key ≡ name
   pub entries : new ≡ old ++ (key, k) ∷ []
 
--- A new group is kept where there is room for one more, and gives its answer; else COORDINATOR_NOT_AVAILABLE is answered.
+-- A new group that answers with success is kept where there is room for one more; else COORDINATOR_NOT_AVAILABLE is answered.
 pub data IsAdmitted (old : Entries) (name : Text) (k : Kept) (given answer : group.Answer) (new : Entries) : Type 0 where
-  kept : finite.len (groups_of old) < MOST_GROUPS → IsOneMore old name k new → answer ≡ given → IsAdmitted old name k given answer new
-  full : MOST_GROUPS ≤ finite.len (groups_of old) → new ≡ old → answer ≡ group.Replied (group.refusal CoordinatorNotAvailable)
+  fails : succeeds given ≡ false → new ≡ old → answer ≡ given → IsAdmitted old name k given answer new
+  kept : succeeds given ≡ true → finite.len (groups_of old) < MOST_GROUPS → IsOneMore old name k new → answer ≡ given → IsAdmitted old name k given answer new
+  full : succeeds given ≡ true → MOST_GROUPS ≤ finite.len (groups_of old) → new ≡ old → answer ≡ group.Replied (group.refusal CoordinatorNotAvailable)
       → IsAdmitted old name k given answer new

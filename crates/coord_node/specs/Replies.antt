@@ -1,14 +1,15 @@
 -- The bytes of a reply: the one frame that spells it.
-use Rattle.std.specs.Prelude.{◌≡◌, ℕ, ℤ, pos, List, [], ◌++◌, length, map, option_map, FitsSigned}
+use Rattle.std.specs.Prelude.{◌≡◌, ℕ, ℤ, pos, List, [], ◌++◌, length, option_map, FitsSigned}
 use Rattle.std.specs.Int.{w32}
 use Rattle.flex_wire.specs.Spelling.{int32}
-use Rattle.kip_msgs.specs.Values.{AssignmentValue, HeartbeatReplyValue, CommitReplyValue, ReplyValue, heartbeat_reply, commit_reply}
+use Rattle.kip_msgs.specs.Values.{AssignmentValue, CommitReplyValue, HeartbeatReplyValue, ReplyValue, heartbeat_reply, commit_reply}
 use Rattle.kip_msgs.specs.Spelling.{SpellsReply}
 use Rattle.group_types.specs.Sets.{in_order}
 use Rattle.group_types.specs.Partition.{Partitions}
 use Rattle.group_types.specs.Code.{code_number, code_text}
 use Rattle.group_types.specs.HeartbeatStep.{Reply}
 use Rattle.group_types.specs.Commit.{CommitReply}
+use Rattle.offset_guard.specs.Replies.{commit_reply_value}
 use Rattle.group_core.specs.Listing.{listed}
 
 abbrev pub assignment_value : Partitions → AssignmentValue
@@ -33,18 +34,12 @@ abbrev pub reply_value : ℤ → Reply → ReplyValue
 reply_value correlation r =
     heartbeat_reply (record { correlation_id = correlation; tags = [] }) (heartbeat_reply_value r)
 
--- Kafka protocol guide, "OffsetCommit Response v9": the codes in the request's order
-abbrev pub commit_reply_value : CommitReply → CommitReplyValue
-commit_reply_value reply =
-    record {
-      throttle_time_ms = pos 0;
-      topics = map (λ t. record { name = t.0; partitions = map (λ p. record { partition_index = p.0; error_code = code_number p.1; tags = [] }) t.1; tags = [] }) reply;
-      tags = [];
-    }
+-- with the correlation id of its request
+abbrev pub commit_message : ℤ → CommitReplyValue → ReplyValue
+commit_message correlation v = commit_reply (record { correlation_id = correlation; tags = [] }) v
 
 abbrev pub commit_value : ℤ → CommitReply → ReplyValue
-commit_value correlation reply =
-    commit_reply (record { correlation_id = correlation; tags = [] }) (commit_reply_value reply)
+commit_value correlation reply = commit_message correlation (commit_reply_value reply)
 
 -- A frame is an INT32 size and a body of that many bytes (Kafka protocol guide, "Protocol").
 pub record IsFrame (body frame : List ℕ) : Type 0 where

@@ -12,6 +12,10 @@ pub enum NodeEvent {
         stamp: Stamp,
         moment: Moment,
     },
+    /// The time at a moment: members whose deadline has come leave.
+    Tick {
+        moment: Moment,
+    },
     /// A new image of the topics.
     Image {
         image: Image,

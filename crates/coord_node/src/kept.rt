@@ -1,10 +1,13 @@
 //! A group that a node keeps.
-ghost use Rattle.std.specs.Prelude.{◌≡◌, ◌-◌, ◌≤◌, None, IfOk, OnErr, length, vec_capacity};
+ghost use Rattle.std.specs.Prelude.{◌≡◌, ◌-◌, ◌≤◌, ℕ, Option, None, IfOk, OnErr, length, vec_capacity};
 ghost use Rattle.group_types.specs.Group.{new_group};
-ghost use Rattle.group_types.specs.Limits.{LONGEST_STRING};
-ghost use Rattle.kip_msgs.specs.Views.{heartbeat_request_value};
-ghost use Rattle.group_epochs.specs.Request.{arrival_of};
-ghost use Rattle.group_core.specs.Built.{StepToday};
+ghost use Rattle.group_types.specs.Limits.{LONGEST_STRING, MOST_MEMBERS};
+ghost use Rattle.group_types.specs.Tick.{removed_by_tick, ticked};
+ghost use Rattle.group_types.specs.Topics.{Topics};
+ghost use Rattle.kip_msgs.specs.Views.{commit_reply_value, commit_request_value, heartbeat_request_value};
+ghost use Rattle.group_epochs.specs.Request.{arrival_of, commit_of};
+ghost use Rattle.group_types.specs.HeartbeatStep.{HeartbeatStep};
+ghost use Rattle.group_core.specs.Commits.{Commits};
 ghost use Rattle.group_core.specs.Outcome.{answer_of};
 ghost use Rattle.coord_node.specs.Kept.{IsKept, is_same, known_after};
 ghost use Rattle.coord_node.specs.Answers.{IsSendable};
@@ -12,7 +15,7 @@ ghost use Rattle.coord_node.specs.Answers.{IsSendable};
 use crate::success::is_success;
 use group_core::{Group, Outcome};
 use group_types::{Moment, Stamp};
-use kip_msgs::HeartbeatRequest;
+use kip_msgs::{CommitReply, CommitRequest, HeartbeatRequest};
 use std::alloc::{AllocError, Global};
 use std::collections::hash_map::RandomState;
 use topic_meta::Image;
@@ -51,7 +54,7 @@ impl Kept {
     ) -> Result<Outcome<'a>, AllocError>
         requires kept { IsKept generation image.now self.old }
         requires id { length request.now.member_id.now ≤ LONGEST_STRING }
-        ensures step { IfOk result (λ outcome. StepToday self.old.group
+        ensures step { IfOk result (λ outcome. HeartbeatStep self.old.group
             (arrival_of (heartbeat_request_value request.now) stamp now image.now) (answer_of outcome) self.new.group) }
         ensures sendable { IfOk result (λ outcome. IsSendable (answer_of outcome) (vec_capacity out.new - length out.new.items)) }
         ensures kept { IsKept generation image.now self.new }
@@ -64,6 +67,39 @@ impl Kept {
             .heartbeat_over(alloc, request, stamp, now, image, is_current, out)?;
         self.known = known_after(&outcome, self.known, generation);
         Ok(outcome)
+    }
+
+    /// One commit over the node's image, of which the group's view knows no more and no less than before. Where memory is short
+    /// nothing has changed.
+    pub(crate) fn commit<'a>(
+        &mut self,
+        alloc: Global,
+        request: &CommitRequest<'a>,
+        image: &Image,
+    ) -> Result<CommitReply<'a>, AllocError>
+        ensures step { IfOk result (λ reply. Commits self.old.group (commit_of (commit_request_value request.now)) image.now
+            (commit_reply_value reply) self.new.group) }
+        ensures kept { (generation : Option ℕ) → IsKept generation image.now self.old → IsKept generation image.now self.new }
+        ensures err { OnErr result (self.new ≡ self.old) }
+    {
+        self.group.commit(alloc, request, image)
+    }
+
+    /// The group meets the moment. Where members were removed, they may have been the last ones that subscribed a topic. Says how
+    /// many. Takes no memory.
+    pub(crate) fn tick(&mut self, now: Moment) -> usize
+        ensures group { self.new.group ≡ ticked self.old.group now }
+        ensures removed { result ≡ removed_by_tick self.old.group now }
+        ensures few { result ≤ MOST_MEMBERS }
+        ensures kept { (generation : Option ℕ) (image : Topics) → IsKept generation image self.old → IsKept generation image self.new }
+    {
+        // so that the group is known to have no more members than the most
+        let _ = self.group.epoch();
+        let removed = self.group.tick(now);
+        if removed != 0 {
+            self.known = None;
+        }
+        removed
     }
 
     /// Whether the group's view is known to be that of the image with the number.

@@ -1,7 +1,6 @@
 //! Laws of the coordinator's steps, proved where nothing runs.
 ghost use Rattle.coord_node.specs.Laws.{AnswersFirstJoins, GroupsAreSound, OneAnswer, StepsAreSound};
 ghost use Rattle.coord_node.specs.Steps.{Step};
-ghost use Rattle.coord_node.specs.Today.{StepToday};
 
 use group_core::heartbeats_have_one_answer;
 use group_types::{commits_are_sound, every_group_is_sound, heartbeats_are_sound, ticks_are_sound};
@@ -16,18 +15,16 @@ pub fn one_answer()
 }
 
 /// A join with no member id and no instance id is answered and never closes, whether its group isn't there or is a sound
-/// one: in the whole machine, and as far as it is built.
+/// one.
 pub fn path_is_answered()
-    ensures whole { AnswersFirstJoins Step }
-    ensures built { AnswersFirstJoins StepToday }
+    ensures { AnswersFirstJoins Step }
 {
     one_request_a_body();
 }
 
-/// An event leaves sound groups where there were sound ones: in the whole machine, and as far as it is built.
+/// An event leaves sound groups where there were sound ones.
 pub fn steps_are_sound()
-    ensures whole { StepsAreSound Step }
-    ensures built { StepsAreSound StepToday }
+    ensures { StepsAreSound Step }
 {
     every_group_is_sound();
     heartbeats_are_sound();
@@ -36,10 +33,9 @@ pub fn steps_are_sound()
 }
 
 /// Whatever came to a coordinator since its opening, each of its groups is sound: in none do two members hold one
-/// partition, among others. That is so of the whole machine, and of it as far as it is built.
+/// partition, among others.
 pub fn groups_are_sound()
-    ensures whole { GroupsAreSound Step }
-    ensures built { GroupsAreSound StepToday }
+    ensures { GroupsAreSound Step }
 {
     steps_are_sound();
 }

@@ -1,17 +1,22 @@
 //! The coordinator of one node: the bytes of frames in, the bytes of replies out.
 //!
-//! For every list of frames and images, the bytes that a [`Node`] appends are those of the coordinator's run
+//! For every list of frames, ticks and images, the bytes that a [`Node`] appends are those of the coordinator's run
 //! (KIP-848), and its state is the run's. Start from [`Node::answer`] for one frame, and from [`Node::run`] for a list
 //! of events.
 #![tactic(auto)]
 
+mod absent;
+mod admission;
+mod commit_frame;
 mod event;
 mod frame;
+mod heartbeat_frame;
 mod kept;
 mod laws;
 mod node;
 mod run;
 mod success;
+mod tick;
 
 pub use event::{Answered, NodeEvent};
 pub use group_core::{Group, Image, Moment, Stamp};

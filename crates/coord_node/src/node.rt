@@ -1,28 +1,27 @@
 //! The node and its answers.
-ghost use Rattle.std.specs.Prelude.{◌≡◌, ◌-◌, ◌≤◌, ◌++◌, ◌∷◌, [], ◌<◌, IfOk, OnOk, OnErr, None, length, vec_capacity};
+ghost use Rattle.std.specs.Prelude.{◌≡◌, ◌+◌, ◌-◌, ◌≤◌, IfOk, OnOk, OnErr, None, length, vec_capacity};
 ghost use Rattle.std.specs.Option.{option_copied};
 ghost use Rattle.std.specs.FinMap as finite;
-ghost use Rattle.std.specs.String.{string_bytes};
-ghost use Rattle.indexmap.specs.IndexMap.{spare};
-ghost use Rattle.kip_msgs.specs.Spelling.{FitsRequest};
-ghost use Rattle.kip_msgs.specs.Views.{heartbeat_request_value, request_value};
-ghost use Rattle.group_types.specs.Limits.{LONGEST_STRING};
+ghost use Rattle.kip_msgs.specs.Spelling.{commit_request_fields, request_body, FitsCommitRequest, FitsRequest};
+ghost use Rattle.kip_msgs.specs.Views.{commit_reply_value, commit_request_value, heartbeat_request_value, request_value};
+ghost use Rattle.group_types.specs.Limits.{LARGEST_BODY as MOST_BYTES, LONGEST_STRING};
 ghost use Rattle.group_epochs.specs.Request.{arrival_of};
 ghost use Rattle.group_core.specs.Outcome.{answer_of};
-ghost use Rattle.coord_node.specs.Coordinator.{opening, Frame, is_remembered_at};
-ghost use Rattle.coord_node.specs.NodeView.{groups_of, IsAdmitted, IsOneMore};
-ghost use Rattle.coord_node.specs.Today.{HeartbeatToday};
-ghost use Rattle.coord_node.specs.Answers.{Answers, AnswersRequest, AnswersHeartbeat, ClosesAtOnce, IsSendable, IsSent};
+ghost use Rattle.coord_node.specs.Coordinator.{opening, Done, Frame, Tick, is_remembered_at};
+ghost use Rattle.coord_node.specs.Steps.{HeartbeatAt, Step};
+ghost use Rattle.coord_node.specs.Answers.{Answers, AnswersRequest, AnswersHeartbeat, ClosesAtOnce, CommitsIn, IsCommitted, IsSendable, IsSent};
 
+use crate::absent::reply_of_absent;
+use crate::admission::admit;
 use crate::event::Answered;
-use crate::frame;
 use crate::kept::Kept;
-use crate::success::succeeds;
-use group_core::{Group, Outcome, Reply};
-use group_types::limits::{LARGEST_BODY, MOST_GROUPS, SMALLEST_BODY};
-use group_types::{Code, Moment, Stamp};
+use crate::tick::tick_all;
+use crate::{commit_frame, heartbeat_frame};
+use group_core::{Group, Outcome};
+use group_types::limits::{LARGEST_BODY, SMALLEST_BODY};
+use group_types::{Moment, Stamp};
 use indexmap::IndexMap;
-use kip_msgs::{HeartbeatRequest, MsgFault, Request, read_request};
+use kip_msgs::{CommitReply, CommitRequest, HeartbeatRequest, MsgFault, Request, read_request};
 use std::alloc::{AllocError, Global};
 use std::collections::hash_map::RandomState;
 use std::marker::Model;
@@ -100,10 +99,17 @@ impl Node {
         }
     }
 
+    /// Removes the members whose session or release deadline has come from all groups (KIP-848, "Session Management", "Rebalance
+    /// Timeout"), and says how many. Takes no memory.
+    pub fn tick(&mut self, now: Moment) -> usize
+        ensures { Step self.old (Tick now) (Done result) self.new }
+    {
+        tick_all(&mut self.groups, now)
+    }
+
     /// Answers the body of one frame, which came with a stamp at a moment: appends the one frame that spells the reply,
-    /// or closes and changes nothing. A body closes that is no request or is outside the lengths of a frame, a heartbeat that
-    /// another one of its member overtook, and today every commit, every join with an instance id and every heartbeat by which
-    /// a static member goes away. Where memory is short nothing has changed.
+    /// or closes and changes nothing. A body closes that is no request or is outside the lengths of a frame, and a heartbeat that
+    /// another one of its member overtook. Where memory is short nothing has changed.
     pub fn answer(
         &mut self,
         alloc: Global,
@@ -122,22 +128,25 @@ impl Node {
             return Ok(Answered::Closes);
         }
         match read_request(alloc, body) {
-            Ok(request) => self.request(alloc, &request, stamp, now, out),
+            Ok(request) => self.request(alloc, &request, body.len(), stamp, now, out),
             Err(MsgFault::NoMemory) => Err(AllocError),
             Err(_) => Ok(Answered::Closes),
         }
     }
 
-    /// Answers a request, by its API. Today a commit closes the connection.
+    /// Answers a request, whose body has so many bytes, by its API.
     fn request(
         &mut self,
         alloc: Global,
         request: &Request<'_>,
+        size: usize,
         stamp: Stamp,
         now: Moment,
         out: &mut Vec<u8>,
     ) -> Result<Answered, AllocError>
-        requires { FitsRequest (request_value request.now) }
+        requires fits { FitsRequest (request_value request.now) }
+        requires size { length (request_body (request_value request.now)) ≤ size }
+        requires most { size ≤ MOST_BYTES }
         ensures step { IfOk result (λ answered.
             AnswersRequest self.old (request_value request.now) stamp now answered self.new out.old.items out.new.items) }
         ensures err { OnErr result ((self.new ≡ self.old) × (out.new.items ≡ out.old.items)) }
@@ -146,7 +155,10 @@ impl Node {
             Request::Heartbeat(header, message) => {
                 self.heartbeat(alloc, header.correlation_id, message, stamp, now, out)
             }
-            Request::Commit(..) => Ok(Answered::Closes),
+            Request::Commit(header, message) => {
+                self.commit(alloc, header.correlation_id, message, size, out)?;
+                Ok(Answered::Replied)
+            }
         }
     }
 
@@ -170,6 +182,48 @@ impl Node {
         Ok(send(alloc, correlation, outcome, out))
     }
 
+    /// Answers a commit, whose body has so many bytes: a reply has no more bytes than its request, so the room for its frame is made
+    /// before anything is stored.
+    fn commit(
+        &mut self,
+        alloc: Global,
+        correlation: i32,
+        request: &CommitRequest<'_>,
+        size: usize,
+        out: &mut Vec<u8>,
+    ) -> Result<(), AllocError>
+        requires fits { FitsCommitRequest (commit_request_value request.now) }
+        requires size { length (commit_request_fields (commit_request_value request.now)) + 10 ≤ size }
+        requires most { size ≤ MOST_BYTES }
+        ensures step { OnOk result (IsCommitted self.old correlation (commit_request_value request.now) self.new
+            out.old.items out.new.items) }
+        ensures err { OnErr result ((self.new ≡ self.old) × (out.new.items ≡ out.old.items)) }
+    {
+        out.reserve(size)?;
+        let reply = self.reply_of_commit(alloc, request)?;
+        commit_frame::put(alloc, out, correlation, reply);
+        Ok(())
+    }
+
+    /// What the group of a commit answers, in its place; GROUP_ID_NOT_FOUND for each partition where there is none. Where memory is
+    /// short the node has not changed.
+    fn reply_of_commit<'a>(
+        &mut self,
+        alloc: Global,
+        request: &CommitRequest<'a>,
+    ) -> Result<CommitReply<'a>, AllocError>
+        ensures step { IfOk result (λ reply. CommitsIn self.old (commit_request_value request.now) (commit_reply_value reply) self.new) }
+        ensures err { OnErr result (self.new ≡ self.old) }
+    {
+        match self.groups.get_index_of(request.group_id) {
+            Some(place) => {
+                let group = &mut self.groups[place];
+                group.commit(alloc, request, &self.image)
+            }
+            None => reply_of_absent(alloc, request),
+        }
+    }
+
     /// What the group of a heartbeat makes of it, in its place, or a new group where there is none. Nothing is appended; where it
     /// replies there is room for the reply's frame. Where memory is short the node has not changed.
     fn outcome_of<'a>(
@@ -181,7 +235,7 @@ impl Node {
         out: &mut Vec<u8>,
     ) -> Result<Outcome<'a>, AllocError>
         requires id { length request.now.member_id.now ≤ LONGEST_STRING }
-        ensures step { IfOk result (λ outcome. HeartbeatToday self.old
+        ensures step { IfOk result (λ outcome. HeartbeatAt (finite.get self.old.groups request.now.group_id.now) self.old
             (arrival_of (heartbeat_request_value request.now) stamp now self.old.image) (answer_of outcome) self.new) }
         ensures sendable { IfOk result (λ outcome. IsSendable (answer_of outcome) (vec_capacity out.new - length out.new.items)) }
         ensures out { out.new.items ≡ out.old.items }
@@ -215,7 +269,7 @@ impl Node {
     ) -> Result<Outcome<'a>, AllocError>
         requires id { length request.now.member_id.now ≤ LONGEST_STRING }
         requires absent { finite.get self.old.groups request.now.group_id.now ≡ None }
-        ensures step { IfOk result (λ outcome. HeartbeatToday self.old
+        ensures step { IfOk result (λ outcome. HeartbeatAt (finite.get self.old.groups request.now.group_id.now) self.old
             (arrival_of (heartbeat_request_value request.now) stamp now self.old.image) (answer_of outcome) self.new) }
         ensures sendable { IfOk result (λ outcome. IsSendable (answer_of outcome) (vec_capacity out.new - length out.new.items)) }
         ensures out { out.new.items ≡ out.old.items }
@@ -231,61 +285,7 @@ impl Node {
             self.generation,
             out,
         )?;
-        if succeeds(&outcome) {
-            admit(alloc, &mut self.groups, request.group_id, kept, outcome)
-        } else {
-            Ok(outcome)
-        }
-    }
-}
-
-/// Keeps a new group under its name where there is room for one more, and else answers COORDINATOR_NOT_AVAILABLE in place of the
-/// outcome. Where memory is short the groups are the same.
-fn admit<'a>(
-    alloc: Global,
-    groups: &mut IndexMap<String, Kept, RandomState>,
-    name: &str,
-    kept: Kept,
-    outcome: Outcome<'a>,
-) -> Result<Outcome<'a>, AllocError>
-    requires { finite.get (groups_of groups.old.entries) name.now ≡ None }
-    ensures admitted { IfOk result
-        (λ o. IsAdmitted groups.old.entries name.now kept (answer_of outcome.entry) (answer_of o) groups.new.entries) }
-    ensures err { OnErr result (groups.new.entries ≡ groups.old.entries) }
-{
-    if MOST_GROUPS <= groups.len() {
-        return Ok(Outcome::Replied(Reply::refusal(Code::CoordinatorNotAvailable)));
-    }
-    keep(alloc, groups, name, kept)?;
-    Ok(outcome)
-}
-
-/// Keeps a new group under its name. Where memory is short the groups are the same.
-fn keep(
-    alloc: Global,
-    groups: &mut IndexMap<String, Kept, RandomState>,
-    name: &str,
-    kept: Kept,
-) -> Result<(), AllocError>
-    requires { finite.get (groups_of groups.old.entries) name.now ≡ None }
-    ensures kept { OnOk result (IsOneMore groups.old.entries name.now kept groups.new.entries) }
-    ensures err { OnErr result (groups.new.entries ≡ groups.old.entries) }
-{
-    groups.reserve(1)?;
-    let name = String::from_str(alloc, name)?;
-    insert(groups, name, kept);
-    Ok(())
-}
-
-/// Puts a new group behind the others, where there is room. Takes no memory.
-fn insert(groups: &mut IndexMap<String, Kept, RandomState>, name: String, kept: Kept)
-    requires absent { finite.get (groups_of groups.old.entries) (string_bytes name) ≡ None }
-    requires room { 0 < spare groups.old }
-    ensures { groups.new.entries ≡ groups.old.entries ++ (name, kept) ∷ [] }
-{
-    match groups.insert(name, kept) {
-        Ok(_) => {}
-        Err(_) => unreachable!(),
+        admit(alloc, &mut self.groups, request.group_id, kept, outcome)
     }
 }
 
@@ -296,7 +296,7 @@ fn send(alloc: Global, correlation: i32, outcome: Outcome<'_>, out: &mut Vec<u8>
 {
     match outcome {
         Outcome::Replied(reply) => {
-            frame::put(alloc, out, correlation, reply);
+            heartbeat_frame::put(alloc, out, correlation, reply);
             Answered::Replied
         }
         Outcome::Closes => Answered::Closes,

@@ -30,9 +30,13 @@ impl Node {
                     self.answer(alloc, body.as_slice(), *stamp, *moment, out)?;
                     let _ = events.pop_front();
                 }
+                NodeEvent::Tick { moment } => {
+                    self.tick(*moment);
+                    let _ = events.pop_front();
+                }
                 NodeEvent::Image { .. } => match events.pop_front() {
                     Some(NodeEvent::Image { image }) => self.set_image(image),
-                    Some(NodeEvent::Frame { .. }) | None => unreachable!(),
+                    Some(NodeEvent::Frame { .. } | NodeEvent::Tick { .. }) | None => unreachable!(),
                 },
             }
         }

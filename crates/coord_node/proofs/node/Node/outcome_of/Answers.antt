@@ -1,13 +1,12 @@
-use Rattle.std.proofs.Common.{◌≡◌, option_map, Some, ap, sym, subst, ◌∙◌}
+use Rattle.std.proofs.Common.{◌≡◌, option_map, Some, ap, sym, subst, ◌∙◌, arith}
 use Rattle.std.specs.FinMap as finite
 use Rattle.std.proofs.lemmas.Result.{IfOk-weaker, on_err_weaker}
 use Rattle.indexmap.specs.IndexMap.{set_value_at}
 use Rattle.kip_msgs.specs.Views.{heartbeat_request_value}
 use Rattle.group_types.specs.Group.{Group}
 use Rattle.group_types.specs.Topics.{Topics}
-use Rattle.group_types.specs.HeartbeatStep.{Arrival}
+use Rattle.group_types.specs.HeartbeatStep.{Arrival, HeartbeatStep}
 use Rattle.group_epochs.specs.Request.{arrival_of}
-use Rattle.group_core.specs.Built.{StepToday}
 use Rattle.group_core.specs.Outcome.{answer_of}
 use Rattle.coord_node.specs.declared.kept.Kept.{Kept}
 use Rattle.coord_node.specs.Coordinator.{Coordinator, Groups}
@@ -15,7 +14,7 @@ use Rattle.coord_node.specs.Kept.{IsKept}
 use Rattle.coord_node.specs.NodeView.{groups_of}
 use Rattle.coord_node.specs.Steps.{with_group}
 use Rattle.coord_node.proofs.AnswerLemmas.{at_present}
-use Rattle.coord_node.proofs.GroupLemmas.{as_map-set, get-as_map, OfEach-at, OfEach-set, set_value_at-itself, absent_entry}
+use Rattle.coord_node.proofs.GroupLemmas.{as_map-set, get-as_map, OfEach-at, OfEach-set, length-set_value_at, set_value_at-itself, absent_entry}
 use Rattle.coord_node.proofs.node.Node.outcome_of.Goals as goal
 
 abbrev group_in : Kept → Group
@@ -23,11 +22,14 @@ group_in k = k.group
 
 pub heartbeat-requires-clause-kept : goal.heartbeat-requires-clause-kept
 heartbeat-requires-clause-kept c =
-    OfEach-at (IsKept c.self.inside.generation c.self.inside.image) c.self.inside.groups.entries c.in-Some.place c.index_mut-kept.result.now c.self.invariant c.index_mut-kept.ensures.value
+    OfEach-at (IsKept c.self.inside.generation c.self.inside.image) c.self.inside.groups.entries c.in-Some.place c.index_mut-kept.result.now c.self.invariant.kept c.index_mut-kept.ensures.value
 
 pub invariant_of-self : goal.invariant_of-self
 invariant_of-self c =
-    OfEach-set (IsKept c.self.inside.generation c.self.inside.image) c.self.inside.groups.entries c.in-Some.place c.heartbeat.new.self c.self.invariant c.heartbeat.ensures.kept
+    record {
+      kept = OfEach-set (IsKept c.self.inside.generation c.self.inside.image) c.self.inside.groups.entries c.in-Some.place c.heartbeat.new.self c.self.invariant.kept c.heartbeat.ensures.kept;
+      few = omega (arith, length-set_value_at c.self.inside.groups.entries c.in-Some.place c.heartbeat.new.self, c.self.invariant.few);
+    }
 
 pub outcome_of_new-requires-clause-absent : goal.outcome_of_new-requires-clause-absent
 outcome_of_new-requires-clause-absent c =
@@ -55,7 +57,7 @@ returns-in-Some-clause-step c =
     ∙ ap (λ (x : Coordinator). with_group x name new.group) c.self.view_is in
     IfOk-weaker c.heartbeat.result _ _
     (λ outcome step. at_present n h old.group new.group there (answer_of outcome) _
-    (subst (λ (image : Topics). StepToday old.group (arrival_of v c.args.stamp c.args.now image) (answer_of outcome) new.group) (ap (λ (x : Coordinator). x.image) c.self.view_is) step) is)
+    (subst (λ (image : Topics). HeartbeatStep old.group (arrival_of v c.args.stamp c.args.now image) (answer_of outcome) new.group) (ap (λ (x : Coordinator). x.image) c.self.view_is) step) is)
     c.heartbeat.ensures.step
 
 pub returns-in-Some-clause-err : goal.returns-in-Some-clause-err

@@ -1,53 +1,38 @@
 use Rattle.std.proofs.Common.{◌≡◌, Result, Ok, Err, IfOk, OnErr, ap, sym, subst, ◌∙◌}
+use Rattle.std.specs.FinMap as finite
 use Rattle.std.proofs.lemmas.Result.{IfOk-weaker}
 use Rattle.kip_msgs.specs.Views.{heartbeat_request_value}
 use Rattle.group_types.specs.Group.{new_group}
 use Rattle.group_types.specs.Text.{Text}
 use Rattle.group_types.specs.Topics.{Topics}
-use Rattle.group_types.specs.HeartbeatStep.{Answer, Arrival}
+use Rattle.group_types.specs.HeartbeatStep.{Answer, Arrival, HeartbeatStep}
 use Rattle.group_epochs.specs.Request.{arrival_of}
-use Rattle.group_core.specs.Built.{StepToday}
 use Rattle.group_core.specs.Outcome.{answer_of}
 use Rattle.coord_node.specs.declared.kept.Kept.{Kept}
 use Rattle.coord_node.specs.Coordinator.{Coordinator}
 use Rattle.coord_node.specs.Kept.{IsKept}
-use Rattle.coord_node.specs.NodeView.{Entries, IsAdmitted, kept, full, groups_of}
-use Rattle.coord_node.specs.Today.{HeartbeatToday}
-use Rattle.coord_node.proofs.AnswerLemmas.{at_absent, at_admission, makes_nothing}
+use Rattle.coord_node.specs.NodeView.{Entries, IsAdmitted, fails, kept, full, groups_of}
+use Rattle.coord_node.specs.Steps.{HeartbeatAt}
+use Rattle.coord_node.proofs.AnswerLemmas.{at_admission}
 use Rattle.coord_node.proofs.GroupLemmas.{OfEach, OfEach-push}
 use Rattle.coord_node.proofs.node.Node.outcome_of_new.Goals as goal
 
 -- whatever came of it, what holds of each group still does
 still_of_each : {T E : Type 0} (P : Kept → Type 0) (old entries : Entries) (name : Text) (k : Kept) (given : Answer) (answer_in : T → Answer) (r : Result T E)
     → OfEach P old → P k → IfOk r (λ o. IsAdmitted old name k given (answer_in o) entries) → OnErr r (entries ≡ old) → OfEach P entries
-still_of_each P old entries name k given answer_in (Ok o) each here (kept room more answers) err =
+still_of_each P old entries name k given answer_in (Ok o) each here (kept success room more answers) err =
     subst (OfEach P) (sym more.entries) (OfEach-push P old more.key k each here)
-still_of_each P old entries name k given answer_in (Ok o) each here (full most same answers) err = subst (OfEach P) (sym same) each
+still_of_each P old entries name k given answer_in (Ok o) each here (full success most same answers) err = subst (OfEach P) (sym same) each
+still_of_each P old entries name k given answer_in (Ok o) each here (fails no_success same answers) err = subst (OfEach P) (sym same) each
 still_of_each P old entries name k given answer_in (Err e) each here admitted err = subst (OfEach P) (sym err) each
 
 pub invariant_of-self : goal.invariant_of-self
 invariant_of-self c =
-    still_of_each (IsKept c.self.inside.generation c.self.inside.image) c.self.inside.groups.entries c.admit.new.groups.entries c.args.request.now.group_id.now
-    c.heartbeat.new.self (answer_of c.in_ok-outcome.outcome) answer_of c.admit.result c.self.invariant c.in_ok-outcome.ensures.kept c.admit.ensures.admitted c.admit.ensures.err
-
-pub returns-then-succeeds-clause-step : goal.returns-then-succeeds-clause-step
-returns-then-succeeds-clause-step c =
-    let n = c.args.self.now in
-    let v = heartbeat_request_value c.args.request.now in
-    let h : Arrival = arrival_of v c.args.stamp c.args.now n.image in
-    let given = answer_of c.in_ok-outcome.outcome in
-    let new = c.heartbeat.new.self in
-    let entries = c.admit.new.groups.entries in
-    let step : StepToday c.new-kept.result.group h given new.group =
-    subst (λ (image : Topics). StepToday c.new-kept.result.group (arrival_of v c.args.stamp c.args.now image) given new.group) (ap (λ (x : Coordinator). x.image) c.self.view_is) c.in_ok-outcome.ensures.step in
-    let is : (record n { groups = groups_of entries }) ≡ (record { salt = c.self.inside.salt; groups = groups_of entries; image = c.self.inside.image }) =
-    ap (λ (x : Coordinator). record x { groups = groups_of entries }) (sym c.self.view_is) in
-    IfOk-weaker c.admit.result _ _
-    (λ outcome admitted. subst (λ (x : Coordinator). HeartbeatToday n h (answer_of outcome) x) is
-    (at_admission n h c.requires.absent c.new-kept.result.group new given (answer_of outcome) c.self.inside.groups.entries entries
-    (c.new-kept.ensures.group ∙ ap (λ (x : Coordinator). new_group x.salt) c.self.view_is) step (sym c.if-succeeds.ensures)
-    (ap (λ (x : Coordinator). x.groups) c.self.view_is) admitted))
-    c.admit.ensures.admitted
+    record {
+      kept = still_of_each (IsKept c.self.inside.generation c.self.inside.image) c.self.inside.groups.entries c.admit.new.groups.entries c.args.request.now.group_id.now
+          c.heartbeat.new.self (answer_of c.in_ok-outcome.outcome) answer_of c.admit.result c.self.invariant.kept c.in_ok-outcome.ensures.kept c.admit.ensures.admitted c.admit.ensures.err;
+      few = c.admit.ensures.few c.self.invariant.few;
+    }
 
 pub returns-clause-step : goal.returns-clause-step
 returns-clause-step c =
@@ -55,9 +40,15 @@ returns-clause-step c =
     let v = heartbeat_request_value c.args.request.now in
     let h : Arrival = arrival_of v c.args.stamp c.args.now n.image in
     let given = answer_of c.in_ok-outcome.outcome in
-    let after = c.heartbeat.new.self.group in
-    let step : StepToday c.new-kept.result.group h given after =
-    subst (λ (image : Topics). StepToday c.new-kept.result.group (arrival_of v c.args.stamp c.args.now image) given after) (ap (λ (x : Coordinator). x.image) c.self.view_is) c.in_ok-outcome.ensures.step in
-    at_absent n h c.requires.absent after c.new-kept.result.group given given n
+    let new = c.heartbeat.new.self in
+    let entries = c.admit.new.groups.entries in
+    let step : HeartbeatStep c.new-kept.result.group h given new.group =
+    subst (λ (image : Topics). HeartbeatStep c.new-kept.result.group (arrival_of v c.args.stamp c.args.now image) given new.group) (ap (λ (x : Coordinator). x.image) c.self.view_is) c.in_ok-outcome.ensures.step in
+    let is : (record n { groups = groups_of entries }) ≡ (record { salt = c.self.inside.salt; groups = groups_of entries; image = c.self.inside.image }) =
+    ap (λ (x : Coordinator). record x { groups = groups_of entries }) (sym c.self.view_is) in
+    IfOk-weaker c.admit.result _ _
+    (λ outcome admitted. subst (λ (x : Coordinator). HeartbeatAt (finite.get n.groups h.heartbeat.group) n h (answer_of outcome) x) is
+    (at_admission n h c.requires.absent c.new-kept.result.group new given (answer_of outcome) c.self.inside.groups.entries entries
     (c.new-kept.ensures.group ∙ ap (λ (x : Coordinator). new_group x.salt) c.self.view_is) step
-    (makes_nothing n h.heartbeat.group after given (sym c.if-succeeds.ensures))
+    (ap (λ (x : Coordinator). x.groups) c.self.view_is) admitted))
+    c.admit.ensures.admitted

@@ -16,5 +16,8 @@ invariant_of-self c =
     let before = c.self.inside.generation in
     let next : IsNextNumber before c.match-self.self =
     elim c.match-self.branch [ in-Some w ↦ λ n is. (w.in-Some.number, w.in-Some.is, next_number c.match-self.self n w.in-Some.number _ (sym w.self-is) w.checked_add-self-inside.ensures is) | in-None w ↦ λ n is. absurd (not_none n (sym w.self-is ∙ is)) ] in
-    OfEach-weaker (IsKept before c.self.inside.image) (IsKept c.match-self.self c.args.image)
-    (IsKept-image before c.match-self.self c.self.inside.image c.args.image next) c.self.inside.groups.entries c.self.invariant
+    record {
+      kept = OfEach-weaker (IsKept before c.self.inside.image) (IsKept c.match-self.self c.args.image)
+          (IsKept-image before c.match-self.self c.self.inside.image c.args.image next) c.self.inside.groups.entries c.self.invariant.kept;
+      few = c.self.invariant.few;
+    }

@@ -3,7 +3,7 @@ use Rattle.std.proofs.lemmas.List.Elements.{All-map}
 use Rattle.flex_wire.specs.Spelling.{FitsUuid}
 use Rattle.kip_msgs.specs.Values.{TopicPartitionsValue}
 use Rattle.kip_msgs.specs.Topics.{topic_partitions_value}
-use Rattle.coord_node.proofs.frame.have_ids.Goals as goal
+use Rattle.coord_node.proofs.heartbeat_frame.have_ids.Goals as goal
 
 pub returns : goal.returns
 returns c =

@@ -1,0 +1,71 @@
+use Rattle.std.proofs.Common.{◌≡◌, option_map, Some, ap, sym, subst, ◌∙◌, arith}
+use Rattle.std.specs.FinMap as finite
+use Rattle.std.proofs.lemmas.Result.{IfOk-weaker, on_err_weaker}
+use Rattle.indexmap.specs.IndexMap.{set_value_at}
+use Rattle.kip_msgs.specs.Views.{commit_request_value, commit_reply_value}
+use Rattle.group_types.specs.Group.{Group}
+use Rattle.group_types.specs.Topics.{Topics}
+use Rattle.group_epochs.specs.Request.{commit_of}
+use Rattle.group_core.specs.Commits.{Commits}
+use Rattle.coord_node.specs.declared.kept.Kept.{Kept}
+use Rattle.coord_node.specs.Coordinator.{Coordinator, Groups}
+use Rattle.coord_node.specs.Kept.{IsKept}
+use Rattle.coord_node.specs.NodeView.{groups_of}
+use Rattle.coord_node.specs.Steps.{with_group}
+use Rattle.coord_node.proofs.CommitLemmas.{commits_at_absent, commits_at_present}
+use Rattle.coord_node.proofs.GroupLemmas.{as_map-set, get-as_map, OfEach-at, OfEach-set, length-set_value_at, set_value_at-itself, absent_entry}
+use Rattle.coord_node.proofs.node.Node.reply_of_commit.Goals as goal
+
+abbrev group_in : Kept → Group
+group_in k = k.group
+
+pub invariant_of-self : goal.invariant_of-self
+invariant_of-self c =
+    let P = IsKept c.self.inside.generation c.self.inside.image in
+    let entries = c.self.inside.groups.entries in
+    let before : P c.index_mut-group.result.now = OfEach-at P entries c.in-Some.place c.index_mut-group.result.now c.self.invariant.kept c.index_mut-group.ensures.value in
+    record {
+      kept = OfEach-set P entries c.in-Some.place c.commit.new.self c.self.invariant.kept (c.commit.ensures.kept c.self.inside.generation before);
+      few = omega (arith, length-set_value_at entries c.in-Some.place c.commit.new.self, c.self.invariant.few);
+    }
+
+pub returns-in-Some-clause-step : goal.returns-in-Some-clause-step
+returns-in-Some-clause-step c =
+    let n = c.args.self.now in
+    let entries = c.self.inside.groups.entries in
+    let v = commit_request_value c.args.request.now in
+    let name = c.args.request.now.group_id.now in
+    let old = c.index_mut-group.result.now in
+    let new = c.commit.new.self in
+    let there : finite.get n.groups name ≡ Some old.group =
+    ap (λ (n : Coordinator). finite.get n.groups name) (sym c.self.view_is)
+    ∙ get-as_map group_in entries name ∙ ap (option_map group_in) (sym c.in-Some.ensures.value ∙ c.index_mut-group.ensures.value) in
+    let after : Groups = groups_of (set_value_at entries c.in-Some.place new) in
+    let is : (record { salt = c.self.inside.salt; groups = after; image = c.self.inside.image }) ≡ with_group n name new.group =
+    ap (λ (m : Groups). let x : Coordinator = record { salt = c.self.inside.salt; groups = m; image = c.self.inside.image } in x)
+    (as_map-set group_in entries name c.in-Some.place new (sym c.in-Some.ensures.index))
+    ∙ ap (λ (x : Coordinator). with_group x name new.group) c.self.view_is in
+    IfOk-weaker c.commit.result _ _
+    (λ reply commits. commits_at_present n _ v (commit_reply_value reply) old.group new.group there
+    (subst (λ (image : Topics). Commits old.group (commit_of v) image (commit_reply_value reply) new.group) (ap (λ (x : Coordinator). x.image) c.self.view_is) commits) is)
+    c.commit.ensures.step
+
+pub returns-in-Some-clause-err : goal.returns-in-Some-clause-err
+returns-in-Some-clause-err c =
+    let entries = c.self.inside.groups.entries in
+    on_err_weaker c.commit.result
+    (λ same. ap (λ (es : Groups). let x : Coordinator = record { salt = c.self.inside.salt; groups = es; image = c.self.inside.image } in x)
+    (ap (λ (k : Kept). groups_of (set_value_at entries c.in-Some.place k)) same
+    ∙ ap groups_of (set_value_at-itself entries c.in-Some.place c.index_mut-group.result.now c.index_mut-group.ensures.value))
+    ∙ c.self.view_is)
+    c.commit.ensures.err
+
+pub returns-in-None-clause-step : goal.returns-in-None-clause-step
+returns-in-None-clause-step c =
+    let n = c.args.self.now in
+    let v = commit_request_value c.args.request.now in
+    let name = c.args.request.now.group_id.now in
+    let absent = ap (λ (n : Coordinator). finite.get n.groups name) (sym c.self.view_is)
+    ∙ get-as_map group_in c.self.inside.groups.entries name
+    ∙ ap (option_map group_in) (absent_entry c.self.inside.groups.entries name (sym c.in-None.ensures.index)) in
+    IfOk-weaker c.reply_of_absent.result _ _ (λ reply is. commits_at_absent n v (commit_reply_value reply) absent is) c.reply_of_absent.ensures

@@ -1,0 +1,134 @@
+//! New groups among those that a node keeps.
+ghost use Rattle.std.specs.Prelude.{◌≡◌, ◌<◌, ◌≤◌, ◌++◌, ◌∷◌, [], true, IfOk, None, OnErr, OnOk, length};
+ghost use Rattle.std.specs.FinMap as finite;
+ghost use Rattle.std.specs.String.{string_bytes};
+ghost use Rattle.indexmap.specs.IndexMap.{spare};
+ghost use Rattle.group_types.specs.Limits.{MOST_GROUPS as MOST};
+ghost use Rattle.group_core.specs.Outcome.{answer_of};
+ghost use Rattle.coord_node.specs.Answers.{succeeds as success};
+ghost use Rattle.coord_node.specs.NodeView.{groups_of, IsAdmitted, IsOneMore};
+
+use crate::kept::Kept;
+use crate::success::succeeds;
+use group_core::{Outcome, Reply};
+use group_types::Code;
+use group_types::limits::MOST_GROUPS;
+use indexmap::IndexMap;
+use std::alloc::{AllocError, Global};
+use std::collections::hash_map::RandomState;
+
+/// Why a new group isn't kept.
+#[derive(Clone, Copy)]
+enum NotKept {
+    /// The node has as many groups as it may.
+    Full,
+    /// Memory is short.
+    NoMemory,
+}
+
+/// What is answered for a new group that gave the outcome: it is kept where that is a success. Where memory is short the groups are
+/// the same.
+pub(crate) fn admit<'a>(
+    alloc: Global,
+    groups: &mut IndexMap<String, Kept, RandomState>,
+    name: &str,
+    kept: Kept,
+    outcome: Outcome<'a>,
+) -> Result<Outcome<'a>, AllocError>
+    requires { finite.get (groups_of groups.old.entries) name.now ≡ None }
+    ensures admitted { IfOk result
+        (λ o. IsAdmitted groups.old.entries name.now kept (answer_of outcome.entry) (answer_of o) groups.new.entries) }
+    ensures few { length groups.old.entries ≤ MOST → length groups.new.entries ≤ MOST }
+    ensures err { OnErr result (groups.new.entries ≡ groups.old.entries) }
+{
+    if succeeds(&outcome) {
+        admit_success(alloc, groups, name, kept, outcome)
+    } else {
+        Ok(outcome)
+    }
+}
+
+/// The same where the outcome is a success: COORDINATOR_NOT_AVAILABLE stands in its place where the node is full.
+fn admit_success<'a>(
+    alloc: Global,
+    groups: &mut IndexMap<String, Kept, RandomState>,
+    name: &str,
+    kept: Kept,
+    outcome: Outcome<'a>,
+) -> Result<Outcome<'a>, AllocError>
+    requires absent { finite.get (groups_of groups.old.entries) name.now ≡ None }
+    requires success { success (answer_of outcome) ≡ true }
+    ensures admitted { IfOk result
+        (λ o. IsAdmitted groups.old.entries name.now kept (answer_of outcome.entry) (answer_of o) groups.new.entries) }
+    ensures few { length groups.old.entries ≤ MOST → length groups.new.entries ≤ MOST }
+    ensures err { OnErr result (groups.new.entries ≡ groups.old.entries) }
+{
+    match keep(alloc, groups, name, kept) {
+        Ok(()) => Ok(outcome),
+        Err(NotKept::Full) => Ok(Outcome::Replied(Reply::refusal(Code::CoordinatorNotAvailable))),
+        Err(NotKept::NoMemory) => Err(AllocError),
+    }
+}
+
+/// Keeps a new group under its name. Where it isn't kept the groups are the same.
+fn keep(
+    alloc: Global,
+    groups: &mut IndexMap<String, Kept, RandomState>,
+    name: &str,
+    kept: Kept,
+) -> Result<(), NotKept>
+    requires { finite.get (groups_of groups.old.entries) name.now ≡ None }
+    ensures kept { OnOk result (IsOneMore groups.old.entries name.now kept groups.new.entries) }
+    ensures room { OnOk result ((finite.len (groups_of groups.old.entries) < MOST) × (length groups.new.entries ≤ MOST)) }
+    ensures full { result ≡ Err NotKept.Full → MOST ≤ finite.len (groups_of groups.old.entries) }
+    ensures err { OnErr result (groups.new.entries ≡ groups.old.entries) }
+{
+    let key = key_for(alloc, groups, name)?;
+    insert(groups, key, kept);
+    Ok(())
+}
+
+/// The name as a key, and room for it in the table, where one more group may be kept. The groups are the same.
+fn key_for(
+    alloc: Global,
+    groups: &mut IndexMap<String, Kept, RandomState>,
+    name: &str,
+) -> Result<String, NotKept>
+    ensures entries { groups.new.entries ≡ groups.old.entries }
+    ensures key { IfOk result (λ key. (string_bytes key ≡ name.now) × (0 < spare groups.new)) }
+    ensures room { OnOk result ((finite.len (groups_of groups.old.entries) < MOST) × (length groups.old.entries < MOST)) }
+    ensures full { result ≡ Err NotKept.Full → MOST ≤ finite.len (groups_of groups.old.entries) }
+{
+    if MOST_GROUPS <= groups.len() {
+        return Err(NotKept::Full);
+    }
+    match room_for(alloc, groups, name) {
+        Ok(key) => Ok(key),
+        Err(_) => Err(NotKept::NoMemory),
+    }
+}
+
+/// The name as a key, and room for it in the table. The groups are the same. Fails where memory is short.
+fn room_for(
+    alloc: Global,
+    groups: &mut IndexMap<String, Kept, RandomState>,
+    name: &str,
+) -> Result<String, AllocError>
+    ensures entries { groups.new.entries ≡ groups.old.entries }
+    ensures key { IfOk result (λ key. (string_bytes key ≡ name.now) × (0 < spare groups.new)) }
+{
+    groups.reserve(1)?;
+    String::from_str(alloc, name)
+}
+
+/// Puts a new group behind the others, where there is room. Takes no memory.
+fn insert(groups: &mut IndexMap<String, Kept, RandomState>, key: String, kept: Kept)
+    requires absent { finite.get (groups_of groups.old.entries) (string_bytes key) ≡ None }
+    requires room { 0 < spare groups.old }
+    ensures { groups.new.entries ≡ groups.old.entries ++ (key, kept) ∷ [] }
+{
+    match groups.insert(key, kept) {
+        Ok(_) => {}
+        Err(_) => unreachable!(),
+    }
+}
