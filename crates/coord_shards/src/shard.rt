@@ -154,8 +154,7 @@ fn act(alloc: Global, node: &mut Node, event: &Event) -> Result<Answer, AllocErr
                 Answered::Closes => Ok(Answer::Closes),
             }
         }
-        // No node has a tick yet.
-        Event::Tick { .. } => Ok(Answer::Closes),
+        Event::Tick { moment, .. } => Ok(Answer::Done(node.tick(*moment))),
         Event::Image { image, .. } => {
             node.set_image(image.copy()?);
             Ok(Answer::Done(0))

@@ -1,12 +1,12 @@
 -- Bytes begin with one list of whole frames only.
-use Rattle.std.proofs.Common.{◌≡◌, ℕ, ◌+◌, ◌≤◌, List, [], ◌∷◌, ◌++◌, length, take, drop, All, refl, sym, ap, ap₂, ◌∙◌, arith, append_assoc, take_at, drop_at, pos}
+use Rattle.std.proofs.Common.{◌≡◌, ℕ, List, [], ◌∷◌, ◌++◌, length, take, drop, All, refl, sym, ap, ap₂, ◌∙◌, arith, append_assoc, take_at, drop_at, pos}
 use Rattle.std.specs.Prelude.{FitsSigned}
 use Rattle.std.specs.Int.{w32}
 use Rattle.std.specs.List.{flat_map}
 use Rattle.std.proofs.lemmas.List.Elements.{All-head, All-tail}
 use Rattle.flex_wire.specs.Spelling.{int32}
 use Rattle.flex_wire.specs.Laws.{BeginsNoOther}
-use Rattle.link_futures.specs.Framing.{frame_of, IsBody, BeginsWithFrame, Framing, FramingIsOne}
+use Rattle.link_futures.specs.Framing.{frame_of, IsBody, BeginsWithFrame, FramingIsOne}
 
 -- two lists of one length at the front of one list are the same
 same_front : (xs ys a b : List ℕ) → xs ++ a ≡ ys ++ b → length xs ≡ length ys → (xs ≡ ys) × (a ≡ b)

@@ -35,16 +35,16 @@ pub take-append_read : (front back : List ℕ) (n k : ℕ) → length front ≡ 
 take-append_read front back n k len =
     take-add n k (front ++ back) ∙ rw (take_at front back n len, drop_at front back n len) refl
 
-in_range : (z : ℤ) → lt_z z (pos 1) ≡ false → lt_z (pos 8388608) z ≡ false → (z ≡ pos (nat_abs z)) × (SMALLEST_BODY ≤ nat_abs z) × (nat_abs z ≤ LARGEST_BODY)
-in_range (pos n) least most = (refl, ltb-false n 1 least, ltb-false 8388608 n most)
-in_range (negsuc n) least most = absurd (true≢false least)
+in_range : (largest : ℕ) (z : ℤ) → lt_z z (pos 1) ≡ false → lt_z (pos largest) z ≡ false → (z ≡ pos (nat_abs z)) × (1 ≤ nat_abs z) × (nat_abs z ≤ largest)
+in_range largest (pos n) least most = (refl, ltb-false n 1 least, ltb-false largest n most)
+in_range largest (negsuc n) least most = absurd (true≢false least)
 
 -- a size in range, as a number with no sign
-pub sized : (z : ℤ) → FitsSigned w32 z → lt_z (to_z w32 (of_z w32 z)) (pos 1) ≡ false → lt_z (pos 8388608) (to_z w32 (of_z w32 z)) ≡ false
-    → (z ≡ pos (nat_abs (to_z w32 (of_z w32 z)))) × (SMALLEST_BODY ≤ nat_abs (to_z w32 (of_z w32 z))) × (nat_abs (to_z w32 (of_z w32 z)) ≤ LARGEST_BODY)
-sized z fits least most =
+pub sized : (largest : ℕ) (z : ℤ) → FitsSigned w32 z → lt_z (to_z w32 (of_z w32 z)) (pos 1) ≡ false → lt_z (pos largest) (to_z w32 (of_z w32 z)) ≡ false
+    → (z ≡ pos (nat_abs (to_z w32 (of_z w32 z)))) × (1 ≤ nat_abs (to_z w32 (of_z w32 z))) × (nat_abs (to_z w32 (of_z w32 z)) ≤ largest)
+sized largest z fits least most =
     let same = to_z-of_z w32 z fits in
-    let t = in_range (to_z w32 (of_z w32 z)) least most in
+    let t = in_range largest (to_z w32 (of_z w32 z)) least most in
     (sym same ∙ t.0, t.1, t.2)
 
 -- some whole parts and a part of the next one are at the front of all

@@ -4,3 +4,5 @@ pub mod TurnLemmas
 pub mod SessionLemmas
 pub mod WorkerLemmas
 pub mod FramingLemmas
+pub mod ReplyLemmas
+pub mod BeatLemmas

@@ -4,13 +4,13 @@ use Rattle.std.specs.declared.alloc.AllocError.{AllocError}
 use Rattle.group_types.specs.declared.stamp.Stamp.{Stamp}
 use Rattle.coord_node.specs.Coordinator.{Coordinator, Event, Answer, Replied, Closes, Done, bytes_of}
 use Rattle.coord_node.specs.Answers.{IsAnswered}
-use Rattle.coord_node.specs.Today.{StepToday}
+use Rattle.coord_node.specs.Steps.{Step}
 use Rattle.coord_node.specs.declared.event.Answered.{Answered}
 use Rattle.coord_node.specs.declared.event.Answered.TheVariants as answered
 
--- the step of a coordinator's run, as far as it is built
+-- the step of a coordinator's run
 abbrev pub NodeStep : Coordinator → Event → Answer → Coordinator → Type 0
-NodeStep = StepToday
+NodeStep = Step
 
 -- what a desk may answer to a frame's body and its stamp, and the state that it is in then
 abbrev pub Answering : Type 0 → Type 1

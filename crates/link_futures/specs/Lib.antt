@@ -9,3 +9,5 @@ pub mod Steps
 pub mod Sessions
 pub mod SoloDesk
 pub mod Workers
+pub mod Replies
+pub mod Beats

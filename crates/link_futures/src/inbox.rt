@@ -19,7 +19,7 @@ use std::marker::Model;
 const SMALL_READ: usize = 3_072;
 
 /// The most bytes of a read, once one has filled the room that it was offered.
-const LARGEST_READ: usize = 65_536;
+pub(crate) const LARGEST_READ: usize = 65_536;
 
 /// The bytes of a frame's size.
 const SIZE_BYTES: usize = 4;
@@ -138,7 +138,7 @@ impl Inbox {
 }
 
 /// Reads once, at most so many bytes, and appends them. Where memory is short nothing is read.
-fn read_into<R: ReadPart>(
+pub(crate) fn read_into<R: ReadPart>(
     buffer: &mut BytesMut,
     room: usize,
     reader: &mut R,

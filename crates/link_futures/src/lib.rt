@@ -2,12 +2,16 @@
 //!
 //! Whatever pieces a stream comes in, its frames are answered one by one, and the answers are written in order: the
 //! contract of [`Line::turn`] says it of each turn. Start from [`Line::new`], [`Session::new`] for a line that owns
-//! its desk, and [`Worker::new`] for many lines over one desk.
+//! its desk, and [`Worker::new`] for many lines over one desk. [`Beat::new`] is for the other side of a connection: it
+//! writes a member's request, and the member takes the reply.
 #![tactic(auto)]
 
+mod beat;
+mod call;
 mod counted;
 mod desk;
 mod end;
+mod heard;
 mod inbox;
 mod laws;
 mod line;
@@ -21,12 +25,14 @@ mod solo;
 mod worker;
 mod writer;
 
+pub use beat::{AfterBeat, Beat};
 pub use coord_node::{Answered, Moment, Node, Stamp};
 pub use counted::Counted;
 pub use desk::Desk;
 pub use end::End;
 pub use laws::framing_is_one;
 pub use line::Line;
+pub use member_core::{Idle, Member, Next, Sent};
 pub use memory::{Drain, Feed, PollAct};
 pub use moments::Moments;
 pub use part::Part;
