@@ -18,7 +18,8 @@ use Rattle.group_types.specs.Commit.{CommitReply, Commitment, TopicCommitments, 
 use Rattle.group_types.proofs.Lookups.{not_none, some_is}
 use Rattle.group_epochs.specs.Request.{commit_of}
 use Rattle.coord_node.specs.Coordinator.{Coordinator, Answer, Replied, Closes, Done}
-use Rattle.coord_node.specs.Replies.{IsReplyFrame, commit_reply_value, commit_value}
+use Rattle.coord_node.specs.Replies.{IsReplyFrame, commit_value}
+use Rattle.offset_guard.specs.Replies.{commit_reply_value}
 use Rattle.coord_node.specs.Steps.{CommitAt, RequestStep, FrameStepBy, Sends}
 use Rattle.member_core.specs.Asking.{header_of}
 use Rattle.member_core.specs.Committing as member

@@ -14,7 +14,7 @@ use Rattle.member_core.specs.Settings.{Settings}
 use Rattle.member_core.specs.Client.{Client}
 use Rattle.member_core.specs.Taking.{Accepts, Tells}
 use Rattle.world_sim.specs.World.{World, Request, Reply, Commit, numbered, with_client}
-use Rattle.world_sim.specs.Invariant.{Clients, IsOver, Lags, GroupKeeps, ClientKeeps, SenderKeeps, TakerKeeps, ReplyKeeps, Committed, Keeps, Says, clients_of, group_at}
+use Rattle.world_sim.specs.Invariant.{Clients, IsOfSettings, IsOver, Lags, GroupKeeps, ClientKeeps, SenderKeeps, TakerKeeps, ReplyKeeps, Committed, Keeps, Says, clients_of, group_at}
 use Rattle.world_sim.proofs.Numbered.{Has, changed, unchanged, has_number, Place, at, elsewhere, place, numbered_itself, numbered_other}
 
 -- What follows from what was known of a client's messages, and what others know of it, once it is another.
@@ -83,6 +83,7 @@ module _ (w : World) (keeps : Keeps w) (n : ℕ) (c new : Client) (there : numbe
         owner = λ m s seen. let owner = old.owner m s seen in forth name s.connection owner.0 owner.1;
         instance = λ m r x there is. instance m r x there (back name r.stamp.connection x is);
         away = λ m r x there gone is. away m r x there gone (back name r.stamp.connection x is);
+        settings = λ m r x there is. of_settings m r x there (back name r.stamp.connection x is);
       }
     where
       instance : (m : Text) (r : Record) (x : Client) → finite.get (group_at w.coordinator name).records m ≡ Some r → Back name r.stamp.connection x → r.instance ≡ x.settings.instance
@@ -90,6 +91,12 @@ module _ (w : World) (keeps : Keeps w) (n : ℕ) (c new : Client) (there : numbe
       instance m r x has_r (other is_n is_new before) =
           (keeps.groups name).instance m r c has_r (subst (λ k. clients_of w.clients name k c) (sym is_n) before)
           ∙ ap (λ (s : Settings). s.instance) (sym follows.settings) ∙ ap (λ (y : Client). y.settings.instance) (sym is_new)
+
+      of_settings : (m : Text) (r : Record) (x : Client) → finite.get (group_at w.coordinator name).records m ≡ Some r → Back name r.stamp.connection x → IsOfSettings x.settings r
+      of_settings m r x has_r (same before) = (keeps.groups name).settings m r x has_r before
+      of_settings m r x has_r (other is_n is_new before) =
+          subst (λ (s : Settings). IsOfSettings s r) (sym follows.settings ∙ ap (λ (y : Client). y.settings) (sym is_new))
+          ((keeps.groups name).settings m r c has_r (subst (λ k. clients_of w.clients name k c) (sym is_n) before))
 
       away : (m : Text) (r : Record) (x : Client) → finite.get (group_at w.coordinator name).records m ≡ Some r → r.epoch ≡ Away → Back name r.stamp.connection x → IsOver x r.stamp
       away m r x has_r gone (same before) = (keeps.groups name).away m r x has_r gone before

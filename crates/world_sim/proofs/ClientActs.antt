@@ -19,7 +19,7 @@ use Rattle.member_core.specs.Asking.{Ask, Join, Beat, Leave, GoAway, Fullness, S
 use Rattle.member_core.specs.Taking.{News, Accepts, Fences, Retries, Ends, after_news, showing}
 use Rattle.member_core.specs.Releasing.{after_release, released_if}
 use Rattle.world_sim.specs.Turn.{Seen, IsLater}
-use Rattle.world_sim.specs.Invariant.{Clients, IsMade, IsOf, ClientKeeps, SenderKeeps, ReplyKeeps}
+use Rattle.world_sim.specs.Invariant.{Clients, IsMade, IsOf, ClientKeeps, SaysSettings, SenderKeeps, ReplyKeeps}
 use Rattle.world_sim.proofs.Messages.{of_list-in_order}
 use Rattle.world_sim.proofs.KeptByTurns.{later_frame}
 use Rattle.world_sim.proofs.Takes.{told_keeps}
@@ -74,7 +74,7 @@ module _ (g : Group) (clients : Clients) (n : ℕ) (c : Client) (known : ClientK
           gone = λ gone. refl;
         };
         sends = λ number q old.
-            record { sent = old.sent; reports = old.reports; outside = old.outside; names = λ waits latest. absurd (true≢false (sym waits)); instance = old.instance; leaves = old.leaves };
+            record { sent = old.sent; reports = old.reports; outside = old.outside; names = λ waits latest. absurd (true≢false (sym waits)); instance = old.instance; leaves = old.leaves; settings = old.settings };
         takes = λ number m epoch shown sent old waits latest. absurd (true≢false (sym waits));
       }
 
@@ -105,6 +105,7 @@ module _ (g : Group) (clients : Clients) (n : ℕ) (c : Client) (known : ClientK
               names = old.names;
               instance = old.instance;
               leaves = old.leaves;
+              settings = old.settings;
             };
         takes = λ number m epoch shown sent old waits latest.
             let taker = old waits latest in
@@ -156,6 +157,7 @@ module _ (g : Group) (clients : Clients) (n : ℕ) (c : Client) (known : ClientK
                 names = λ waits latest. absurd (omega (arith, sent, latest));
                 instance = old.instance;
                 leaves = λ below is. absurd (here (old.leaves below is).0);
+                settings = old.settings;
               };
           takes = λ number m epoch shown sent old waits latest. absurd (omega (arith, sent, latest));
         }
@@ -186,6 +188,7 @@ module _ (g : Group) (clients : Clients) (n : ℕ) (c : Client) (known : ClientK
                 names = λ waits latest. absurd (true≢false (sym waits ∙ still));
                 instance = old.instance;
                 leaves = λ below is. absurd (here (old.leaves below is).0);
+                settings = old.settings;
               };
           takes = λ number m epoch shown sent old waits latest. absurd (true≢false (sym waits ∙ still));
         }
@@ -228,6 +231,7 @@ module _ (g : Group) (clients : Clients) (n : ℕ) (c : Client) (known : ClientK
           names = λ waits latest. refl;
           instance = λ joins. refl;
           leaves = λ below is. absurd (true≢false (sym (ap is_below is)));
+          settings = record { group = refl; names = inr refl; assignor = inr refl; joins = λ joins. (refl, refl) };
         };
       }
 
@@ -258,6 +262,11 @@ module _ (g : Group) (clients : Clients) (n : ℕ) (c : Client) (known : ClientK
   beat_epoch Owned = refl
   beat_epoch Full = refl
 
+  beat_says : (fullness : Fullness) → ((beat_of c fullness).epoch ≡ pos 0 → ⊥) → SaysSettings c.settings (beat_of c fullness)
+  beat_says Short no_join = record { group = refl; names = inl refl; assignor = inl refl; joins = λ joins. absurd (no_join joins) }
+  beat_says Owned no_join = record { group = refl; names = inl refl; assignor = inl refl; joins = λ joins. absurd (no_join joins) }
+  beat_says Full no_join = record { group = refl; names = inr refl; assignor = inr refl; joins = λ joins. absurd (no_join joins) }
+
   beats_as : c.place ≡ Inside → (fullness : Fullness) → IsAsked (beat_of c fullness) (after_sending c)
   beats_as inside fullness =
       let above = (known.inside inside).2 in
@@ -272,11 +281,12 @@ module _ (g : Group) (clients : Clients) (n : ℕ) (c : Client) (known : ClientK
           names = λ waits latest. beat_member fullness;
           instance = λ joins. let none = no_join joins in absurd (omega (arith, above, none));
           leaves = λ below is. absurd (true≢false (sym (ap is_below (sym (beat_epoch fullness) ∙ is))));
+          settings = beat_says fullness (λ joins. let none = no_join joins in omega (arith, above, none));
         };
       }
 
-  quits_as : (q : Heartbeat) → q.member ≡ unwrap_or c.id [] → q.group ≡ c.settings.group → is_below q.epoch ≡ true → IsAsked q (after_quitting c)
-  quits_as q member group below =
+  quits_as : (q : Heartbeat) → q.member ≡ unwrap_or c.id [] → q.group ≡ c.settings.group → q.names ≡ None → q.assignor ≡ None → is_below q.epoch ≡ true → IsAsked q (after_quitting c)
+  quits_as q member group names assignor below =
       let no_join : q.epoch ≡ pos 0 → ⊥ = λ joins. true≢false (sym below ∙ ap is_below joins) in
       record {
         member = member;
@@ -288,6 +298,7 @@ module _ (g : Group) (clients : Clients) (n : ℕ) (c : Client) (known : ClientK
           names = λ waits latest. member;
           instance = λ joins. absurd (no_join joins);
           leaves = λ under is. (refl, refl);
+          settings = record { group = group; names = inl names; assignor = inl assignor; joins = λ joins. absurd (no_join joins) };
         };
       }
 
@@ -301,8 +312,8 @@ module _ (g : Group) (clients : Clients) (n : ℕ) (c : Client) (known : ClientK
       by Outside is GoAway may = absurd (true≢false (sym may))
       by Inside is Join may = absurd (true≢false (sym may))
       by Inside is (Beat fullness) may = beats_as is (fullness_of c fullness)
-      by Inside is Leave may = quits_as (heartbeat_for c Leave) refl refl refl
-      by Inside is GoAway may = quits_as (heartbeat_for c GoAway) refl refl refl
+      by Inside is Leave may = quits_as (heartbeat_for c Leave) refl refl refl refl refl
+      by Inside is GoAway may = quits_as (heartbeat_for c GoAway) refl refl refl refl refl
       by Gone is ask may = absurd (true≢false (sym may))
 
   pub not_gone : (ask : Ask) → may_ask_at c.place ask c.settings.instance ≡ true → c.place ≢ Gone
@@ -339,6 +350,7 @@ module _ (g : Group) (clients : Clients) (n : ℕ) (c : Client) (known : ClientK
                 names = λ waits latest. absurd (true≢false (sym waits));
                 instance = old.instance;
                 leaves = λ below is. absurd (here_still (old.leaves below is).0);
+                settings = old.settings;
               };
           takes = λ number m epoch shown sent old waits latest. absurd (true≢false (sym waits));
         }
@@ -372,6 +384,7 @@ module _ (g : Group) (clients : Clients) (n : ℕ) (c : Client) (known : ClientK
                 names = λ waits latest. absurd (true≢false (sym waits));
                 instance = old.instance;
                 leaves = λ below is. absurd (here_still (old.leaves below is).0);
+                settings = old.settings;
               };
           takes = λ number m epoch shown sent old waits latest. absurd (true≢false (sym waits));
         }
@@ -411,6 +424,7 @@ module _ (g : Group) (clients : Clients) (n : ℕ) (c : Client) (known : ClientK
                   names = λ waits latest. absurd (true≢false (sym waits));
                   instance = λ joins. old.instance joins ∙ ap (λ (x : Settings). x.instance) (sym (same_settings shown));
                   leaves = λ below is. absurd (here_still (old.leaves below is).0);
+                  settings = subst (λ (x : Settings). SaysSettings x q) (sym (same_settings shown)) old.settings;
                 };
             takes = λ number m epoch shown sent old waits latest. absurd (true≢false (sym waits));
           }

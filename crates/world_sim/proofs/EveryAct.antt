@@ -269,6 +269,7 @@ module _ (one_request : OneRequestABody) (one_reply : OneReplyABody) (steps_soun
           owner = λ m s seen. absurd (unseen m s seen);
           instance = λ m r c there is. absurd (not_none r (sym (finite.get-empty text_cmp m) ∙ there));
           away = λ m r c there gone is. absurd (not_none r (sym (finite.get-empty text_cmp m) ∙ there));
+          settings = λ m r c there is. absurd (not_none r (sym (finite.get-empty text_cmp m) ∙ there));
         }
 
     start_client : (g : Group) (name : Text) (n : ℕ) (s : Settings) → ClientKeeps g (clients_of Start.clients name) n (new_client s)
@@ -301,7 +302,7 @@ module _ (one_request : OneRequestABody) (one_reply : OneReplyABody) (steps_soun
 
   -- ---- every list of acts
 
-  run_keeps : (acts : List Act) (outcomes : List Outcome) (w new : World) → Keeps w → Run w acts outcomes new → Keeps new
+  pub run_keeps : (acts : List Act) (outcomes : List Outcome) (w new : World) → Keeps w → Run w acts outcomes new → Keeps new
   run_keeps [] [] w new keeps is = subst Keeps (sym is) keeps
   run_keeps [] (outcome ∷ outcomes) w new keeps is = absurd is
   run_keeps (act ∷ acts) [] w new keeps is = absurd is

@@ -201,7 +201,7 @@ third_of true true c none first second = none
 third_of true false c none first second = absurd (true≢false (sym second))
 third_of false b c none first second = absurd (true≢false (sym first))
 
-given_some : (m : Text) → m ≢ [] → not (is_empty m) ≡ true
+pub given_some : (m : Text) → m ≢ [] → not (is_empty m) ≡ true
 given_some [] some = absurd (some refl)
 given_some (c ∷ m) some =
     elim (length (c ∷ m) == 0) as (λ b. (length (c ∷ m) == 0) ≡ b → not b ≡ true) [

@@ -9,10 +9,11 @@ use Rattle.group_types.specs.declared.code.Code.TheVariants as codes
 use Rattle.group_types.specs.declared.stamp.Stamp.{Stamp}
 use Rattle.group_types.specs.Text.{Text, text_cmp}
 use Rattle.group_types.specs.MemberId.{made_id}
-use Rattle.group_types.specs.Join.{IsNamed, IsSerial, Name, name_of_serial, record_of_join}
+use Rattle.group_types.specs.Join.{IsNamed, IsSerial, Name, name_of_serial, record_of_join, returned}
 use Rattle.group_types.proofs.Lookups.{not_none, some_is, text_ties}
 use Rattle.group_types.proofs.Senders.{named_fresh, named_own, other_is, own_is}
-use Rattle.group_types.specs.Request.{Heartbeat, Joins, Beats, Leaves, GoesAway, LEAVES_AT, GOES_AWAY_AT, kind_of}
+use Rattle.group_types.specs.Request.{Heartbeat, Joins, Beats, Leaves, GoesAway, LEAVES_AT, GOES_AWAY_AT, is_invalid, is_unsupported, kind_of}
+use Rattle.group_types.specs.Sets.{nothing}
 use Rattle.group_types.specs.declared.epoch.Epoch.{Epoch}
 use Rattle.group_types.specs.declared.epoch.Epoch.TheVariants.{At, Away}
 use Rattle.group_types.specs.Group.{Past, Record, Records, Group}
@@ -173,9 +174,10 @@ module _ (g : Group) (sound : IsSound g) (a : Arrival) (answer : Answer) (new : 
 
   by_sender : q.epoch ≡ pos 0 → (name : Name) → IsNamed g q.member (Some name) → (own : Option Record) (other : Option Member)
       → record_under g.records q.member ≡ own → other_with g.records q.member q.instance ≡ other
+      → is_invalid q ≡ false → is_unsupported q ≡ false
       → is_overtaken a.stamp own ≡ false → is_of_past g.past q.member a.stamp ≡ false → is_unreleased own other ≡ false
       → TakesIn g (draft_of_join (record g { serial = name.next_serial }) now name.id own other q a.stamp) q a.image answer new → Turn g q a.stamp answer new
-  by_sender joins name named None None none alone in_time past released takes =
+  by_sender joins name named None None none alone valid supported in_time past released takes =
       let fresh = named_fresh g q.member name named none in
       let after = record_of_join None q a.stamp now in
       takes_new g sound q a.stamp name.id after
@@ -186,11 +188,12 @@ module _ (g : Group) (sound : IsSound g) (a : Arrival) (answer : Answer) (new : 
         stamped = refl;
         at = refl;
         instance = refl;
+        settings = record { valid = valid; supported = supported; stored_names = nothing; stored_assignor = None; given = record { names = refl; assignor = refl } };
       })
       (with_record_at (record g { serial = name.next_serial }) now name.id after) a.image answer new
       (drafted_at g sound.target_epoch name.next_serial (next_serial g q a.stamp q.member name named) now name.id after)
       sound.target_epoch (λ n next. named_by g q a.stamp q.member refl name named n next) takes
-  by_sender joins name named None (Some old) none is in_time past released takes =
+  by_sender joins name named None (Some old) none is valid supported in_time past released takes =
       let fresh = named_fresh g q.member name named none in
       let there = other_is g.records q.member q.instance old is in
       let given = instance_given g.records q.member q.instance old is in
@@ -207,11 +210,12 @@ module _ (g : Group) (sound : IsSound g) (a : Arrival) (answer : Answer) (new : 
         stamped = refl;
         at = at_again old.kept old.kept.epoch refl;
         instance = refl;
+        settings = record { valid = valid; supported = supported; stored_names = (returned old.kept).names; stored_assignor = (returned old.kept).assignor; given = record { names = refl; assignor = refl } };
       })
       (with_record_at (record g { serial = name.next_serial }) now old.id after) a.image answer new
       (drafted_at g sound.target_epoch name.next_serial (next_serial g q a.stamp q.member name named) now old.id after)
       (λ n next. named_by g q a.stamp q.member refl name named n next) takes
-  by_sender joins name named (Some r) other own is in_time past released takes =
+  by_sender joins name named (Some r) other own is valid supported in_time past released takes =
       rejoins g sound q a.stamp (given_of g.records q.member r own) name.next_serial now r other a.image answer new joins
       (next_serial g q a.stamp q.member name named) (own_is g.records q.member r own) in_time
       (subst (λ (m : Text). TakesIn g (draft_of_join (record g { serial = name.next_serial }) now m (Some r) other q a.stamp) q a.image answer new) (named_own g q.member name r named own) takes)
@@ -221,7 +225,7 @@ module _ (g : Group) (sound : IsSound g) (a : Arrival) (answer : Answer) (new : 
   joins_under joins verdict (Some name) named step =
       let none = none_applies (checks_of Joins TheSender g q a.stamp) refl verdict in
       let in_time = or_false (is_overtaken a.stamp TheSender.own) (is_of_past g.past q.member a.stamp) none.1.1.0 in
-      by_sender joins name named TheSender.own TheSender.other refl refl in_time.0 in_time.1 none.1.1.1.0 step
+      by_sender joins name named TheSender.own TheSender.other refl refl none.0 none.1.0 in_time.0 in_time.1 none.1.1.1.0 step
 
   join_step : q.epoch ≡ pos 0 → StepBy Joins TheSender g a answer new → Turn g q a.stamp answer new
   join_step joins step =

@@ -19,10 +19,10 @@ use Rattle.group_types.proofs.SetLemmas.{has-in_order, has-nothing, has-minus, s
 use Rattle.group_types.specs.HeartbeatStep.{Answer, Replied, Reply, shown, assignment_of, sent_after, epoch_number, acceptance, handed_over}
 use Rattle.group_types.specs.Leave.{last_epoch, last_epoch_at}
 use Rattle.group_types.specs.Sound.{IsSound}
-use Rattle.world_sim.specs.Turn.{Holds, Seen, IsLater, IsNamedBy, IsNew, HasTakenOver, Came, Kept, New, TookOver, Promises, Went, WasPast, WasAway, Turn}
+use Rattle.world_sim.specs.Turn.{Holds, Seen, IsLater, IsNamedBy, GivesFirst, IsNew, HasTakenOver, Came, Kept, New, TookOver, Promises, Went, WasPast, WasAway, Turn}
 use Rattle.group_types.proofs.GrantLemmas.{has-held, has-others, has-granting}
 use Rattle.group_types.proofs.Lookups.{found, Found, this, another, get-inserted, get-insert_other, found_without, removed_is_none, text_ties, tie, Tie, ties, differs}
-use Rattle.world_sim.proofs.Stages.{shows_held, IsAtEpoch, sent_at, IsRenewed, HasSettled}
+use Rattle.world_sim.proofs.Stages.{shows_held, IsAtEpoch, sent_at, IsRenewed, HasSettled, settled_same, first_same}
 use Rattle.world_sim.proofs.Stages.{arrives}
 use Rattle.world_sim.proofs.Settling.{moved_other, moved_gets}
 use Rattle.world_sim.proofs.Acts.{IsDrafted, Acts, acts}
@@ -50,6 +50,7 @@ pub record IsHeir (g : Group) (q : Heartbeat) (stamp : Stamp) (old : Text) (r af
   pub stamped : after.stamp ≡ stamp
   pub at : after.epoch ≡ At (last_epoch r)
   pub instance : after.instance ≡ q.instance
+  pub settings : GivesFirst q after
 
 module _ (g : Group) (sound : IsSound g) (q : Heartbeat) (stamp : Stamp) (old : Text) (r after : Record) (heir : Text) (is_heir : IsHeir g q stamp old r after heir) where
   module _ (c n s : Group) (drafted : IsDrafted g old after c) (renewed : IsRenewed c n) (settles : HasSettled n old after (reported q) s) where
@@ -133,6 +134,7 @@ module _ (g : Group) (sound : IsSound g) (q : Heartbeat) (stamp : Stamp) (old : 
             given = is_heir.given;
             same_instance = is_heir.same_instance;
             instance = at.instanced ∙ is_heir.instance;
+            settings = first_same q after z is_heir.settings (settled_same n old after (reported q) s settles (assignment_of b (shown s old)));
             epoch = omega (arith, last, risen);
             gets = λ p there. act.gets p (sym (holds_heir p) ∙ ap (λ t. has t (heir, p)) (sym same) ∙ there);
             present = at.at ∙ ap At (sym last);
@@ -213,6 +215,7 @@ pub record IsFresh (g : Group) (q : Heartbeat) (stamp : Stamp) (m : Text) (after
   pub stamped : after.stamp ≡ stamp
   pub at : after.epoch ≡ At 0
   pub instance : after.instance ≡ q.instance
+  pub settings : GivesFirst q after
 
 module _ (g : Group) (sound : IsSound g) (q : Heartbeat) (stamp : Stamp) (m : Text) (after : Record) (fresh : IsFresh g q stamp m after)
     (c n s : Group) (drafted : IsDrafted g m after c) (renewed : IsRenewed c n) (risen : c.target_epoch < n.target_epoch) (settles : HasSettled n m after (reported q) s) where
@@ -263,6 +266,7 @@ module _ (g : Group) (sound : IsSound g) (q : Heartbeat) (stamp : Stamp) (m : Te
               let is_m : k ≡ m = moved_gets g.grants m sound.one_holder (wanted n.target m) p (ap (λ t. has t (m, p)) (sym same_new) ∙ there) k holds in
               true≢false (sym (ap (λ t. has g.grants (t, p)) (sym is_m) ∙ holds) ∙ holds_nothing g sound m fresh.absent p);
           instance = z_at.instanced ∙ fresh.instance;
+          settings = first_same q after z fresh.settings (settled_same n m after (reported q) s settles (assignment_of b (shown s m)));
           present = z_at.at ∙ ap At (sym last);
         }
 

@@ -35,6 +35,7 @@ module _ (g new : Group) (clients : Clients) (group : GroupKeeps g clients) (pas
         owner = λ m s seen. group.owner m s (seen_before m s seen);
         instance = λ m r c there is. group.instance m r c (pass.kept m r there).before is;
         away = λ m r c there gone is. group.away m r c (pass.kept m r there).before gone is;
+        settings = λ m r c there is. group.settings m r c (pass.kept m r there).before is;
       }
 
   -- ---- those that have gone
@@ -83,6 +84,7 @@ module _ (g new : Group) (clients : Clients) (group : GroupKeeps g clients) (pas
               names = old.names;
               instance = old.instance;
               leaves = old.leaves;
+              settings = old.settings;
             };
       }
 

@@ -24,8 +24,9 @@ use Rattle.group_types.specs.Sound.{IsSound}
 use Rattle.member_core.specs.Client.{Client}
 use Rattle.world_sim.specs.World.{Commit}
 use Rattle.world_sim.proofs.Former.{made_after, made_is_given, past_apart}
+use Rattle.world_sim.proofs.SettingsKept.{settings_after, settings_first}
 use Rattle.world_sim.specs.Turn.{Holds, Seen, IsLater, Names, IsNamedBy, IsMadeNow, IsReported, HasActed, HasTakenOver, Came, Kept, Acted, New, TookOver, Went, WasPast, Left, WasAway, Promises, Turn}
-use Rattle.world_sim.specs.Invariant.{Clients, IsMade, IsOf, IsOver, GroupKeeps, ClientKeeps, SenderKeeps, RequestKeeps, TakerKeeps, ReplyKeeps, CommitKeeps, Lags}
+use Rattle.world_sim.specs.Invariant.{Clients, IsMade, IsOf, IsOver, GroupKeeps, ClientKeeps, SenderKeeps, RequestKeeps, TakerKeeps, ReplyKeeps, CommitKeeps, IsOfSettings, Lags}
 use Rattle.group_types.proofs.Orders.{partition_cmp_total}
 use Rattle.group_types.proofs.SetLemmas.{has-common, has-nothing}
 use Rattle.group_types.proofs.GrantLemmas.{has-held}
@@ -263,6 +264,7 @@ module _ (g new : Group) (clients : Clients) (n number : ℕ) (q : Heartbeat) (a
               names = old.names;
               instance = old.instance;
               leaves = old.leaves;
+              settings = old.settings;
             };
       }
     where
@@ -473,6 +475,7 @@ module _ (g new : Group) (clients : Clients) (n number : ℕ) (q : Heartbeat) (a
         owner = λ m s seen. owner m s (sight m s seen);
         instance = λ m r c there is. instance m r c is (turn.came m r there);
         away = λ m r c there gone is. away m r c gone is (turn.came m r there);
+        settings = λ m r c there is. settings m r c is (turn.came m r there);
       }
     where
       made : (m : Text) (s : Stamp) → Sight g new n number q m s → IsMade new m
@@ -510,6 +513,16 @@ module _ (g new : Group) (clients : Clients) (n number : ℕ) (q : Heartbeat) (a
           by_instance (inr (joins, same)) = same ∙ (own c r.stamp is acted.stamped).instance joins
       instance m r c is (New one) = one.instance ∙ (own c r.stamp is one.stamped).instance one.joins
       instance m r c is (TookOver over) = over.instance ∙ (own c r.stamp is over.stamped).instance over.joins
+
+      settings : (m : Text) (r : Record) (c : Client) → clients r.stamp.connection c → Came g q (record { connection = n; frame = number }) new m r → IsOfSettings c.settings r
+      settings m r c is (Kept kept) = it.group.settings m r c kept.before is
+      settings m r c is (Acted acted) =
+          let owner : acted.before.stamp.connection ≡ n =
+          it.request.owner acted.named.1 acted.before.stamp (subst (λ (x : Text). Seen g x acted.before.stamp) (sym acted.named.0) (inl (acted.before, acted.was, refl))) in
+          settings_after c.settings q acted.before r (own c r.stamp is acted.stamped).settings
+          (it.group.settings m acted.before c acted.was (subst (λ x. clients x c) (sym owner) (subst (λ (x : Stamp). clients x.connection c) acted.stamped is))) acted.settings
+      settings m r c is (New one) = settings_first c.settings q r (own c r.stamp is one.stamped).settings one.joins one.settings
+      settings m r c is (TookOver over) = settings_first c.settings q r (own c r.stamp is over.stamped).settings over.joins over.settings
 
       away : (m : Text) (r : Record) (c : Client) → r.epoch ≡ Away → clients r.stamp.connection c → Came g q (record { connection = n; frame = number }) new m r → IsOver c r.stamp
       away m r c gone is (Kept kept) = it.group.away m r c kept.before gone is

@@ -88,7 +88,7 @@ of_list-in_order set =
 assigned_same : (set : Partitions) → assigned (assignment_value set) ≡ set
 assigned_same set = ap of_list (names_node_listed (in_order set)) ∙ of_list-in_order set
 
-assignment_same : (o : Option Partitions) → option_map assigned (option_map assignment_value o) ≡ o
+pub assignment_same : (o : Option Partitions) → option_map assigned (option_map assignment_value o) ≡ o
 assignment_same None = refl
 assignment_same (Some set) = ap Some (assigned_same set)
 

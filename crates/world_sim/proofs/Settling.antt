@@ -27,7 +27,7 @@ module _ (grants : Grants) (m : Text) where
       has-moved grants m target n p
       ∙ ap (λ b. cond b (has target p && (has grants (m, p) || is_free_for grants m p)) (has grants (n, p))) apart
 
-  moved_own : (target : Partitions) (p : Partition) → has (moved grants m target) (m, p) ≡ (has target p && (has grants (m, p) || is_free_for grants m p))
+  pub moved_own : (target : Partitions) (p : Partition) → has (moved grants m target) (m, p) ≡ (has target p && (has grants (m, p) || is_free_for grants m p))
   moved_own target p =
       has-moved grants m target m p
       ∙ ap (λ b. cond b (has target p && (has grants (m, p) || is_free_for grants m p)) (has grants (m, p))) (text_ties m)

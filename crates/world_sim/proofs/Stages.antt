@@ -4,9 +4,12 @@ use Rattle.std.specs.Cmp.{first_so}
 use Rattle.std.specs.FinMap as finite
 use Rattle.std.proofs.lemmas.Bool.Decides.{Decides-eqb}
 use Rattle.group_types.specs.declared.epoch.Epoch.{Epoch}
-use Rattle.group_types.specs.declared.epoch.Epoch.TheVariants.{At}
+use Rattle.group_types.specs.declared.epoch.Epoch.TheVariants.{At, Away}
 use Rattle.group_types.specs.declared.stamp.Stamp.{Stamp}
+use Rattle.group_types.specs.declared.assignor_name.AssignorName.{AssignorName}
 use Rattle.group_types.specs.Text.{Text}
+use Rattle.group_types.specs.Topics.{Names}
+use Rattle.group_types.specs.Request.{Heartbeat}
 use Rattle.group_types.specs.Partition.{Partitions}
 use Rattle.group_types.specs.Sets.{has}
 use Rattle.group_types.specs.declared.partition.Partition.{Partition}
@@ -18,7 +21,7 @@ use Rattle.group_types.proofs.Orders.{partition_cmp_total}
 use Rattle.group_types.proofs.SetLemmas.{has-common}
 use Rattle.group_types.proofs.GrantLemmas.{has-held}
 use Rattle.group_types.proofs.Lookups.{not_none, some_is}
-use Rattle.world_sim.specs.Turn.{Holds}
+use Rattle.world_sim.specs.Turn.{GivesFirst, Holds, IsGiven}
 
 -- ---- the record after a settling
 
@@ -45,6 +48,27 @@ asked_at r None now e at = record { stamped = refl; instanced = refl; at = at }
 pub sent_at : (r : Record) (assignment : Option Partitions) (stamp : Stamp) (instance : Option Text) (epoch : ℕ) → IsAtEpoch r stamp instance epoch → IsAtEpoch (sent_after r assignment) stamp instance epoch
 sent_at r None stamp instance epoch is = is
 sent_at r (Some set) stamp instance epoch is = record { stamped = is.stamped; instanced = is.instanced; at = is.at }
+
+-- the same names and assignor
+pub record HasSame (a b : Record) : Type 0 where
+  pub names : a.names ≡ b.names
+  pub assignor : a.assignor ≡ b.assignor
+
+arrived_same : (r : Record) (e : Epoch) (t : ℕ) → HasSame (arrived r e t) r
+arrived_same r Away t = record { names = refl; assignor = refl }
+arrived_same r (At e) t =
+    elim (e == t) as (λ b. HasSame (cond b (record r { release_deadline = None }) (record r { previous_epoch = e; epoch = At t; release_deadline = None })) r) [
+      | true ↦ record { names = refl; assignor = refl }
+      | false ↦ record { names = refl; assignor = refl }
+    ]
+
+asked_same : (r : Record) (deadline : Option ℕ) (now : ℕ) → HasSame (asked r deadline now) r
+asked_same r (Some deadline) now = record { names = refl; assignor = refl }
+asked_same r None now = record { names = refl; assignor = refl }
+
+sent_same : (r : Record) (assignment : Option Partitions) → HasSame (sent_after r assignment) r
+sent_same r None = record { names = refl; assignor = refl }
+sent_same r (Some set) = record { names = refl; assignor = refl }
 
 -- ---- the target's renewal touches nothing else
 
@@ -121,6 +145,41 @@ settled_as n m r owned now false (Some x) may is =
 
 pub has_settled : (n : Group) (m : Text) (r : Record) (owned : Option Partitions) (now : ℕ) → finite.get n.records m ≡ Some r → HasSettled n m r owned (settled n m owned now)
 has_settled n m r owned now is = settled_as n m r owned now (may_settle n.grants m (wanted n.target m) owned) (finite.get n.records m) refl is
+
+-- a settling and a reply leave the names and the assignor
+pub settled_same : (n : Group) (m : Text) (r : Record) (owned : Option Partitions) (s : Group) (settles : HasSettled n m r owned s) (assignment : Option Partitions)
+    → HasSame (sent_after settles.after assignment) r
+settled_same n m r owned s settles assignment = by settles.moves
+  where
+    sent : HasSame (sent_after settles.after assignment) settles.after
+    sent = sent_same settles.after assignment
+
+    after : (x : Record) → HasSame x r → settles.after ≡ x → HasSame (sent_after settles.after assignment) r
+    after x same is =
+        record {
+          names = sent.names ∙ ap (λ (y : Record). y.names) is ∙ same.names;
+          assignor = sent.assignor ∙ ap (λ (y : Record). y.assignor) is ∙ same.assignor;
+        }
+
+    by : ((may_settle n.grants m (wanted n.target m) owned ≡ true) × (s.grants ≡ moved n.grants m (wanted n.target m)) × (settles.after ≡ arrived r r.epoch n.target_epoch))
+        ⊎ ((may_settle n.grants m (wanted n.target m) owned ≡ false) × (s.grants ≡ n.grants) × ((now : ℕ) × (settles.after ≡ asked r r.release_deadline now)))
+        → HasSame (sent_after settles.after assignment) r
+    by (inl moves) = after (arrived r r.epoch n.target_epoch) (arrived_same r r.epoch n.target_epoch) moves.2
+    by (inr stays) = after (asked r r.release_deadline stays.2.0) (asked_same r r.release_deadline stays.2.0) stays.2.1
+
+-- what a heartbeat gave is given still
+pub given_same : (q : Heartbeat) (names : Names) (assignor : Option AssignorName) (x y : Record) → IsGiven q names assignor x → HasSame y x → IsGiven q names assignor y
+given_same q names assignor x y given same = record { names = same.names ∙ given.names; assignor = same.assignor ∙ given.assignor }
+
+pub first_same : (q : Heartbeat) (x y : Record) → GivesFirst q x → HasSame y x → GivesFirst q y
+first_same q x y first same =
+    record {
+      valid = first.valid;
+      supported = first.supported;
+      stored_names = first.stored_names;
+      stored_assignor = first.stored_assignor;
+      given = given_same q first.stored_names first.stored_assignor x y first.given same;
+    }
 
 pub renewed_rises : (b : Bool) (c n : Group) → c.target_epoch < c.epoch → (c.epoch == c.target_epoch) ≡ b → RenewsWhere b c n → c.target_epoch < n.target_epoch
 renewed_rises true c n below is renews = absurd (omega (arith, below, (Decides-eqb c.epoch c.target_epoch).0 is))

@@ -21,9 +21,9 @@ use Rattle.group_types.specs.Renewal.{changed_if, view_for}
 use Rattle.group_types.specs.Limits.{GREATEST_EPOCH}
 use Rattle.group_types.specs.Leave.{last_epoch, last_epoch_at}
 use Rattle.group_types.specs.Sound.{IsSound}
-use Rattle.world_sim.specs.Turn.{Names, Holds, IsLater, HasActed, Came, Kept, Acted, Promises, WasPast, Turn}
+use Rattle.world_sim.specs.Turn.{Names, Holds, IsLater, IsGiven, HasActed, Came, Kept, Acted, Promises, WasPast, Turn}
 use Rattle.group_types.proofs.Lookups.{found, Found, this, another, get-inserted, get-insert_other, some_is}
-use Rattle.world_sim.proofs.Stages.{shows_held, IsAtEpoch, sent_at, IsRenewed, renewed_by, HasSettled, has_settled}
+use Rattle.world_sim.proofs.Stages.{shows_held, IsAtEpoch, sent_at, settled_same, given_same, IsRenewed, renewed_by, HasSettled, has_settled}
 use Rattle.world_sim.proofs.Acts.{IsDrafted, Acts, acts}
 
 -- ---- a heartbeat that is refused, or overtaken
@@ -79,6 +79,7 @@ pub record IsOwn (g : Group) (q : Heartbeat) (stamp : Stamp) (m : Text) (r after
   pub last : last_epoch r ≡ e
   pub at : after.epoch ≡ At e
   pub instance : (after.instance ≡ r.instance) ⊎ ((q.epoch ≡ pos 0) × (after.instance ≡ q.instance))
+  pub settings : IsGiven q r.names r.assignor after
 
 module _ (g : Group) (sound : IsSound g) (q : Heartbeat) (stamp : Stamp) (m : Text) (r after : Record) (e : ℕ) (own : IsOwn g q stamp m r after e) where
   -- the reply is given, and the assignment that it has is remembered
@@ -108,6 +109,7 @@ module _ (g : Group) (sound : IsSound g) (q : Heartbeat) (stamp : Stamp) (m : Te
           keeps = λ p reports holds. ap (λ y. has y (m, p)) same ∙ act.reported p reports holds;
           gets = λ p there. act.gets p (ap (λ y. has y (m, p)) (sym same) ∙ there);
           instance = by_instance is.instanced own.instance;
+          settings = inl (given_same q r.names r.assignor after z own.settings (settled_same n m after (reported q) s settles assignment));
           away = λ away. absurd (not_away z.epoch act.epoch is.at away);
         }
       where

@@ -1,4 +1,4 @@
--- Convergence: three rounds in which no message is lost settle everything. It is stated here, and not proved yet.
+-- Convergence: three rounds in which no message is lost settle everything.
 use Rattle.std.specs.Prelude.{◌≡◌, ◌⊎◌, ℕ, ◌+◌, ◌≤◌, false, Some}
 use Rattle.std.specs.FinMap as finite
 use Rattle.group_types.specs.declared.epoch.Epoch.TheVariants.{At}

@@ -1,6 +1,7 @@
 -- What holds in the world after every act, beside Exclusivity: why it holds.
-use Rattle.std.specs.Prelude.{◌≡◌, ◌≢◌, ◌⊎◌, ℕ, ◌<◌, ◌≤◌, ◌^◌, pos, negsuc, true, false, List, [], Option, Some, unwrap_or, IsTrue}
+use Rattle.std.specs.Prelude.{◌≡◌, ◌≢◌, ◌⊎◌, ℕ, ◌<◌, ◌≤◌, ◌^◌, pos, negsuc, true, false, List, [], Option, Some, None, unwrap_or, IsTrue}
 use Rattle.std.specs.List.{Contains}
+use Rattle.std.specs.Option.{option_or, option_and_then}
 use Rattle.std.specs.FinMap as finite
 use Rattle.kip_msgs.specs.Values.{CommitRequestTopicValue, commit_request}
 use Rattle.kip_msgs.specs.Spelling.{SpellsRequest}
@@ -8,14 +9,16 @@ use Rattle.group_types.specs.declared.epoch.Epoch.TheVariants.{Away}
 use Rattle.group_types.specs.declared.partition.Partition.{Partition}
 use Rattle.group_types.specs.declared.stamp.Stamp.{Stamp}
 use Rattle.group_types.specs.Text.{Text}
-use Rattle.group_types.specs.Sets.{nothing, has}
+use Rattle.group_types.specs.Sets.{nothing, has, of_list}
 use Rattle.group_types.specs.Partition.{Partitions}
 use Rattle.group_types.specs.MemberId.{made_id}
-use Rattle.group_types.specs.Request.{Heartbeat, reported}
+use Rattle.group_types.specs.AssignorName.{assignor_named}
+use Rattle.group_types.specs.Request.{Heartbeat, is_unknown, reported}
 use Rattle.group_types.specs.Group.{Group, Record, new_group}
 use Rattle.group_types.specs.Leave.{last_epoch}
 use Rattle.group_types.specs.Sound.{IsSound}
 use Rattle.coord_node.specs.Coordinator.{Coordinator}
+use Rattle.member_core.specs.Settings.{Settings}
 use Rattle.member_core.specs.Client.{Client, Outside, Inside, Gone}
 use Rattle.member_core.specs.Asking.{header_of, request_value}
 use Rattle.member_core.specs.Taking.{Accepts, Tells}
@@ -52,6 +55,24 @@ Lags g clients m epoch =
     → c.settings.instance ≡ Some instance → finite.get g.records heir ≡ Some r → r.instance ≡ Some instance
     → IsOver c s ⊎ (epoch < last_epoch r)
 
+-- ---- settings
+
+-- A record is of a client whose group has a name, and whose assignor, if it names one, is one that there is. It has the
+-- client's names, and that assignor: what the client says of them again leaves it as it is. (Where the client names no
+-- assignor, a take-over leaves the old one's.)
+pub record IsOfSettings (s : Settings) (r : Record) : Type 0 where
+  pub group : s.group ≢ []
+  pub supported : is_unknown s.assignor ≡ false
+  pub names : r.names ≡ of_list s.names
+  pub assignor : option_or (option_and_then assignor_named s.assignor) r.assignor ≡ r.assignor
+
+-- a request says its client's names and assignor, or nothing of them; a join says them
+pub record SaysSettings (s : Settings) (q : Heartbeat) : Type 0 where
+  pub group : q.group ≡ s.group
+  pub names : (q.names ≡ None) ⊎ (q.names ≡ Some s.names)
+  pub assignor : (q.assignor ≡ None) ⊎ (q.assignor ≡ s.assignor)
+  pub joins : q.epoch ≡ pos 0 → (q.names ≡ Some s.names) × (q.assignor ≡ s.assignor)
+
 -- ---- the group
 
 pub record GroupKeeps (g : Group) (clients : Clients) : Type 0 where
@@ -63,6 +84,8 @@ pub record GroupKeeps (g : Group) (clients : Clients) : Type 0 where
       → r.instance ≡ c.settings.instance
   pub away : (m : Text) (r : Record) (c : Client) → finite.get g.records m ≡ Some r → r.epoch ≡ Away
       → clients r.stamp.connection c → IsOver c r.stamp
+  pub settings : (m : Text) (r : Record) (c : Client) → finite.get g.records m ≡ Some r → clients r.stamp.connection c
+      → IsOfSettings c.settings r
 
 -- ---- the clients
 
@@ -95,6 +118,7 @@ pub record SenderKeeps (g : Group) (n number : ℕ) (q : Heartbeat) (c : Client)
   pub names : c.waits ≡ true → number ≡ c.number → q.member ≡ unwrap_or c.id []
   pub instance : q.epoch ≡ pos 0 → q.instance ≡ c.settings.instance
   pub leaves : (below : ℕ) → q.epoch ≡ negsuc below → (c.place ≡ Gone) × (number ≡ c.number)
+  pub settings : SaysSettings c.settings q
 
 pub record RequestKeeps (g : Group) (clients : Clients) (n number : ℕ) (q : Heartbeat) : Type 0 where
   pub owner : q.member ≢ [] → (s : Stamp) → Seen g q.member s → s.connection ≡ n

@@ -2,7 +2,9 @@
 -- needs of the machine.
 use Rattle.std.specs.Prelude.{◌≡◌, ◌≢◌, ◌⊎◌, ℕ, suc, ◌<◌, ◌≤◌, ◌^◌, pos, true, false, [], Option, Some, None, IsTrue, int_le}
 use Rattle.std.specs.List.{Contains}
+use Rattle.std.specs.Option.{option_or, option_and_then}
 use Rattle.std.specs.FinMap as finite
+use Rattle.group_types.specs.declared.assignor_name.AssignorName.{AssignorName}
 use Rattle.group_types.specs.declared.code.Code.TheVariants as codes
 use Rattle.group_types.specs.declared.epoch.Epoch.TheVariants.{At, Away}
 use Rattle.group_types.specs.declared.partition.Partition.{Partition}
@@ -11,7 +13,10 @@ use Rattle.group_types.specs.Text.{Text}
 use Rattle.group_types.specs.Sets.{has}
 use Rattle.group_types.specs.Partition.{Partitions}
 use Rattle.group_types.specs.MemberId.{made_id}
-use Rattle.group_types.specs.Request.{Heartbeat, LEAVES_AT, GOES_AWAY_AT, reported}
+use Rattle.group_types.specs.Topics as topics
+use Rattle.group_types.specs.AssignorName.{assignor_named}
+use Rattle.group_types.specs.Request.{Heartbeat, LEAVES_AT, GOES_AWAY_AT, is_invalid, is_unsupported, reported}
+use Rattle.group_types.specs.Join.{names_after}
 use Rattle.group_types.specs.Group.{Group, Record, Grants}
 use Rattle.group_types.specs.Leave.{last_epoch}
 use Rattle.group_types.specs.Checks.{is_late}
@@ -51,6 +56,25 @@ pub record IsMadeNow (g new : Group) (serial : ℕ) (m : Text) : Type 0 where
 abbrev pub IsNamedBy : Group → Heartbeat → Group → Text → Type 0
 IsNamedBy g q new m = Names q m ⊎ ((q.member ≡ []) × (serial : ℕ) × IsMadeNow g new serial m)
 
+-- ---- whose settings a record has
+
+-- the record's names and assignor are those that the heartbeat gives, and else what was stored
+pub record IsGiven (q : Heartbeat) (stored_names : topics.Names) (stored_assignor : Option AssignorName) (r : Record) : Type 0 where
+  pub names : r.names ≡ names_after stored_names q.names
+  pub assignor : r.assignor ≡ option_or (option_and_then assignor_named q.assignor) stored_assignor
+
+-- a member's record has what its heartbeat gives, or what it had before
+abbrev pub Gives : Heartbeat → Record → Record → Type 0
+Gives q before r = IsGiven q before.names before.assignor r ⊎ ((r.names ≡ before.names) × (r.assignor ≡ before.assignor))
+
+-- the record has what a join gives that was neither invalid nor unsupported
+pub record GivesFirst (q : Heartbeat) (r : Record) : Type 0 where
+  pub valid : is_invalid q ≡ false
+  pub supported : is_unsupported q ≡ false
+  pub stored_names : topics.Names
+  pub stored_assignor : Option AssignorName
+  pub given : IsGiven q stored_names stored_assignor r
+
 -- ---- how a record came to be as it is
 
 -- the heartbeat wasn't its member's
@@ -71,6 +95,7 @@ pub record HasActed (g : Group) (q : Heartbeat) (stamp : Stamp) (new : Group) (m
   pub keeps : (p : Partition) → IsReported (reported q) p → Holds g.grants m p → Holds new.grants m p
   pub gets : (p : Partition) → Holds new.grants m p → IsFreeFor g.grants m p
   pub instance : (r.instance ≡ before.instance) ⊎ ((q.epoch ≡ pos 0) × (r.instance ≡ q.instance))
+  pub settings : Gives q before r
   pub away : r.epoch ≡ Away → q.epoch ≡ GOES_AWAY_AT
 
 -- a new member begins above the target's epoch
@@ -83,6 +108,7 @@ pub record IsNew (g : Group) (q : Heartbeat) (stamp : Stamp) (new : Group) (m : 
   pub epoch : g.target_epoch < last_epoch r
   pub gets : (p : Partition) → Holds new.grants m p → (n : Text) → ¬ Holds g.grants n p
   pub instance : r.instance ≡ q.instance
+  pub settings : GivesFirst q r
   pub present : r.epoch ≡ At (last_epoch r)
 
 -- A static member came back under another id, with what the old one had: it was away, and no epoch falls.
@@ -99,6 +125,7 @@ pub record HasTakenOver (g : Group) (q : Heartbeat) (stamp : Stamp) (new : Group
   pub given : Text
   pub same_instance : (before.instance ≡ Some given) × (q.instance ≡ Some given)
   pub instance : r.instance ≡ q.instance
+  pub settings : GivesFirst q r
   pub epoch : last_epoch before ≤ last_epoch r
   pub gets : (p : Partition) → Holds new.grants m p → IsFreeFor g.grants old p
   pub present : r.epoch ≡ At (last_epoch r)

@@ -1,5 +1,7 @@
 //! Laws of the world, proved where nothing runs: what holds after every list of acts, from clients that haven't
 //! asked for anything, and that an act has one outcome.
+ghost use Rattle.world_sim.specs.Convergence.{Convergence};
+ghost use Rattle.world_sim.specs.Examples.{SomebodyHolds, SomeCommitIsTaken, SomeReplyShows, SomeTargetIsRenewed, SomeWorldCanSettle};
 ghost use Rattle.world_sim.specs.Exclusivity.{ActsLawfully, Always, BringsHeld, CommitHeld, HoldApart, HoldGranted, ShowGranted, SinceGranted};
 ghost use Rattle.world_sim.specs.Invariant.{Keeps};
 ghost use Rattle.world_sim.specs.Laws.{OneOutcomeAnAct, OneRunOfActs};
@@ -11,7 +13,7 @@ use member_core::one_outcome_a_reply;
 use range_assign::range_is_lawful;
 use uniform_assign::uniform_is_lawful;
 
-/// Why Exclusivity holds: what every act keeps.
+/// Why Exclusivity and Convergence hold: what every act keeps.
 pub fn every_act_keeps_the_invariant()
     ensures { Always Keeps }
 {
@@ -69,3 +71,25 @@ pub fn an_act_has_one_outcome()
     one_answer();
     one_outcome_a_reply();
 }
+
+/// Three rounds in which no message is lost settle everything: each member then owns its target, at the target's epoch.
+pub fn three_rounds_settle()
+    ensures { Convergence }
+{
+    one_request_a_body();
+    one_reply_a_body();
+    steps_are_sound();
+    every_group_is_sound();
+    every_act_keeps_the_invariant();
+}
+
+/// The laws aren't empty: in worlds that acts lead to a member holds a partition, a reply that may be taken shows one, a
+/// commit that is taken was made while one was held, a target is renewed, and a world with a member meets the condition
+/// of the three rounds.
+pub fn the_laws_are_met()
+    ensures holds { SomebodyHolds }
+    ensures shows { SomeReplyShows }
+    ensures takes { SomeCommitIsTaken }
+    ensures renews { SomeTargetIsRenewed }
+    ensures settles { SomeWorldCanSettle }
+{}

@@ -1,15 +1,37 @@
 //! A world of one coordinator, its clients, and all messages between them, each of which may be lost, repeated and
 //! overtaken.
 //!
-//! Today the crate has the world's definitions, and the laws that two members of one group never hold one partition,
-//! that a commit is taken only while what its maker held is granted, and that every target is lawful when it is renewed.
-//! The world as Rust values is yet to come. Start from `specs/World.antt`, `specs/Acts.antt` and
-//! `specs/Exclusivity.antt`, and from the laws below.
+//! Start from [`World::new`] and [`World::act`]. After every list of acts no two members of one group hold one partition,
+//! a commit is taken only while what its maker held is granted, every target is lawful when it is renewed, and three rounds in
+//! which no message is lost settle everything: these are the laws of `specs/Exclusivity.antt` and `specs/Convergence.antt`, and
+//! they hold of each [`World`]. Lists of acts and settling are yet to come as calls.
 #![tactic(auto)]
 
+mod act;
+mod client;
+mod commit;
+mod fault;
+mod frame;
 mod laws;
+mod mail;
+mod scene;
+mod shown;
+mod standing;
+mod state;
+mod view;
+mod world;
 
+pub use act::Act;
+pub use coord_node::{Image, Moment};
+pub use fault::WorldFault;
+pub use frame::Frame;
 pub use laws::{
     an_act_has_one_outcome, commits_are_taken_while_held, every_act_keeps_the_invariant,
     members_hold_apart, replies_show_what_is_granted, targets_are_renewed_lawfully,
+    the_laws_are_met, three_rounds_settle,
 };
+pub use member_core::{Array, CommitRequestTopic, Kind, Partition, Quit, Settings};
+pub use shown::Shown;
+pub use state::ClientState;
+pub use view::ClientView;
+pub use world::World;

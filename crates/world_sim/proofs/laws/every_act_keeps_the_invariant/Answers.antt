@@ -3,4 +3,4 @@ use Rattle.world_sim.proofs.laws.every_act_keeps_the_invariant.Goals as goal
 
 pub returns : goal.returns
 returns c =
-    always_keeps c.one_request_a_body.ensures c.one_reply_a_body.ensures c.steps_are_sound.ensures.whole c.every_group_is_sound.ensures
+    always_keeps c.one_request_a_body.ensures c.one_reply_a_body.ensures c.steps_are_sound.ensures c.every_group_is_sound.ensures

@@ -1,0 +1,85 @@
+-- That what a scene's coordinator answers is the world's.
+use Rattle.std.proofs.lemmas.List.{length-map}
+use Rattle.std.proofs.Common.{◌≡◌, ℕ, suc, ◌+◌, ◌≤◌, List, [], ◌∷◌, ◌++◌, length, map, drop, slice_get, Option, Some, None, Ok, Err, refl, sym, ap, ap₂, subst, ◌∙◌, add-one, length-append}
+use Rattle.kip_msgs.specs.Values.{commit_request}
+use Rattle.kip_msgs.specs.Laws.{OneRequestABody}
+use Rattle.group_types.specs.Limits.{LARGEST_BODY}
+use Rattle.coord_node.specs.declared.event.Answered.TheVariants as kinds
+use Rattle.coord_node.specs.Coordinator.{Coordinator, Frame}
+use Rattle.coord_node.specs.Answers as node
+use Rattle.member_core.specs.Asking.{header_of}
+use Rattle.member_core.specs.Committing.{commit_value}
+use Rattle.world_sim.specs.declared.mail.Request as mail
+use Rattle.world_sim.specs.declared.mail.Reply as answer
+use Rattle.world_sim.specs.declared.scene.Scene.{Scene}
+use Rattle.world_sim.specs.declared.shown.Shown.{Shown}
+use Rattle.world_sim.specs.declared.shown.Shown.TheVariants as shows
+use Rattle.world_sim.specs.World.{World, Request, Reply, Commit, numbered, cut, with_coordinator, with_reply}
+use Rattle.world_sim.specs.Acts.{Bring, BringStep, Outcome, ActStep, no_stamp}
+use Rattle.world_sim.specs.Invariant.{Keeps}
+use Rattle.world_sim.specs.Mail.{requests_of, reply_value, replies_of}
+use Rattle.world_sim.specs.Scene.{scene_view}
+use Rattle.world_sim.specs.Acting.{Acted, IsShown}
+use Rattle.world_sim.specs.Passing.{Answered, AnswersOne, IsHeartbeat}
+use Rattle.world_sim.proofs.Delivered.{answered, closed, commit_is_request, never_closed, replied}
+use Rattle.world_sim.proofs.Numbered.{numbered_in}
+use Rattle.world_sim.proofs.SceneLemmas.{replied_world}
+
+module _ (one : OneRequestABody) (s : Scene) where
+  abbrev w : World
+  w = scene_view s
+
+  module _ (place : ℕ) (q : Request) (there : slice_get (requests_of s.requests.items) place ≡ Some q) (c : Coordinator) (before after : List ℕ) (commits : List Commit) (now : commits ≡ map (cut c) s.commits.items) where
+    pub answer_closes : node.Answers s.node (Frame q.body q.stamp s.clock) kinds.Closes c before after
+        → Answered w place (Ok shows.Closed) (record w { coordinator = c; commits = commits })
+    answer_closes answers =
+        subst (λ (o : Option Request). AnswersOne o w shows.Closed (record w { coordinator = c; commits = commits })) (sym there)
+        (subst (λ (ks : List Commit). AnswersOne (Some q) w shows.Closed (record w { coordinator = c; commits = ks })) (sym now) (closed one w q c before after answers))
+
+    pub answer_kept : IsHeartbeat (Some q) → before ≡ [] → node.Answers s.node (Frame q.body q.stamp s.clock) kinds.Replied c before after
+        → (r : answer.Reply) (replies : List answer.Reply) (count : ℕ) → r.request ≡ place → r.frame ≡ drop 4 after → replies ≡ s.replies.items ++ r ∷ [] → count ≡ length replies
+        → Answered w place (Ok (shows.Replied count)) (record w { coordinator = c; commits = commits; replies = replies_of s.requests.items replies })
+    answer_kept spelled empty answers r replies count at framed more counted =
+        subst (λ (o : Option Request). AnswersOne o w (shows.Replied count) new) (sym there)
+        (subst (λ (x : World). AnswersOne (Some q) w (shows.Replied count) x) (sym same)
+        (subst (λ k. AnswersOne (Some q) w (shows.Replied k) target) all (replied one w q spelled c before after empty answers)))
+      where
+        new : World
+        new = record w { coordinator = c; commits = commits; replies = replies_of s.requests.items replies }
+
+        target : World
+        target = with_reply (with_coordinator w c) (record { request = q; body = drop 4 after })
+
+        all : suc (length w.replies) ≡ count
+        all =
+            ap suc (length-map s.replies.items (reply_value s.requests.items))
+            ∙ sym (counted ∙ ap length more ∙ length-append s.replies.items (r ∷ []) ∙ add-one (length s.replies.items))
+
+        same : new ≡ target
+        same =
+            ap₂ (λ (ks : List Commit) (rs : List answer.Reply). record w { coordinator = c; commits = ks; replies = replies_of s.requests.items rs }) now more
+            ∙ replied_world s c r q (drop 4 after) (ap (λ k. slice_get (requests_of s.requests.items) k) at ∙ there) framed
+
+  -- ---- a commit
+
+  module _ (keeps : Keeps w) (n : ℕ) (k : Commit) (pooled : numbered s.commits.items n ≡ Some k) (small : length k.body ≤ LARGEST_BODY) (c : Coordinator) (before after : List ℕ) where
+    pub commit_answered : node.Answers s.node (Frame k.body no_stamp s.clock) kinds.Closes c before after → ⊥
+    commit_answered answers =
+        let made = keeps.commits k (numbered_in s.commits.items n k pooled) in
+        never_closed one w k (commit_request (header_of made.number) (commit_value k.group k.id k.epoch made.topics))
+        (commit_is_request (header_of made.number) (commit_value k.group k.id k.epoch made.topics) k.body made.spells small) c before after answers
+        (header_of made.number) (commit_value k.group k.id k.epoch made.topics) refl
+
+    pub commit_brought : before ≡ [] → node.Answers s.node (Frame k.body no_stamp s.clock) kinds.Replied c before after
+        → (frame : List ℕ) (commits : List Commit) → frame ≡ drop 4 after → commits ≡ map (cut c) s.commits.items
+        → Acted w (Bring n) (Ok (shows.Answered frame)) (record w { coordinator = c; commits = commits })
+    commit_brought empty answers frame commits framed now =
+        let made = keeps.commits k (numbered_in s.commits.items n k pooled) in
+        let it = answered one w k (commit_request (header_of made.number) (commit_value k.group k.id k.epoch made.topics))
+        (commit_is_request (header_of made.number) (commit_value k.group k.id k.epoch made.topics) k.body made.spells small) c before after empty answers
+        (header_of made.number) (commit_value k.group k.id k.epoch made.topics) refl in (
+          it.0,
+          subst (λ (o : Option Commit). BringStep o w it.0 (record w { coordinator = c; commits = commits })) (sym pooled)
+              (subst (λ (ks : List Commit). BringStep (Some k) w it.0 (record w { coordinator = c; commits = ks })) (sym now) it.1),
+          subst (λ (f : List ℕ). IsShown (shows.Answered f) it.0) (sym framed) it.2,
+        )

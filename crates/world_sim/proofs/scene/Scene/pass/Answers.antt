@@ -1,0 +1,21 @@
+use Rattle.std.proofs.Common.{◌≡◌, List, ap, refl}
+use Rattle.world_sim.specs.World.{Commit}
+use Rattle.world_sim.specs.Acts.{IsRemoved}
+use Rattle.world_sim.specs.Scene.{scene_view}
+use Rattle.world_sim.proofs.MailLemmas.{small_cut}
+use Rattle.world_sim.proofs.scene.Scene.pass.Goals as goal
+
+pub invariant_of-self : goal.invariant_of-self
+invariant_of-self c = record { named = c.args.self.now.named; small = small_cut c.tick-members.new.self c.args.self.now.commits.items c.cut_all.new.commits.items c.args.self.now.small c.cut_all.ensures }
+
+pub returns : goal.returns
+returns c = (
+  IsRemoved c.tick-members.result,
+  (
+    c.tick-members.result,
+    c.tick-members.new.self,
+    c.tick-members.ensures,
+    (refl, ap (λ (ks : List Commit). record (scene_view c.args.self.now) { coordinator = c.tick-members.new.self; clock = c.args.moment; commits = ks }) c.cut_all.ensures),
+  ),
+  refl,
+)

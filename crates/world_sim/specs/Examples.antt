@@ -1,0 +1,73 @@
+-- That the laws aren't empty: what each speaks of is there in a world that acts lead to.
+use Rattle.std.specs.Prelude.{◌≡◌, ◌≢◌, ℕ, Some, IsTrue}
+use Rattle.std.specs.List.{Contains}
+use Rattle.std.specs.FinMap as finite
+use Rattle.group_types.specs.declared.partition.Partition.{Partition}
+use Rattle.group_types.specs.Text.{Text}
+use Rattle.group_types.specs.Sets.{has}
+use Rattle.group_types.specs.Partition.{Partitions}
+use Rattle.group_types.specs.Group.{Group}
+use Rattle.member_core.specs.Client.{Client}
+use Rattle.world_sim.specs.World.{World, Reply, Commit}
+use Rattle.world_sim.specs.Acts.{Act, Outcome, ActStep}
+use Rattle.world_sim.specs.Reached.{IsReached}
+use Rattle.world_sim.specs.Holding.{IsMember, IsTakeable, IsTaken}
+use Rattle.world_sim.specs.Exclusivity.{target_epoch_of}
+use Rattle.world_sim.specs.Convergence.{CanSettle}
+
+-- a client that isn't removed holds a partition
+pub record SomebodyHolds : Type 0 where
+  pub world : World
+  pub reached : IsReached world
+  pub number : ℕ
+  pub client : Client
+  pub id : Text
+  pub member : IsMember world number client id
+  pub partition : Partition
+  pub holds : IsTrue (has client.own partition)
+
+-- a client that waits may take a reply that shows a partition
+pub record SomeReplyShows : Type 0 where
+  pub world : World
+  pub reached : IsReached world
+  pub reply : Reply
+  pub client : Client
+  pub id : Text
+  pub epoch : ℕ
+  pub shown : Partitions
+  pub takeable : IsTakeable world reply client id epoch shown
+  pub partition : Partition
+  pub shows : IsTrue (has shown partition)
+
+-- a commit would be taken whose maker held a partition
+pub record SomeCommitIsTaken : Type 0 where
+  pub world : World
+  pub reached : IsReached world
+  pub commit : Commit
+  pub pooled : Contains world.commits commit
+  pub taken : IsTaken world.coordinator commit
+  pub partition : Partition
+  pub held : IsTrue (has commit.own partition)
+
+-- an act renews a group's target
+pub record SomeTargetIsRenewed : Type 0 where
+  pub world : World
+  pub reached : IsReached world
+  pub act : Act
+  pub outcome : Outcome
+  pub new : World
+  pub step : ActStep world act outcome new
+  pub name : Text
+  pub group : Group
+  pub of_group : finite.get new.coordinator.groups name ≡ Some group
+  pub renewed : target_epoch_of (finite.get world.coordinator.groups name) ≢ group.target_epoch
+
+-- a world with a member meets the condition of the three rounds
+pub record SomeWorldCanSettle : Type 0 where
+  pub world : World
+  pub reached : IsReached world
+  pub number : ℕ
+  pub client : Client
+  pub id : Text
+  pub member : IsMember world number client id
+  pub can : CanSettle world

@@ -1,0 +1,184 @@
+//! Clients of a world.
+ghost use Rattle.std.specs.Prelude.{◌≡◌, ◌≤◌, map, All, IfOk, IfErr, OnErr, string_bytes, if◌then◌else◌};
+ghost use Rattle.std.specs.Option.{option_copied};
+ghost use Rattle.kip_msgs.specs.Views.{commit_request_topic_value};
+ghost use Rattle.member_core.specs.Asking.{after_giving_up};
+ghost use Rattle.member_core.specs.Client.{new_client, state_of};
+ghost use Rattle.member_core.specs.Limits.{GREATEST_NUMBER};
+ghost use Rattle.member_core.specs.Releasing.{may_release, after_release};
+ghost use Rattle.member_core.specs.Views.{settings_value, HasShortTexts};
+ghost use Rattle.member_core.specs.Writing.{HasShortTopic};
+ghost use Rattle.world_sim.specs.Standing.{state_value, ask_value, CannotAsk};
+ghost use Rattle.world_sim.specs.Stands.{TakesReply, CannotCommit};
+ghost use Rattle.world_sim.specs.Clients.{AsksWithin, IsCommitOf};
+
+use crate::act::Ask;
+use crate::commit::Commit;
+use crate::fault::WorldFault;
+use crate::frame::Frame;
+use crate::standing::Standing;
+use crate::state::ClientState;
+use member_core::{Array, CommitRequestTopic, EpochNumber, Member, PartSet, Partition, Settings};
+use std::alloc::{AllocError, Global};
+use std::marker::Model;
+use std::mem;
+
+/// A client of a world. Contracts see it as a client of the client machine.
+#[derive(Drop)]
+pub(crate) struct Client {
+    standing: Standing,
+    /// The name of its group.
+    group: String,
+    /// The number of its latest request, 0 before the first.
+    requests: u32,
+}
+
+impl Model for Client {
+    ghost use Rattle.member_core.specs.Client.{Client as Known};
+    ghost use Rattle.member_core.specs.ClientCode.{client_code};
+
+    ghost Value = { Known };
+
+    ghost coded = { client_code };
+
+    ghost use Rattle.world_sim.specs.Standing.{client_of};
+    ghost use Rattle.world_sim.specs.Clients.{IsClient};
+
+    ghost view = { λ c. client_of c.standing };
+
+    ghost invariant = { IsClient };
+}
+
+impl Client {
+    /// One that hasn't asked for anything yet. Fails where memory is short.
+    pub(crate) fn new(alloc: Global, settings: Settings) -> Result<Client, AllocError>
+        requires { HasShortTexts (settings_value settings) }
+        ensures { IfOk result (λ c. c ≡ new_client (settings_value settings)) }
+    {
+        let group = String::from_str(alloc, settings.group.as_str())?;
+        Ok(Client {
+            standing: Standing::Outside(Member::new(alloc, settings)),
+            group,
+            requests: 0,
+        })
+    }
+
+    pub(crate) fn state(&self) -> ClientState
+        ensures { state_value result ≡ state_of self.now }
+    {
+        self.standing.state()
+    }
+
+    pub(crate) fn id(&self) -> Option<&str>
+        ensures { option_copied result ≡ self.now.id }
+    {
+        self.standing.id()
+    }
+
+    /// The member epoch that the client knows.
+    pub(crate) fn epoch(&self) -> EpochNumber
+        ensures { result ≡ self.now.epoch }
+    {
+        self.standing.epoch()
+    }
+
+    /// The partitions that the client reads.
+    pub(crate) fn own(&self) -> &PartSet
+        ensures { result.now ≡ self.now.own }
+    {
+        self.standing.own()
+    }
+
+    /// The name of the client's group.
+    pub(crate) fn group(&self) -> &str
+        ensures { result.now ≡ self.now.settings.group }
+    {
+        self.group.as_str()
+    }
+
+    /// The number of the client's latest request, 0 before the first.
+    pub(crate) fn requests(&self) -> u32
+        ensures { result ≡ self.now.number }
+    {
+        self.requests
+    }
+
+    /// Asks, and gives the request. A client that is refused is as it was.
+    pub(crate) fn ask(&mut self, alloc: Global, ask: Ask) -> Result<Frame, WorldFault>
+        ensures asks { IfOk result (λ body. AsksWithin self.old (ask_value ask) body self.new) }
+        ensures fault { IfErr result (λ fault. CannotAsk self.old (ask_value ask) fault) }
+        ensures unchanged { OnErr result (self.new ≡ self.old) }
+    {
+        let (standing, asked) = mem::replace(&mut self.standing, Standing::nobody(alloc)).ask(ask);
+        put(&mut self.standing, standing);
+        let frame = asked?;
+        self.requests += 1;
+        Ok(Frame::of(frame))
+    }
+
+    /// Takes a reply, and says whether it is one to the request for which the client waits. Where it isn't, and where
+    /// memory is short, the client is as it was.
+    pub(crate) fn take(&mut self, alloc: Global, body: &[u8]) -> Result<bool, AllocError>
+        ensures { TakesReply self.old body.now result self.new }
+    {
+        let (standing, taken) = mem::replace(&mut self.standing, Standing::nobody(alloc)).take(
+            body,
+        );
+        put(&mut self.standing, standing);
+        taken
+    }
+
+    /// Waits no longer, and says whether the client did. Takes no memory.
+    pub(crate) fn give_up(&mut self, alloc: Global) -> bool
+        ensures waited { result ≡ self.old.waits }
+        ensures after { self.new ≡ (if self.old.waits then after_giving_up self.old else self.old) }
+    {
+        let (standing, waited) = mem::replace(
+            &mut self.standing,
+            Standing::nobody(alloc),
+        ).give_up();
+        put(&mut self.standing, standing);
+        waited
+    }
+
+    /// Releases a partition, and says whether the client may release any. Takes no memory.
+    pub(crate) fn release(&mut self, alloc: Global, p: &Partition) -> bool
+        ensures may { result ≡ may_release self.old }
+        ensures after { self.new ≡ (if may_release self.old then after_release self.old p.now else self.old) }
+    {
+        let (standing, may) = mem::replace(&mut self.standing, Standing::nobody(alloc)).release(p);
+        put(&mut self.standing, standing);
+        may
+    }
+
+    /// A commit of these offsets under a number, with copies of what the client is now.
+    pub(crate) fn commit<'a>(
+        &'a self,
+        alloc: Global,
+        number: u32,
+        topics: Array<CommitRequestTopic<'a>>,
+    ) -> Result<Commit, WorldFault>
+        requires number { number ≤ GREATEST_NUMBER }
+        requires topics { All HasShortTopic (map commit_request_topic_value topics) }
+        ensures made { IfOk result (λ k. IsCommitOf self.now number (map commit_request_topic_value topics.entry) k) }
+        ensures fault { IfErr result (λ fault. CannotCommit self.now number (map commit_request_topic_value topics.entry) fault) }
+    {
+        let frame = self.standing.commit(number, topics)?;
+        let commit = Commit::of(
+            alloc,
+            Frame::of(frame),
+            self.group.as_str(),
+            self.standing.id(),
+            self.standing.epoch(),
+            self.standing.own(),
+        )?;
+        Ok(commit)
+    }
+}
+
+/// Puts a standing into a place that somebody holds.
+fn put(place: &mut Standing, standing: Standing)
+    ensures { place.new ≡ standing }
+{
+    drop(mem::replace(place, standing));
+}
