@@ -1,9 +1,8 @@
 -- Which commands words spell.
-use Rattle.std.proofs.Common.{◌≡◌, ◌≢◌, ◌⊎◌, inl, inr, Ok, Err, Result, IfOk, IfSome, IfNone, ℕ, suc, pos, ◌+◌, ◌<◌, ◌≤◌, ◌^◌, min, List, [], ◌∷◌, ◌++◌, length, map, take, drop, get_or, Bor, Option, Some, None, codes, decimal, refl, sym, ap, ◌∙◌, subst, arith, length-append, append-nil, append_assoc}
+use Rattle.std.proofs.Common.{◌≡◌, ◌≢◌, ◌⊎◌, inl, inr, Ok, Err, Result, IfOk, IfSome, IfNone, ℕ, pos, ◌<◌, ◌≤◌, ◌^◌, min, List, [], ◌∷◌, ◌++◌, length, map, get_or, Bor, Option, Some, None, codes, decimal, refl, sym, ap, ◌∙◌, subst, arith, append-nil, append_assoc}
 use Rattle.std.specs.Prelude.{ℤ, ok_or, is_ok, IsOk, MatchResult}
 use Rattle.std.proofs.lemmas.Bool.{false≢true}
 use Rattle.std.proofs.lemmas.Fmt.{decimal_injective}
-use Rattle.uuid.specs.Text.{parsed}
 use Rattle.group_types.specs.declared.stamp.Stamp.{Stamp}
 use Rattle.group_types.specs.Topics.{Topics}
 use Rattle.topic_meta.specs.declared.image_fault.ImageFault.{ImageFault}
@@ -16,8 +15,7 @@ use Rattle.scenario_cli.specs.Lines.{fed}
 use Rattle.scenario_cli.specs.Stamps.{stamp_of}
 use Rattle.scenario_cli.specs.Requests.{BytesStep, PrintsAnswer, text_of}
 use Rattle.scenario_cli.specs.Runs.{Prints}
-use Rattle.scenario_cli.specs.Words.{IsName}
-use Rattle.scenario_cli.specs.Commands.{SpellsTopic, SpellTopics, SpellImage, Command, Image, Now, Stamped, Request, SpellCommand, IsCommand, DoesCommand, one_more}
+use Rattle.scenario_cli.specs.Commands.{SpellsTopic, SpellTopics, Image, Now, Stamped, Request, Tick, IsCommand, DoesCommand, one_more}
 
 -- ---- topics
 
@@ -284,3 +282,4 @@ not_image words list fault topics (inr bad) other (Image es, spelled) =
 not_image words list fault topics (inr bad) other (Now moment, spelled) = absurd (omega (arith, ap first_byte spelled.1))
 not_image words list fault topics (inr bad) other (Stamped stamp, spelled) = absurd (omega (arith, ap first_byte spelled.2))
 not_image words list fault topics (inr bad) other (Request bytes, spelled) = absurd (omega (arith, ap first_byte spelled.1))
+not_image words list fault topics (inr bad) other (Tick, spelled) = absurd (omega (arith, ap first_byte spelled))

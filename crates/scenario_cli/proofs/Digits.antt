@@ -1,5 +1,5 @@
 -- Bytes that are spelled in hex, two digits each.
-use Rattle.std.proofs.Common.{All, get_or, Bool, true, false, IfOk, ◌==◌, ◌≡◌, ◌≢◌, ◌⊎◌, inl, inr, ℕ, ◌+◌, ◌*◌, ◌%◌, ◌<◌, ◌≤◌, List, [], ◌∷◌, length, Option, Some, None, Result, Ok, Err, unwrap_or, refl, sym, ap, ◌∙◌, subst, arith}
+use Rattle.std.proofs.Common.{All, get_or, Bool, true, false, IfOk, ◌==◌, ◌≡◌, ◌≢◌, ◌⊎◌, inl, inr, ℕ, ◌+◌, ◌*◌, ◌<◌, ◌≤◌, List, [], ◌∷◌, length, Option, Some, None, Result, Ok, Err, unwrap_or, refl, sym, ap, ◌∙◌, subst, arith}
 use Rattle.std.specs.Prelude.{IsErr, IfSome}
 use Rattle.std.specs.List.{AllPass, join_with_byte}
 use Rattle.std.specs.Str.{IsAscii}
@@ -12,8 +12,8 @@ use Rattle.std.proofs.lemmas.Str.Ascii.{IsAscii-nil, IsAscii-cons}
 use Rattle.hex.proofs.HexLemmas.{decode_of-ok}
 use Rattle.uuid.specs.Text.{by_index}
 use Rattle.uuid.proofs.TextLemmas.{by_index_at}
-use Rattle.hex.specs.Hex.{hex_digit_value, is_hex_digit, digit_or_error, pair_value, decode_of, decode_pairs, ◌>>=◌}
-use Rattle.scenario_cli.specs.Words.{digit_value, is_space, words_of, IsLine}
+use Rattle.hex.specs.Hex.{hex_digit_value, is_hex_digit, digit_or_error, pair_value, decode_of, ◌>>=◌}
+use Rattle.scenario_cli.specs.Words.{digit_value, is_space, words_of}
 use Rattle.scenario_cli.specs.FrameLines.{IsFrameLine, SpellsBytes}
 use Rattle.hex.specs.declared.error.FromHexError.{FromHexError}
 use Rattle.hex.specs.declared.error.FromHexError.TheVariants.{InvalidHexCharacter}

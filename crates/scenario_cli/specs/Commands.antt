@@ -1,13 +1,14 @@
 -- What the lines of `coord reply` ask, and what each does. The forms are this program's own.
-use Rattle.std.specs.Prelude.{◌≡◌, ◌≢◌, ℕ, pos, ◌+◌, ◌-◌, ◌^◌, ◌<◌, min, List, [], ◌∷◌, Some, None, codes, decimal, Ok}
+use Rattle.std.specs.Prelude.{◌≡◌, ℕ, pos, ◌+◌, ◌-◌, ◌^◌, ◌<◌, min, List, [], ◌∷◌, Some, None, codes, decimal, Ok}
 use Rattle.std.specs.declared.alloc.Global.{Global}
 use Rattle.hex.specs.Hex.{decode_of}
 use Rattle.uuid.specs.Text.{parsed}
 use Rattle.group_types.specs.declared.stamp.Stamp.{Stamp}
 use Rattle.topic_meta.specs.Images.{Entry, first_fault, topics_of}
 use Rattle.coord_node.specs.Coordinator.{Answer, opening}
+use Rattle.coord_node.specs.Coordinator as coordinator
+use Rattle.coord_node.specs.Steps.{Step}
 use Rattle.scenario_cli.specs.declared.interpreter.Interpreter.{Interpreter}
-use Rattle.scenario_cli.specs.declared.stamps.Stamps.{Stamps}
 use Rattle.scenario_cli.specs.Lines.{fed}
 use Rattle.scenario_cli.specs.Words.{IsLine, IsName, words_of}
 use Rattle.scenario_cli.specs.Stamps.{stamp_of}
@@ -37,12 +38,13 @@ pub record SpellImage (words : List (List ℕ)) (list : List Entry) : Type 0 whe
   pub topics : SpellTopics words list
   pub sound : first_fault list ≡ None
 
--- what a line asks: another image, another moment, the stamp of the next request, or the answer to bytes
+-- what a line asks: another image, another moment, the stamp of the next request, the answer to bytes, or a tick at the moment
 pub data Command : Type 0 where
   Image : List Entry → Command
   Now : ℕ → Command
   Stamped : Stamp → Command
   Request : List ℕ → Command
+  Tick : Command
 
 -- the words that ask it
 abbrev pub SpellCommand : List (List ℕ) → Command → Type 0
@@ -52,6 +54,7 @@ SpellCommand words (Stamped stamp) =
     (stamp.connection < 2 ^ 64) × (stamp.frame < 2 ^ 64)
     × (words ≡ codes "stamp" ∷ decimal stamp.connection ∷ decimal stamp.frame ∷ [])
 SpellCommand words (Request bytes) = (word : List ℕ) × (words ≡ codes "req" ∷ word ∷ []) × (decode_of word ≡ Ok bytes)
+SpellCommand words Tick = words ≡ codes "tick" ∷ []
 
 -- how many request lines there were with one more, as far as is counted
 abbrev pub one_more : ℕ → ℕ
@@ -66,6 +69,11 @@ Does (Request bytes) old new text =
     (answer : Answer)
     × BytesStep old.node bytes (stamp_of old.stamps.given (one_more old.stamps.requests)) old.now answer new.node
     × (new ≡ record old { node = new.node; stamps = record { given = None; requests = one_more old.stamps.requests } })
+    × (text ≡ fed (text_of answer))
+Does Tick old new text =
+    (answer : Answer)
+    × Step old.node (coordinator.Tick old.now) answer new.node
+    × (new ≡ record old { node = new.node })
     × (text ≡ fed (text_of answer))
 
 -- before the first line: a node with no groups and no topics, whose salt is 0, at the moment 0, and no stamp given

@@ -1,12 +1,16 @@
 //! The lines of `coord reply`, each as one method.
 ghost use Rattle.std.specs.Prelude.{◌≡◌, ◌≢◌, List, [], ◌∷◌, ◌++◌, map, codes, IfErr, IfOk, OnOk, OnErr};
 ghost use Rattle.topic_meta.specs.Images.{Entry, entry_of, entries_of};
+ghost use Rattle.coord_node.specs.Coordinator.{Done};
+ghost use Rattle.scenario_cli.specs.Lines.{fed};
 ghost use Rattle.scenario_cli.specs.Printing.{line_of};
+ghost use Rattle.scenario_cli.specs.Requests.{text_of};
 ghost use Rattle.scenario_cli.specs.Commands.{DoesReplyLine, IsReplyLine, SpellTopics};
 
 use crate::driver::LineWorker;
 use crate::fault::LineFault;
 use crate::output::Output;
+use crate::page::Page;
 use crate::stamps::Stamps;
 use crate::{frame, words};
 use coord_node::{Answered, Node};
@@ -68,6 +72,7 @@ impl Interpreter {
             "now" => self.now(arguments),
             "stamp" => self.stamp(arguments),
             "req" => self.request_line(arguments, output),
+            "tick" => self.tick(arguments, output),
             _ => Err(LineFault::BadLine),
         }
     }
@@ -126,6 +131,21 @@ impl Interpreter {
             return Err(LineFault::BadLine);
         };
         self.request(frame, output)
+    }
+
+    /// `tick` removes the members whose deadline has come at the moment, and prints how many. Where memory is short for the text,
+    /// they are removed.
+    fn tick(&mut self, arguments: &[&str], output: &mut Output) -> Result<(), LineFault>
+        ensures printed { OnOk result (Prints (DoesCommand (codes "tick" ∷ map (λ word. word.now) arguments.now) self.old self.new) output.old output.new) }
+        ensures refused { result ≡ Err LineFault.BadLine → ¬ IsCommand (codes "tick" ∷ map (λ word. word.now) arguments.now) }
+        ensures err { OnErr result (output.new ≡ output.old) }
+    {
+        if !arguments.is_empty() {
+            return Err(LineFault::BadLine);
+        }
+        let removed = self.node.tick(self.now);
+        print_removed(self.alloc, removed, output)?;
+        Ok(())
     }
 
     /// `req HEX` prints the frame of the reply, or `close`.
@@ -193,6 +213,16 @@ fn print(
         Answered::Closes => output.line(CLOSE)?,
     }
     Ok(())
+}
+
+/// Prints how many members a tick removed.
+fn print_removed(alloc: Global, removed: usize, output: &mut Output) -> Result<(), AllocError>
+    ensures ok { OnOk result (output.new ≡ output.old ++ fed (text_of (Done removed))) }
+    ensures err { OnErr result (output.new ≡ output.old) }
+{
+    let mut page = Page::new(alloc);
+    page.number("removed", removed)?;
+    output.text(page.as_str())
 }
 
 /// The fault of a line whose topics make no image.

@@ -8,8 +8,9 @@ use std::alloc::Global;
 use std::collections::hash_map::RandomState;
 use std::io::{Read, Write};
 
-/// Does the lines of the reader in order: `image`, `now`, `stamp` and `req`, each with its arguments. What a request is
-/// answered is printed (KIP-848; Kafka protocol guide). The node begins with no groups and no topics, at the moment 0.
+/// Does the lines of the reader in order: `image`, `now`, `stamp`, `req` and `tick`, each with its arguments. What a request is
+/// answered is printed, and how many members a tick removes (KIP-848; Kafka protocol guide). The node begins with no groups
+/// and no topics, at the moment 0.
 ///
 /// Gives the program's status, as [`driver::run`] does.
 pub fn reply_lines<R: Read, W: Write, E: Write>(

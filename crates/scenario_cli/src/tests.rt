@@ -1,6 +1,7 @@
 //! Tests of whole runs, over readers and writers in memory. The worked examples stand in tables of text.
 
 mod command_lines;
+mod commits_and_ticks;
 mod frames;
 mod replies;
 mod sink;

@@ -149,7 +149,7 @@ static STREAMS: [Row; 15] = [
     Row {
         name: "a write that fails before a bad line ends the run",
         words: Some("reply"),
-        input: &[(2, b"req 00000000\n"), (1, b"tick\n")],
+        input: &[(2, b"req 00000000\n"), (1, b"tock\n")],
         room: 10,
         status: 1,
         printed: &[(1, b"close\nclos")],
@@ -167,7 +167,7 @@ static STREAMS: [Row; 15] = [
     },
     Row {
         name: "a write that fails at a frame before a bad line ends the run",
-        input: &[(1, b"00\n00000000\ntick\n")],
+        input: &[(1, b"00\n00000000\ntock\n")],
         room: 10,
         status: 1,
         printed: &[(1, b"fault size")],
@@ -222,7 +222,7 @@ static LONG: [Row; 5] = [
     Row {
         name: "a bad line after ten thousand has its number",
         words: Some("reply"),
-        input: &[(10_000, b"now 0\n"), (1, b"req 00\n"), (1, b"tick\n")],
+        input: &[(10_000, b"now 0\n"), (1, b"req 00\n"), (1, b"tock\n")],
         status: 2,
         printed: &[(1, b"close\n")],
         told: "bad line 10002\n",

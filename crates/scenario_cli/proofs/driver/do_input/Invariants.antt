@@ -1,6 +1,4 @@
-use Rattle.std.specs.declared.iter.Enumerate.{Enumerate}
 use Rattle.scenario_cli.specs.Lines.{lines_of}
-use Rattle.scenario_cli.specs.declared.lines.Lines.{Lines}
 use Rattle.scenario_cli.proofs.Running.{HasDone}
 use Rattle.scenario_cli.proofs.driver.do_input.Given as goal
 

@@ -1,4 +1,4 @@
-use Rattle.std.proofs.Common.{rules, Some, sym, ◌≡◌, ◌≢◌, ◌<◌, ℕ, ◌^◌, decimal, pos, to_z, of_z, w32, arith}
+use Rattle.std.proofs.Common.{rules, Some, sym, ◌≡◌, ◌<◌, ℕ, ◌^◌, decimal, pos, to_z, of_z, w32, arith}
 use borrow.Author.Tests.{ltb-true, ltb-false}
 use Rattle.uuid.specs.Text.{parsed}
 use Rattle.topic_meta.specs.Images.{entry_of}

@@ -1,8 +1,8 @@
-use Rattle.std.proofs.Common.{rules, ◌≡◌, Err, ap, ◌∙◌, sym, subst}
+use Rattle.std.proofs.Common.{rules, ◌≡◌, Err, ◌∙◌}
 use Rattle.std.specs.Slice.Iter.{chunks_rest, chunks_size}
 use Rattle.topic_meta.specs.Images.{entries_of}
 use Rattle.scenario_cli.specs.declared.fault.LineFault.TheVariants.{BadLine}
-use Rattle.scenario_cli.proofs.Commanded.{HasTopics, HasTopics-none, chunk_more, chunk_bad, all_topics, texts}
+use Rattle.scenario_cli.proofs.Commanded.{chunk_more, chunk_bad, all_topics}
 use Rattle.scenario_cli.proofs.interpreter.topics_of.Goals as goal
 
 pub returns-in_err-topic_of-clause-refused : goal.returns-in_err-topic_of-clause-refused

@@ -1,4 +1,4 @@
-use Rattle.std.proofs.Common.{◌≡◌, ◌≢◌, [], length, ap, arith}
+use Rattle.std.proofs.Common.{◌≢◌, []}
 use Rattle.scenario_cli.proofs.Digits.{if_ok_by, digits_are_a_line, no_frame_line, is_not_empty}
 use Rattle.scenario_cli.proofs.words.bytes_of_line.Goals as goal
 

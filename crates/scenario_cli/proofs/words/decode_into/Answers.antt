@@ -1,4 +1,4 @@
-use Rattle.std.proofs.Common.{◌≡◌, ◌≤◌, ◌⊎◌, inl, inr, ◌*◌, ◌+◌, slice_index, ap, arith}
+use Rattle.std.proofs.Common.{◌≤◌, ◌⊎◌, inl, inr, ◌*◌, ◌+◌, slice_index, ap, arith}
 use Rattle.std.specs.Prelude.{is_err}
 use Rattle.hex.proofs.Pairs.{decode_step, decode_err, decode_done}
 use Rattle.scenario_cli.proofs.Digits.{pair_ok, pair_bad}

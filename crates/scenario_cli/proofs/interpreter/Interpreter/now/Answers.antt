@@ -1,6 +1,4 @@
-use Rattle.std.proofs.Common.{◌≡◌, ◌<◌, ◌^◌, decimal, subst, sym}
-use Rattle.scenario_cli.specs.declared.interpreter.Interpreter.{Interpreter}
-use Rattle.scenario_cli.specs.Commands.{DoesCommand}
+use Rattle.std.proofs.Common.{◌≡◌, ◌<◌, ◌^◌, decimal}
 use Rattle.scenario_cli.proofs.Commanded.{now_done, found_is, word_at}
 use Rattle.scenario_cli.proofs.interpreter.Interpreter.now.Goals as goal
 
