@@ -1,5 +1,6 @@
 //! Tables of questions and the answers that are wanted: one module for each library, and what they share.
 
+mod commits;
 mod fields;
 mod grants;
 mod groups;

@@ -1,5 +1,6 @@
 //! Heartbeats at a group, with answers worked out by hand from KIP-848.
 
+use crate::tests::commits;
 use crate::tests::tables::{self, cut, part_words};
 use flex_wire::TaggedFields;
 use group_core::{
@@ -7,6 +8,7 @@ use group_core::{
     first_joins_are_answered, heartbeats_have_one_answer,
 };
 use group_types::EpochNumber;
+use group_types::limits::LONGEST_STRING;
 use kip_msgs::{Array, TopicPartitions};
 use std::alloc::{AllocError, Global};
 use std::collections::hash_map::RandomState;
@@ -20,9 +22,12 @@ use uuid::Uuid;
 /// - `join ID TOPICS`, `join ID TOPICS ASSIGNOR`: a join; `-` is no id or no topic.
 /// - `beat ID EPOCH OWNED`: a heartbeat that reports these indexes of `t`, `-` for none of them, or nothing with `null`.
 /// - `leave ID`, `image COUNT`: a leave, and a topic that has grown.
+/// - `static ID INSTANCE`, `away ID INSTANCE`: a static member joins `t`, and goes away for a while.
+/// - `tick MS`: members whose deadline has come by this moment leave. Heartbeats come at 7 ms.
+/// - `commit ID EPOCH INDEXES`: offsets of these indexes of `t` are committed.
 ///
 /// The answer has for each heartbeat the error's name, `closes`, or the id, the member epoch and the partitions that are
-/// shown. Behind `|` stand the group epoch, the target's epoch and the number of members; for `a`, `b` and `c` the member epoch, the
+/// shown; for a tick how many members left; and for a commit the code of each index. Behind `|` stand the group epoch, the target's epoch and the number of members; for `a`, `b` and `c` the member epoch, the
 /// one before it and what the target has, `past` for a former member, or `-`; and for each partition its holder, and the epoch of the
 /// target under which it was granted.
 const GROUPS: &str = "
@@ -42,6 +47,11 @@ const GROUPS: &str = "
 0; join a t sticky; leave a = UnsupportedAssignor UnknownMemberId | 0 0 0 - - - - - -
 2147483646; join a t; join b t; leave a = a@2147483647:0,1 CoordinatorNotAvailable a@-1:null | 2147483647 2147483647 0 past - - - - -
 2147483646; join a t; beat a 2147483647 null; image 3; beat a 2147483647 null = a@2147483647:0,1 a@2147483647:null CoordinatorNotAvailable | 2147483647 2147483647 1 a@2147483647/0:0,1 - - a@2147483647 a@2147483647 -
+2147483646; join a t; image 3; beat a 2147483647 null; tick 45006; tick 45007 = a@2147483647:0,1 CoordinatorNotAvailable removed:0 removed:1 | 2147483647 2147483647 0 past - - - - -
+0; static a i; away a i; static b i; static c i; beat a 1 null = a@1:0,1 a@-2:null b@1:0,1 UnreleasedInstanceId UnknownMemberId | 1 1 1 past b@1/1:0,1 - b@1 b@1 -
+0; static a i; away a j; away a i; beat a 1 null; static a i = a@1:0,1 UnknownMemberId a@-2:null FencedMemberEpoch a@1:0,1 | 1 1 1 a@1/1:0,1 - - a@1 a@1 -
+0; static a i; join b t; away a i; beat b 2 null; tick 45007; beat b 2 null = a@1:0,1 b@2:- a@-2:null b@2:null removed:2 UnknownMemberId | 3 2 0 past past - - - -
+0; join a t; commit a 1 0,2,1; commit a 2 0; commit b 1 0; commit a -1 0; leave a; commit a -1 1; commit a 1 1 = a@1:0,1 codes:0,3,0 codes:113 codes:25 codes:113 a@-1:null codes:0 codes:25 | 2 1 0 past - - - - -
 2147483647; join a t; join a t range; join a t sticky = CoordinatorNotAvailable CoordinatorNotAvailable UnsupportedAssignor | 2147483647 2147483647 0 - - - - - -
 ";
 
@@ -125,10 +135,32 @@ fn take_step(
 ) -> Result<(), AllocError> {
     told.steps = told.steps.saturating_add(1);
     let (verb, words) = cut(step);
-    if verb == "image" {
-        told.image = image_of(alloc, tables::number(words))?;
-        return Ok(());
+    match verb {
+        "image" => {
+            told.image = image_of(alloc, tables::number(words))?;
+            Ok(())
+        }
+        "tick" => tick(told, tables::number(words), out),
+        "commit" => commits::commit(alloc, &mut told.group, &told.image, words, out),
+        _ => beat(alloc, told, verb, words, out),
     }
+}
+
+fn tick(told: &mut Told, millis: i32, out: &mut String) -> Result<(), AllocError> {
+    let removed = told
+        .group
+        .tick(Moment::of_millis(u64::from(millis.unsigned_abs())));
+    part_words(out)?;
+    write!(out, "removed:{removed}")
+}
+
+fn beat(
+    alloc: Global,
+    told: &mut Told,
+    verb: &str,
+    words: &str,
+    out: &mut String,
+) -> Result<(), AllocError> {
     let request = request_of(alloc, verb, words)?;
     let mut frame = Vec::new(alloc);
     let outcome = heartbeat(alloc, told, &request, &mut frame, out)?;
@@ -150,6 +182,17 @@ fn request_of<'a>(
             rebalance_timeout_ms: 60_000,
             subscribed_topic_names: Some(names_of(alloc, first)?),
             server_assignor: Some(second).filter(|name| !name.is_empty()),
+            ..empty
+        }),
+        "static" => Ok(HeartbeatRequest {
+            instance_id: Some(first),
+            rebalance_timeout_ms: 60_000,
+            subscribed_topic_names: Some(names_of(alloc, "t")?),
+            ..empty
+        }),
+        "away" => Ok(HeartbeatRequest {
+            member_epoch: -2,
+            instance_id: Some(first),
             ..empty
         }),
         "beat" => Ok(HeartbeatRequest {
@@ -220,6 +263,9 @@ fn heartbeat<'a>(
         frame: told.steps,
     };
     let now = Moment::of_millis(7);
+    if LONGEST_STRING < request.member_id.len() {
+        return Ok(Outcome::Closes);
+    }
     let before = numbers_of(&told.group);
     if let Ok(outcome) = told
         .group

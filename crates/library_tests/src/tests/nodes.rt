@@ -47,6 +47,14 @@ const INVALID: &[u8] =
     b"\x00\x00\x00\x26\x00\x00\x00\x07\x00\x00\x00\x00\x00\x00\x2a\x10invalid request\
 \x00\x00\x00\x00\x00\x00\x00\x00\x00\xff\x00";
 
+/// The frame that answers the commit with no error: "OffsetCommit Response v9" with partition 1 of topic `t`.
+const TAKEN: &[u8] = b"\x00\x00\x00\x16\x00\x00\x00\x08\x00\x00\x00\x00\x00\
+\x02\x02t\x02\x00\x00\x00\x01\x00\x00\x00\x00\x00";
+
+/// The same with code 69: the group isn't there.
+const NOT_FOUND: &[u8] = b"\x00\x00\x00\x16\x00\x00\x00\x08\x00\x00\x00\x00\x00\
+\x02\x02t\x02\x00\x00\x00\x01\x00\x45\x00\x00\x00";
+
 const NO_GROUP: &str = "no group g";
 
 /// The frame that answers a second join beside the first member: member id 2, epoch 2, and no partition yet.
@@ -84,15 +92,15 @@ static ROWS: [Row; 5] = [
         group: BOTH,
     },
     Row {
-        name: "a commit closes and changes nothing",
-        bodies: &[(JOIN, Answered::Replied), (COMMIT, Answered::Closes)],
-        out: &[REPLY],
+        name: "a commit at its member's epoch is taken",
+        bodies: &[(JOIN, Answered::Replied), (COMMIT, Answered::Replied)],
+        out: &[REPLY, TAKEN],
         group: FIRST,
     },
     Row {
         name: "a commit of a group that isn't there",
-        bodies: &[(COMMIT, Answered::Closes)],
-        out: &[],
+        bodies: &[(COMMIT, Answered::Replied)],
+        out: &[NOT_FOUND],
         group: NO_GROUP,
     },
     Row {
