@@ -1,9 +1,12 @@
 //! Who owns which partition.
 
-ghost use Rattle.std.specs.Prelude.{◌≡◌, ◌<◌, ◌∷◌, IfSome, IsPermutation, MatchOption, vec_capacity, vec_len};
+ghost use Rattle.std.specs.Prelude.{◌≡◌, ◌<◌, ◌∷◌, Err, IfSome, IsPermutation, MatchOption, Some, false, vec_capacity, vec_len};
+ghost use Rattle.std.specs.Bool.{OnTrue};
+ghost use Rattle.std.specs.Ordering.{is_lt};
 ghost use Rattle.std.specs.FinMap as finite;
 ghost use Rattle.group_types.specs.declared.partition.Partition.{Partition as Key};
 ghost use Rattle.group_types.specs.Owners.{IsShare, renamed, without_owner};
+ghost use Rattle.group_types.specs.Text.{Text, text_cmp};
 ghost use Rattle.range_assign.specs.Shares.{AreInIdOrder, AreShares, HasNoShare, IdsRise, IsPlace, TakesShare, share_in, shares_in, spread_of};
 
 use group_types::{MemberId, PartSet};
@@ -69,6 +72,30 @@ impl Spread {
         }
     }
 
+    /// Whether no member owns a partition whose id is this one or behind it: a walk over members in the order of their ids
+    /// can end there. It may be false where that is so. Takes no memory.
+    pub fn none_from(&self, id: &str) -> bool
+        ensures { OnTrue result ((m : Text) (p : Key) → is_lt (text_cmp m id.now) ≡ false → ¬ (finite.get self.now p ≡ Some m)) }
+    {
+        match self.shares.last() {
+            Some(share) => share.id.compare(id).is_lt(),
+            None => true,
+        }
+    }
+
+    /// The partitions of the member with this id, as [`Spread::share_of`] tells, and where the share after them is. A
+    /// member is found without a search where its share, or the place where it would be, is the one that was told for the
+    /// member before it: so the members of a group are looked up in the order of their ids. Takes no memory.
+    pub fn share_near(&self, id: &str, near: usize) -> Option<(&PartSet, usize)>
+        ensures { MatchOption result ((p : Key) → ¬ (finite.get self.now p ≡ Some id.now))
+            (λ found. IsShare self.now id.now found.0.now) }
+    {
+        match place_near(&self.shares, id, near) {
+            Ok(place) => Some((&self.shares[place].set, place + 1)),
+            Err(_) => None,
+        }
+    }
+
     /// Takes the member with this id out: its partitions have no owner any more. Takes no memory.
     pub fn drop_member(&mut self, id: &str)
         ensures { self.new ≡ without_owner self.old id.now }
@@ -125,4 +152,32 @@ fn place_of(shares: &[Share], id: &str) -> Result<usize, usize>
     ensures { IsPlace (shares_in shares.now) id.now result }
 {
     shares.binary_search_by(|share| share.id.compare(id))
+}
+
+/// The place of the share with this id, or the place where such a share goes: without a search where that is `near`.
+fn place_near(shares: &[Share], id: &str, near: usize) -> Result<usize, usize>
+    requires { IdsRise (shares_in shares.now) }
+    ensures { IsPlace (shares_in shares.now) id.now result }
+{
+    if near < shares.len() && shares[near].id.is(id) {
+        return Ok(near);
+    }
+    if is_gap(shares, id, near) {
+        return Err(near);
+    }
+    place_of(shares, id)
+}
+
+/// Whether a share with this id goes to the place.
+fn is_gap(shares: &[Share], id: &str, place: usize) -> bool
+    requires { IdsRise (shares_in shares.now) }
+    ensures { OnTrue result (IsPlace (shares_in shares.now) id.now (Err place)) }
+{
+    if place > shares.len() {
+        return false;
+    }
+    if place > 0 && !shares[place - 1].id.compare(id).is_lt() {
+        return false;
+    }
+    place == shares.len() || shares[place].id.compare(id).is_gt()
 }

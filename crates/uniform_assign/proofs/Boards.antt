@@ -11,30 +11,35 @@ use Rattle.group_types.specs.Assignors.{Subscriber, subscribers_of}
 use Rattle.group_types.specs.Uniform.{in_partition_order}
 use Rattle.uniform_assign.specs.declared.board.Place.{Place}
 use Rattle.uniform_assign.specs.declared.board.Board.{Board}
-use Rattle.uniform_assign.specs.Boards.{AreTakersOf, IsBoard, shown_place}
+use Rattle.uniform_assign.specs.Boards.{AreTakersOf, IsBare, IsBoard, members_on, shown_place}
 use Rattle.uniform_assign.specs.Drafts.{IsLeast}
 use Rattle.uniform_assign.proofs.Drawn.{AreApart}
 use Rattle.uniform_assign.proofs.Lists.{option_map-from, some_at, slice_get-map_at, slice_get-map_from}
 use Rattle.uniform_assign.proofs.Apart.{AreApart-view}
 
 -- what a board has at a place in partition order
+pub record IsPart (board : Board) (k : ℕ) (place : Place) : Type 0 where
+  pub topic : Text × Topic
+  pub is_topic : slice_get (finite.entries board.view.now) place.topic ≡ Some topic
+  pub is_part : slice_get (in_partition_order board.view.now) k ≡ Some (topic.0, place.partition)
+
+-- and who may take it
 pub record IsAt (board : Board) (k : ℕ) (place : Place) : Type 0 where
   pub topic : Text × Topic
   pub is_topic : slice_get (finite.entries board.view.now) place.topic ≡ Some topic
   pub is_part : slice_get (in_partition_order board.view.now) k ≡ Some (topic.0, place.partition)
   pub takers : Vec ℕ
   pub are_there : slice_get board.takers.items place.topic ≡ Some takers
-  pub are_takers : AreTakersOf board.subs.now topic.0 takers.items
+  pub are_takers : AreTakersOf (members_on board) topic.0 takers.items
 
-module _ (board : Board) (is : IsBoard board) where
-  pub at_place : (k : ℕ) (place : Place) → slice_get board.places.items k ≡ Some place → IsAt board k place
-  at_place k place here =
+module _ (board : Board) (is : IsBare board) where
+  pub part_at : (k : ℕ) (place : Place) → slice_get board.places.items k ≡ Some place → IsPart board k place
+  part_at k place here =
       let topics = finite.entries board.view.now in
       let shown = slice_get-map_at (shown_place topics) board.places.items k place here in
       let (x, is_x, same) = slice_get-map_from Some (in_partition_order board.view.now) k (shown_place topics place) (ap (λ xs. slice_get xs k) (sym is.places) ∙ shown) in
       let (t, is_t, same_t) = option_map-from (λ (t : Text × Topic). (t.0, place.partition)) (slice_get topics place.topic) x (sym same) in
-      let (v, is_v, takers) = is.takers.there place.topic t is_t in
-      record { topic = t; is_topic = is_t; is_part = is_x ∙ ap Some (sym same_t); takers = v; are_there = is_v; are_takers = takers }
+      record { topic = t; is_topic = is_t; is_part = is_x ∙ ap Some (sym same_t) }
 
   pub as_many_places : length board.places.items ≡ length (in_partition_order board.view.now)
   as_many_places =
@@ -43,6 +48,12 @@ module _ (board : Board) (is : IsBoard board) where
 
   pub parts_are_apart : AreApart (in_partition_order board.view.now)
   parts_are_apart = AreApart-view board.view.now is.sound
+
+pub at_place : (board : Board) → IsBoard board → (k : ℕ) (place : Place) → slice_get board.places.items k ≡ Some place → IsAt board k place
+at_place board is k place here =
+    let part = part_at board is.bare k place here in
+    let (v, is_v, takers) = is.takers.there place.topic part.topic part.is_topic in
+    record { topic = part.topic; is_topic = part.is_topic; is_part = part.is_part; takers = v; are_there = is_v; are_takers = takers }
 
 -- ---- takers
 
@@ -75,12 +86,12 @@ all_takers subs name takers are k d within =
 
 -- the takers that were read at a place
 pub takers_read : (board : Board) (k : ℕ) (place : Place) (at : IsAt board k place) (v : Vec ℕ) (xs : List ℕ) → v ≡ get_or board.takers.items place.topic v → xs ≡ v.items
-    → (slice_get board.takers.items place.topic ≡ Some v) × AreTakersOf board.subs.now at.topic.0 xs
+    → (slice_get board.takers.items place.topic ≡ Some v) × AreTakersOf (members_on board) at.topic.0 xs
 takers_read board k place at v xs read items =
     let within = slice_get_within board.takers.items place.topic at.takers at.are_there in
     let there = slice_get_read board.takers.items (length board.takers.items) place.topic v refl within read in
     let same : at.takers ≡ v = same_Some at.takers v (sym at.are_there ∙ there) in
-    (there, subst (AreTakersOf board.subs.now at.topic.0) (ap (λ (w : Vec ℕ). w.items) same ∙ sym items) at.are_takers)
+    (there, subst (AreTakersOf (members_on board) at.topic.0) (ap (λ (w : Vec ℕ). w.items) same ∙ sym items) at.are_takers)
 
 -- the least taker is a member
 pub least-within : (subs : List Subscriber) (name : Text) (counts takers : List ℕ) (m : ℕ) → AreTakersOf subs name takers → IsLeast counts takers m → (s : Subscriber) × (slice_get subs m ≡ Some s)
@@ -92,7 +103,7 @@ pub place_here : (items places : List Place) (k : ℕ) (place : Place) → items
 place_here items places k place same within read = ap (λ xs. slice_get xs k) (sym same) ∙ slice_get_read items (length items) k place refl within read
 
 -- each of a board's takers has a place among the members
-pub takers_within : (board : Board) → IsBoard board → (k : ℕ) (v : Vec ℕ) → slice_get board.takers.items k ≡ Some v → All (λ t. t < length board.subs.now) v.items
+pub takers_within : (board : Board) → IsBoard board → (k : ℕ) (v : Vec ℕ) → slice_get board.takers.items k ≡ Some v → All (λ t. t < length (members_on board)) v.items
 takers_within board is k v here =
     let topics = finite.entries board.view.now in
     let low = slice_get_within board.takers.items k v here in
@@ -100,4 +111,4 @@ takers_within board is k v here =
     let (topic, is_topic) = some_at topics k (omega arith) in
     let (w, is_w, of) = is.takers.there k topic is_topic in
     let same : w ≡ v = same_Some w v (sym is_w ∙ here) in
-    subst (λ (x : Vec ℕ). All (λ t. t < length board.subs.now) x.items) same (all_takers board.subs.now topic.0 w.items of)
+    subst (λ (x : Vec ℕ). All (λ t. t < length (members_on board)) x.items) same (all_takers (members_on board) topic.0 w.items of)

@@ -10,12 +10,12 @@ use Rattle.group_types.specs.Owners.{Spread}
 use Rattle.group_types.specs.Uniform.{AreFilled, Fills, GoesTo, IsFewest, in_partition_order}
 use Rattle.uniform_assign.specs.declared.board.Board.{Board}
 use Rattle.uniform_assign.specs.declared.draft.Draft.{Draft}
-use Rattle.uniform_assign.specs.Boards.{IsBoard}
+use Rattle.uniform_assign.specs.Boards.{IsBare, members_on}
 use Rattle.uniform_assign.specs.Drafts.{IsDraft, drawn_on}
 use Rattle.uniform_assign.proofs.Boards.{parts_are_apart}
 use Rattle.uniform_assign.proofs.Drawn.{drawn-at, drawn-owner, drawn-set}
 use Rattle.uniform_assign.proofs.Made.{take-next}
-use Rattle.uniform_assign.proofs.Moves.{owner-at}
+use Rattle.uniform_assign.proofs.Shown.{owner-at}
 
 pub AreFilled-push : (subs : List Subscriber) (spread next new : Spread) (xs : List (Text × Partition)) (x : Text × Partition) → AreFilled subs spread xs next → Fills subs next x new → AreFilled subs spread (xs ++ x ∷ []) new
 AreFilled-push subs spread next new [] x same fills = (new, subst (λ s. Fills subs s x new) same fills, refl)
@@ -34,9 +34,9 @@ GoesTo-nobody : (spread new : Spread) (takers : List Subscriber) (p : Partition)
 GoesTo-nobody spread new [] p none same = same
 GoesTo-nobody spread new (m ∷ ms) p none same = cc
 
-module _ (board : Board) (draft : Draft) (is : IsBoard board) (are : IsDraft board draft) (k : ℕ) (x : Text × Partition) (is_x : slice_get (in_partition_order board.view.now) k ≡ Some x) where
+module _ (board : Board) (draft : Draft) (is : IsBare board) (are : IsDraft board draft) (k : ℕ) (x : Text × Partition) (is_x : slice_get (in_partition_order board.view.now) k ≡ Some x) where
   abbrev subs : List Subscriber
-  subs = board.subs.now
+  subs = members_on board
 
   abbrev spread : Spread
   spread = drawn_on board draft.owners.items

@@ -12,7 +12,8 @@ use Rattle.uniform_assign.specs.Boards.{IsBoard}
 use Rattle.uniform_assign.specs.Drafts.{IsDraft}
 use Rattle.uniform_assign.specs.Moves.{CanGive, IsEarlier, IsFirstAmong, IsFirstBelow, IsFirstOf, IsMoveOf, IsNext, IsNextBelow}
 use Rattle.uniform_assign.specs.Piles.{AreOfTopic, IsIn}
-use Rattle.uniform_assign.proofs.Moves.{can-within, can_give-owns, give-other, move-can}
+use Rattle.uniform_assign.proofs.Moves.{can-within, give-other, move-can}
+use Rattle.uniform_assign.proofs.Shown.{can_give-owns}
 
 module _ (board : Board) (draft : Draft) (is : IsBoard board) (are : IsDraft board draft) where
   -- ---- in a pile
@@ -48,8 +49,8 @@ module _ (board : Board) (draft : Draft) (is : IsBoard board) (are : IsDraft boa
   -- nothing else can move
   pub IsFirstAmong-all : (P : ℕ → Type 0) (from : ℕ) (o : Option Move) → ((k : ℕ) → k < length board.places.items → slice_get draft.owners.items k ≡ Some (Some from) → P k)
       → IsFirstAmong board draft from P o → IsFirstOf board draft from o
-  IsFirstAmong-all P from None all none = λ k _ can. none k (all k (can-within board draft is are from k can) (can_give-owns board draft is are from k can)) can
-  IsFirstAmong-all P from (Some m) all first = (first.0, first.1, λ k _ can. first.2 k (all k (can-within board draft is are from k can) (can_give-owns board draft is are from k can)) can)
+  IsFirstAmong-all P from None all none = λ k _ can. none k (all k (can-within board draft is are from k can) (can_give-owns board draft is.bare are from k can)) can
+  IsFirstAmong-all P from (Some m) all first = (first.0, first.1, λ k _ can. first.2 k (all k (can-within board draft is are from k can) (can_give-owns board draft is.bare are from k can)) can)
 
   -- ---- member by member
 
@@ -116,12 +117,12 @@ module _ (board : Board) (draft : Draft) (is : IsBoard board) (are : IsDraft boa
 
   -- every member was looked at
   pub IsNext-all : (n : ℕ) (o : Option Move) → length draft.counts.items ≤ n → IsNextBelow board draft n o → IsNext board draft (length board.places.items) o
-  IsNext-all n None all none = λ i k low can. none i k (let within = are.counts.within k i (can_give-owns board draft is are i k can) in omega arith) can
+  IsNext-all n None all none = λ i k low can. none i k (let within = are.counts.within k i (can_give-owns board draft is.bare are i k can) in omega arith) can
   IsNext-all n (Some m) all first = record {
     is_move = first.is_move;
     within = can-within board draft is are m.from m.partition (move-can board draft is are m first.is_move);
-    most = λ i k low can. first.most i k (let within = are.counts.within k i (can_give-owns board draft is are i k can) in omega arith) can;
-    first_member = λ i k low can early. first.first_member i k (let within = are.counts.within k i (can_give-owns board draft is are i k can) in omega arith) can early;
+    most = λ i k low can. first.most i k (let within = are.counts.within k i (can_give-owns board draft is.bare are i k can) in omega arith) can;
+    first_member = λ i k low can early. first.first_member i k (let within = are.counts.within k i (can_give-owns board draft is.bare are i k can) in omega arith) can early;
     first_partition = λ k low can. first.first_partition k can;
   }
 

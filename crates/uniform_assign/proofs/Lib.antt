@@ -8,13 +8,17 @@ pub mod Apart
 pub mod Counted
 pub mod Boards
 pub mod Counts
+pub mod Shown
 pub mod Moves
 pub mod Made
 pub mod FormerOwners
+pub mod LastOwner
 pub mod Kept
 pub mod Filled
+pub mod Settled
 pub mod Fewest
 pub mod Dealt
+pub mod Hands
 pub mod Heaps
 pub mod Piled
 pub mod Firsts

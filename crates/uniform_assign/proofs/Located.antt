@@ -16,9 +16,9 @@ use Rattle.group_types.specs.Uniform.{partitions_of}
 use Rattle.group_types.proofs.Orders.{text_cmp-IsAntisymmetric, text_cmp-itself}
 use Rattle.uniform_assign.specs.declared.board.Board.{Board}
 use Rattle.uniform_assign.specs.declared.board.Place.{Place}
-use Rattle.uniform_assign.specs.Boards.{IsBoard}
+use Rattle.uniform_assign.specs.Boards.{IsBare}
 use Rattle.uniform_assign.specs.Former.{AreFirsts}
-use Rattle.uniform_assign.proofs.Boards.{at_place, parts_are_apart}
+use Rattle.uniform_assign.proofs.Boards.{part_at, parts_are_apart}
 use Rattle.uniform_assign.proofs.Lists.{range-at, range-from, slice_get-append_cases, slice_get-append_left, slice_get-map_at, slice_get-map_from, some_at}
 
 append-at : {X : Type 0} (xs ys : List X) (j : ℕ) (x : X) → slice_get ys j ≡ Some x → slice_get (xs ++ ys) (length xs + j) ≡ Some x
@@ -81,23 +81,23 @@ pub record IsKnown (firsts : BTreeMap (List ℕ) ℕ) (p : Partition) (k : ℕ) 
   pub behind : first + index ≡ k
   pub is_first : get text_cmp firsts p.topic ≡ Some first
 
-module _ (board : Board) (is : IsBoard board) where
+module _ (board : Board) (is : IsBare board) where
   -- no two places have one partition
   pub places-apart : (j k : ℕ) (one other : Place) → slice_get board.places.items j ≡ Some one → slice_get board.places.items k ≡ Some other → one.partition ≡ other.partition → j ≡ k
   places-apart j k one other is_one is_other same =
-      let here = at_place board is j one is_one in
-      let there = at_place board is k other is_other in
+      let here = part_at board is j one is_one in
+      let there = part_at board is k other is_other in
       parts_are_apart board is j k (here.topic.0, one.partition) (there.topic.0, other.partition) here.is_part there.is_part same
 
   -- the place of a partition is its index behind its topic's first
   pub place-behind : (k : ℕ) (place : Place) → slice_get board.places.items k ≡ Some place → IsPlaceBehind board k place
   place-behind k place is_place =
-      let here = at_place board is k place is_place in
+      let here = part_at board is k place is_place in
       let behind = IsBehind-at (finite.entries board.view.now) k (here.topic.0, place.partition) here.is_part in
       let sum = behind.behind in
       let within = slice_get_within board.places.items k place is_place in
       let (zeroth, is_zeroth) = some_at board.places.items behind.first (omega arith) in
-      let there = at_place board is behind.first zeroth is_zeroth in
+      let there = part_at board is behind.first zeroth is_zeroth in
       let same : (there.topic.0, zeroth.partition) ≡ (here.topic.0, record { topic = place.partition.topic; index = pos 0 }) = same_Some _ _ (sym there.is_part ∙ behind.is_first) in
       record {
         first = behind.first;
@@ -127,7 +127,7 @@ module _ (board : Board) (is : IsBoard board) where
 abbrev pub AreFirstsTo : List Place → ℕ → BTreeMap (List ℕ) ℕ → Type 0
 AreFirstsTo places n firsts = (k : ℕ) (place : Place) → k < n → slice_get places k ≡ Some place → place.partition.index ≡ pos 0 → get text_cmp firsts place.partition.topic ≡ Some k
 
-module _ (board : Board) (is : IsBoard board) (n : ℕ) (here : Place) (is_here : slice_get board.places.items n ≡ Some here) (old new : BTreeMap (List ℕ) ℕ) (before : AreFirstsTo board.places.items n old) where
+module _ (board : Board) (is : IsBare board) (n : ℕ) (here : Place) (is_here : slice_get board.places.items n ≡ Some here) (old new : BTreeMap (List ℕ) ℕ) (before : AreFirstsTo board.places.items n old) where
   pub AreFirstsTo-next : here.partition.index ≡ pos 0 → Updates text_cmp old new here.partition.topic (Some n) → AreFirstsTo board.places.items (n + 1) new
   AreFirstsTo-next zeroth updates k place low is_place index = updates.0 place.partition.topic ∙ (elim (is_eq (text_cmp here.partition.topic place.partition.topic)) as (λ b. is_eq (text_cmp here.partition.topic place.partition.topic) ≡ b → cond b (Some n) (get text_cmp old place.partition.topic) ≡ Some k) [
     | true ↦ λ tie.

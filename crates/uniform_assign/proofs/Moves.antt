@@ -3,30 +3,24 @@ use Rattle.std.proofs.Common.{◌≡◌, ℕ, ◌<◌, ◌≤◌, ◌+◌, List,
 use Rattle.std.specs.Global.{Vec}
 use Rattle.std.specs.FinMap as finite
 use Rattle.std.specs.List.{Contains, slice_get}
-use Rattle.std.specs.Option.{option_and_then}
 use Rattle.std.proofs.lemmas.Option.{same_Some, slice_get_within}
 use Rattle.group_types.specs.declared.partition.Partition.{Partition}
 use Rattle.group_types.specs.Text.{Text}
 use Rattle.group_types.specs.Topics.{Topic, Topics}
 use Rattle.group_types.specs.Assignors.{Subscriber, subscribers_of}
 use Rattle.group_types.specs.Owners.{Spread}
-use Rattle.group_types.specs.Uniform.{AreMoves, IsFewest, IsLevel, IsNextMove, count, in_partition_order}
+use Rattle.group_types.specs.Uniform.{AreMoves, IsFewest, IsLevel, IsNextMove, in_partition_order}
 use Rattle.uniform_assign.specs.declared.board.Board.{Board}
 use Rattle.uniform_assign.specs.declared.board.Place.{Place}
 use Rattle.uniform_assign.specs.declared.draft.Draft.{Draft}
 use Rattle.uniform_assign.specs.declared.level.Move.{Move}
-use Rattle.uniform_assign.specs.Boards.{AreTakersOf, IsBoard}
+use Rattle.uniform_assign.specs.Boards.{AreTakersOf, IsBoard, members_on}
 use Rattle.uniform_assign.specs.Drafts.{AreCounts, IsDraft, IsLeast, drawn_on}
 use Rattle.uniform_assign.specs.Moves.{CanGive, IsFirst, IsMove, IsNext}
 use Rattle.uniform_assign.proofs.Boards.{as_many_places, at_place, here_taker, parts_are_apart, taker_here}
-use Rattle.uniform_assign.proofs.Counted.{count-drawn}
-use Rattle.uniform_assign.proofs.Drawn.{drawn-at, drawn-owner, drawn-set}
-use Rattle.uniform_assign.proofs.Lists.{Contains-at, at_Contains, option_map-from, some_at}
-
--- the member that an owner is
-owner-from : (subs : List Subscriber) (o : Option ℕ) (s : Subscriber) → option_and_then (slice_get subs) o ≡ Some s → (m : ℕ) × (o ≡ Some m) × (slice_get subs m ≡ Some s)
-owner-from subs None s is = cc
-owner-from subs (Some m) s is = (m, refl, is)
+use Rattle.uniform_assign.proofs.Shown.{can_give-owns, count-shown, owner-at}
+use Rattle.uniform_assign.proofs.Drawn.{drawn-owner, drawn-set}
+use Rattle.uniform_assign.proofs.Lists.{Contains-at, at_Contains}
 
 -- a partition was given
 pub IsDraft-give : (board : Board) (old new : Draft) (k : ℕ) (o : Option ℕ) → IsDraft board old → new.owners.items ≡ set_at old.owners.items k o → length new.counts.items ≡ length old.counts.items
@@ -42,35 +36,10 @@ module _ (board : Board) (draft : Draft) (is : IsBoard board) (are : IsDraft boa
   parts = in_partition_order board.view.now
 
   abbrev subs : List Subscriber
-  subs = board.subs.now
+  subs = members_on board
 
   abbrev spread : Spread
   spread = drawn_on board draft.owners.items
-
-  -- the counts are those of the spread
-  pub count-shown : (m : ℕ) (s : Subscriber) → slice_get subs m ≡ Some s → get_or draft.counts.items m 0 ≡ count spread s.id
-  count-shown m s is_s =
-      let within = slice_get_within subs m s is_s in
-      let many = are.as_many_counts in
-      let owners = are.as_many_owners in
-      let places = as_many_places board is in
-      are.counts.counted m (omega arith)
-      ∙ sym (count-drawn parts subs draft.owners.items m s (parts_are_apart board is) is.apart (omega arith) (λ k n is_n. let low = are.counts.within k n is_n in omega arith) is_s)
-
-  pub owner-at : (k m : ℕ) → slice_get draft.owners.items k ≡ Some (Some m) → (s : Subscriber) × (slice_get subs m ≡ Some s)
-  owner-at k m is_m = let low = are.counts.within k m is_m in let many = are.as_many_counts in some_at subs m (omega arith)
-
-  -- who can give a partition away owns it
-  pub can_give-owns : (from k : ℕ) → CanGive board draft from k → slice_get draft.owners.items k ≡ Some (Some from)
-  can_give-owns from k can =
-      let owners = are.as_many_owners in
-      let places = as_many_places board is in
-      let in_parts = slice_get_within parts k can.moved can.is_partition in
-      let (o, is_o) = some_at draft.owners.items k (omega arith) in
-      let shown = drawn-at subs parts draft.owners.items k can.moved o (parts_are_apart board is) can.is_partition is_o in
-      let (s, is_s, same_id) = option_map-from (λ (m : Subscriber). m.id) (option_and_then (slice_get subs) o) can.owner.id (sym shown ∙ can.owns) in
-      let (m, is_m, there) = owner-from subs o s is_s in
-      is_o ∙ ap Some is_m ∙ ap (λ n. Some (Some n)) (is.apart m from s can.owner there can.is_member same_id)
 
   -- the least count is that of the member that owns the fewest
   pub fewest-shown : (name : Text) (takers : List ℕ) (m : ℕ) (s : Subscriber) → AreTakersOf subs name takers → IsLeast draft.counts.items takers m → slice_get subs m ≡ Some s
@@ -78,19 +47,19 @@ module _ (board : Board) (draft : Draft) (is : IsBoard board) (are : IsDraft boa
   fewest-shown name takers m s are_takers least is_s =
       let (t, is_t, there) = taker_here subs name takers least.place m are_takers least.is_there in
       let same : t ≡ s = same_Some t s (sym is_t ∙ is_s) in
-      let mine = count-shown m s is_s in
+      let mine = count-shown board draft is.bare are m s is_s in
       record {
         place = least.place;
         is_there = there ∙ ap Some same;
         fewest = λ k n is_n.
             let (j, is_j, there_n) = here_taker subs name takers k n are_takers is_n in
             let low = least.least k j is_j in
-            let his = count-shown j n there_n in
+            let his = count-shown board draft is.bare are j n there_n in
             omega arith;
         first = λ k n early is_n.
             let (j, is_j, there_n) = here_taker subs name takers k n are_takers is_n in
             let low = least.first k j early is_j in
-            let his = count-shown j n there_n in
+            let his = count-shown board draft is.bare are j n there_n in
             omega arith;
       }
 
@@ -109,17 +78,17 @@ module _ (board : Board) (draft : Draft) (is : IsBoard board) (are : IsDraft boa
   pub move-can : (m : Move) → IsMove board draft m → CanGive board draft m.from m.partition
   move-can m move =
       let at = at_place board is m.partition move.place move.is_place in
-      let (owner, is_owner) = owner-at m.partition m.from move.owns in
+      let (owner, is_owner) = owner-at board draft is.bare are m.partition m.from move.owns in
       let (to, is_to, fewest) = move-taker m move (at.topic.0, move.place.partition) at.is_part in
-      let mine = count-shown m.from owner is_owner in
-      let his = count-shown m.to to is_to in
+      let mine = count-shown board draft is.bare are m.from owner is_owner in
+      let his = count-shown board draft is.bare are m.to to is_to in
       let low = move.fewer in
       record {
         owner = owner;
         is_member = is_owner;
         moved = (at.topic.0, move.place.partition);
         is_partition = at.is_part;
-        owns = drawn-owner subs parts draft.owners.items m.partition (at.topic.0, move.place.partition) m.from owner (parts_are_apart board is) at.is_part move.owns is_owner;
+        owns = drawn-owner subs parts draft.owners.items m.partition (at.topic.0, move.place.partition) m.from owner (parts_are_apart board is.bare) at.is_part move.owns is_owner;
         other = to;
         subscribes = Contains-at (subscribers_of subs at.topic.0) fewest.place to fewest.is_there;
         fewer = omega arith;
@@ -127,7 +96,7 @@ module _ (board : Board) (draft : Draft) (is : IsBoard board) (are : IsDraft boa
 
   -- a partition without an owner cannot move, nor one that nobody takes, nor one whose takers own as many nearly
   pub no_owner-stays : (k : ℕ) → slice_get draft.owners.items k ≡ Some None → (from : ℕ) → ¬ CanGive board draft from k
-  no_owner-stays k none from can = let owns = can_give-owns from k can in cc
+  no_owner-stays k none from can = let owns = can_give-owns board draft is.bare are from k can in cc
 
   taker-of : (k from : ℕ) (place : Place) (takers : Vec ℕ) → slice_get board.places.items k ≡ Some place → slice_get board.takers.items place.topic ≡ Some takers → (can : CanGive board draft from k)
       → (j t : ℕ) × (slice_get takers.items j ≡ Some t) × (slice_get subs t ≡ Some can.other)
@@ -154,10 +123,10 @@ module _ (board : Board) (draft : Draft) (is : IsBoard board) (are : IsDraft boa
       → (from : ℕ) → ¬ CanGive board draft from k
   near-stays k owner to place takers is_place is_takers owns least near from can =
       let (j, t, is_t, there) = taker-of k from place takers is_place is_takers can in
-      let same : owner ≡ from = same_Some owner from (same_Some (Some owner) (Some from) (sym owns ∙ can_give-owns from k can)) in
+      let same : owner ≡ from = same_Some owner from (same_Some (Some owner) (Some from) (sym owns ∙ can_give-owns board draft is.bare are from k can)) in
       let low = least.least j t is_t in
-      let his = count-shown t can.other there in
-      let mine = count-shown from can.owner can.is_member in
+      let his = count-shown board draft is.bare are t can.other there in
+      let mine = count-shown board draft is.bare are from can.owner can.is_member in
       let equal = ap (λ n. get_or draft.counts.items n 0) same in
       let fewer = can.fewer in
       omega arith
@@ -175,7 +144,7 @@ module _ (board : Board) (draft : Draft) (is : IsBoard board) (are : IsDraft boa
         is_member = can.is_member;
         moved = (there.topic.0, other.partition);
         is_partition = there.is_part;
-        owns = drawn-owner subs parts draft.owners.items at (there.topic.0, other.partition) from can.owner (parts_are_apart board is) there.is_part owns can.is_member;
+        owns = drawn-owner subs parts draft.owners.items at (there.topic.0, other.partition) from can.owner (parts_are_apart board is.bare) there.is_part owns can.is_member;
         other = can.other;
         subscribes = subst (λ name. Contains (subscribers_of subs name) can.other) (sym (ap (λ (x : Text × Partition). x.0) moved) ∙ ap (λ (t : Text × Topic). t.0) topics) can.subscribes;
         fewer = can.fewer;
@@ -184,7 +153,7 @@ module _ (board : Board) (draft : Draft) (is : IsBoard board) (are : IsDraft boa
   -- ---- once every place was looked at
 
   pub can-within : (from k : ℕ) → CanGive board draft from k → k < length board.places.items
-  can-within from k can = let low = slice_get_within parts k can.moved can.is_partition in let many = as_many_places board is in omega arith
+  can-within from k can = let low = slice_get_within parts k can.moved can.is_partition in let many = as_many_places board is.bare in omega arith
 
   pub no_move-level : IsNext board draft (length board.places.items) None → IsLevel board.view.now subs spread
   no_move-level none from k can = none from k (can-within from k can) can
@@ -193,7 +162,7 @@ module _ (board : Board) (draft : Draft) (is : IsBoard board) (are : IsDraft boa
   next_move m first =
       let can = move-can m first.is_move in
       let (to, is_to, fewest) = move-taker m first.is_move can.moved can.is_partition in
-      let mine = count-shown m.from can.owner can.is_member in
+      let mine = count-shown board draft is.bare are m.from can.owner can.is_member in
       let owners = are.as_many_owners in
       let within = first.within in
       record {
@@ -201,17 +170,17 @@ module _ (board : Board) (draft : Draft) (is : IsBoard board) (are : IsDraft boa
         place = m.partition;
         move = can;
         most = λ i k other.
-            let his = count-shown i other.owner other.is_member in
+            let his = count-shown board draft is.bare are i other.owner other.is_member in
             let low = first.most i k (can-within i k other) other in
             omega arith;
         first_member = λ i k other early.
-            let his = count-shown i other.owner other.is_member in
+            let his = count-shown board draft is.bare are i other.owner other.is_member in
             let low = first.first_member i k (can-within i k other) other early in
             omega arith;
         first_partition = λ k other. first.first_partition k (can-within m.from k other) other;
         to = to;
         is_fewest = fewest;
-        is_new = drawn-set subs parts draft.owners.items m.partition can.moved m.to to (parts_are_apart board is) can.is_partition (omega arith) is_to;
+        is_new = drawn-set subs parts draft.owners.items m.partition can.moved m.to to (parts_are_apart board is.bare) can.is_partition (omega arith) is_to;
       }
 
   pub move-to : (m : Move) → IsMove board draft m → (to : Subscriber) × (slice_get subs m.to ≡ Some to)

@@ -12,7 +12,7 @@ use Rattle.uniform_assign.specs.declared.board.Place.{Place}
 use Rattle.uniform_assign.specs.declared.draft.Draft.{Draft}
 use Rattle.uniform_assign.specs.declared.ranking.Rank.{Rank}
 use Rattle.uniform_assign.specs.declared.ranking.Ranking.{Ranking}
-use Rattle.uniform_assign.specs.Boards.{AreTakersOf, IsBoard, Rises}
+use Rattle.uniform_assign.specs.Boards.{AreTakersOf, IsBoard, Rises, members_on}
 use Rattle.uniform_assign.specs.Drafts.{AreCounts, IsDraft, IsLeast}
 use Rattle.uniform_assign.specs.Rankings.{AreRankings, IsLeastAt, IsOfTopic, IsRanking, IsRankingOf, counts_of}
 use Rattle.uniform_assign.proofs.Boards.{IsAt, at_place, least-within, taker_here}
@@ -108,7 +108,7 @@ pub record IsFirstIn (board : Board) (draft : Draft) (at topic : ℕ) (nodes : L
   pub is_taker : slice_get queued.is_at.takers.items k ≡ Some m
   pub least : IsLeast draft.counts.items queued.is_at.takers.items m
   pub member : Subscriber
-  pub is_member : slice_get board.subs.now m ≡ Some member
+  pub is_member : slice_get (members_on board) m ≡ Some member
   pub within : m < length draft.counts.items
   pub room : k + k + 1 < length nodes
 
@@ -121,8 +121,8 @@ pub IsFirstIn-of : (board : Board) (draft : Draft) (at topic k m : ℕ) (nodes :
 IsFirstIn-of board draft at topic k m nodes are queued least is_m =
     let takers = queued.is_at.takers.items in
     let is_least = IsLeast-ranked draft.counts.items takers k m least is_m in
-    let (s, is_s) = least-within board.subs.now queued.is_at.topic.0 draft.counts.items takers m queued.is_at.are_takers is_least in
-    let low = slice_get_within board.subs.now m s is_s in
+    let (s, is_s) = least-within (members_on board) queued.is_at.topic.0 draft.counts.items takers m queued.is_at.are_takers is_least in
+    let low = slice_get_within (members_on board) m s is_s in
     let many = are.as_many_counts in
     let twice = queued.ranking.are_ranks.as_many in
     let inside = least.within in

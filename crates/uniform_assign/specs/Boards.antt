@@ -1,5 +1,5 @@
 -- How the partitions of a view and their takers are held.
-use Rattle.std.specs.Prelude.{◌≡◌, ℕ, ◌<◌, pos, List, length, map, Option, Some}
+use Rattle.std.specs.Prelude.{◌≡◌, ℕ, ◌<◌, pos, List, length, map, Option, Some, IsSorted}
 use Rattle.std.specs.Global.{Vec}
 use Rattle.std.specs.List.{flat_map, slice_get}
 use Rattle.std.specs.Option.{option_map}
@@ -7,8 +7,9 @@ use Rattle.std.specs.FinMap as finite
 use Rattle.group_types.specs.declared.partition.Partition.{Partition}
 use Rattle.group_types.specs.Text.{Text}
 use Rattle.group_types.specs.Topics.{Topic}
-use Rattle.group_types.specs.Assignors.{IdsAreApart, Subscriber, subscribers_of}
+use Rattle.group_types.specs.Assignors.{IdsAreApart, Subscriber, member_cmp, subscribers_of}
 use Rattle.group_types.specs.Uniform.{partitions_of}
+use Rattle.range_assign.specs.Members.{subscribers_in}
 use Rattle.topic_meta.specs.Facts.{AreImageTopics}
 use Rattle.uniform_assign.specs.declared.board.Place.{Place}
 use Rattle.uniform_assign.specs.declared.board.Board.{Board}
@@ -43,10 +44,19 @@ Rises xs = (i j x y : ℕ) → i < j → slice_get xs i ≡ Some x → slice_get
 abbrev pub AllRise : List (Vec ℕ) → Type 0
 AllRise takers = (t : ℕ) (v : Vec ℕ) → slice_get takers t ≡ Some v → Rises v.items
 
+-- the members, as an assignor sees them
+abbrev pub members_on : Board → List Subscriber
+members_on board = subscribers_in board.members.now
+
+-- what is true of a board whose takers may not be found yet
+pub record IsBare (board : Board) : Type 0 where
+  pub sound : AreImageTopics board.view.now
+  pub apart : IdsAreApart (members_on board)
+  pub sorted : IsSorted member_cmp (members_on board)
+  pub places : ArePlaces (finite.entries board.view.now) board.places.items
+
 -- what is true of a board
 pub record IsBoard (board : Board) : Type 0 where
-  pub sound : AreImageTopics board.view.now
-  pub apart : IdsAreApart board.subs.now
-  pub places : ArePlaces (finite.entries board.view.now) board.places.items
-  pub takers : AreTakers (finite.entries board.view.now) board.subs.now board.takers.items
+  pub bare : IsBare board
+  pub takers : AreTakers (finite.entries board.view.now) (members_on board) board.takers.items
   pub rise : AllRise board.takers.items

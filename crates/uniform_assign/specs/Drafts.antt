@@ -7,9 +7,10 @@ use Rattle.group_types.specs.Text.{Text}
 use Rattle.group_types.specs.Topics.{Topics}
 use Rattle.group_types.specs.Assignors.{Subscriber}
 use Rattle.group_types.specs.Owners.{Spread}
-use Rattle.group_types.specs.Uniform.{AreMoves, IsLevel, in_partition_order}
+use Rattle.group_types.specs.Uniform.{AreFilled, AreMoves, IsLevel, in_partition_order}
 use Rattle.uniform_assign.specs.declared.board.Board.{Board}
 use Rattle.uniform_assign.specs.declared.draft.Draft.{Draft}
+use Rattle.uniform_assign.specs.Boards.{members_on}
 
 -- the spread with the partition given to the member, if there is one
 abbrev pub given : Spread → Partition → Option Subscriber → Spread
@@ -24,7 +25,7 @@ drawn (x ∷ xs) subs (o ∷ os) = given (drawn xs subs os) x.1 (option_and_then
 
 -- the spread of owners in partition order
 abbrev pub drawn_on : Board → List (Option ℕ) → Spread
-drawn_on board owners = drawn (in_partition_order board.view.now) board.subs.now owners
+drawn_on board owners = drawn (in_partition_order board.view.now) (members_on board) owners
 
 -- whether the owner is the member at a place
 abbrev pub is_owner : ℕ → Option ℕ → Bool
@@ -38,7 +39,7 @@ pub record AreCounts (owners : List (Option ℕ)) (counts : List ℕ) : Type 0 w
 -- the draft has an owner for each partition of the board, or none, and a count for each member
 pub record IsDraft (board : Board) (draft : Draft) : Type 0 where
   pub as_many_owners : length draft.owners.items ≡ length board.places.items
-  pub as_many_counts : length draft.counts.items ≡ length board.subs.now
+  pub as_many_counts : length draft.counts.items ≡ length (members_on board)
   pub counts : AreCounts draft.owners.items draft.counts.items
 
 -- of the takers, the one whose count is the least, and of several such the first
@@ -57,3 +58,18 @@ pub record IsLevelled (view : Topics) (subs : List Subscriber) (old new : Spread
   pub steps : List Spread
   pub are_moves : AreMoves view subs old steps new
   pub is_level : IsLevel view subs new
+
+-- the partitions without an owner are filled, and then the members are levelled
+pub record IsFilledAndLevelled (view : Topics) (subs : List Subscriber) (old new : Spread) : Type 0 where
+  pub filled : Spread
+  pub are_filled : AreFilled subs old (in_partition_order view) filled
+  pub levelled : IsLevelled view subs filled new
+
+-- each of the first n partitions has an owner, which owns no other
+abbrev pub IsSingleTo : Draft → ℕ → Type 0
+IsSingleTo draft n = (k : ℕ) → k < n
+    → (m : ℕ) × (slice_get draft.owners.items k ≡ Some (Some m)) × (slice_index draft.counts.items m ≤ 1)
+
+-- each partition
+abbrev pub IsSingle : Draft → Type 0
+IsSingle draft = IsSingleTo draft (length draft.owners.items)

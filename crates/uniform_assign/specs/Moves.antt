@@ -7,6 +7,7 @@ use Rattle.uniform_assign.specs.declared.board.Place.{Place}
 use Rattle.uniform_assign.specs.declared.draft.Draft.{Draft}
 use Rattle.uniform_assign.specs.declared.level.Move.{Move}
 use Rattle.uniform_assign.specs.Drafts.{IsLeast, IsLeastOf, drawn_on}
+use Rattle.uniform_assign.specs.Boards.{members_on}
 
 -- for each topic the taker with the least count
 abbrev pub AreFewest : Board → Draft → List (Option ℕ) → Type 0
@@ -15,7 +16,7 @@ AreFewest board draft fewest = (t : ℕ) (takers : Vec ℕ) → slice_get board.
 
 -- the member at a place can give the partition at a place away
 abbrev pub CanGive : Board → Draft → ℕ → ℕ → Type 0
-CanGive board draft from place = CanMove board.view.now board.subs.now (drawn_on board draft.owners.items) from place
+CanGive board draft from place = CanMove board.view.now (members_on board) (drawn_on board draft.owners.items) from place
 
 -- the owner gives the partition to the taker with the least count, which is at least two less than its own
 pub record IsMove (board : Board) (draft : Draft) (m : Move) : Type 0 where

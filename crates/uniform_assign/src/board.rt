@@ -4,7 +4,7 @@ ghost use Rattle.std.specs.Prelude.{◌≡◌, ◌++◌, ◌≤◌, ◌^◌, All
 ghost use Rattle.std.specs.List.{range_with_len};
 ghost use Rattle.topic_meta.specs.Views.{all_named, named};
 ghost use Rattle.range_assign.specs.Members.{subscribers_in};
-ghost use Rattle.uniform_assign.specs.Boards.{AllRise, ArePlaces, AreTakers, AreTakersOf, IsBoard, Rises, place_at};
+ghost use Rattle.uniform_assign.specs.Boards.{AllRise, ArePlaces, AreTakers, AreTakersOf, IsBare, IsBoard, Rises, members_on, place_at};
 
 use group_types::Partition;
 use range_assign::{Subs, Subscriber};
@@ -21,30 +21,39 @@ pub(crate) struct Place {
 /// The partitions of a view and the members of a group.
 #[derive(Drop)]
 pub(crate) struct Board<'a> {
-    pub subs: &'a Subs<'a>,
+    pub members: &'a [Subscriber<'a>],
     pub view: &'a View,
     /// The partitions in partition order: by their topics' names, then by the index.
     pub places: Vec<Place>,
-    /// For each topic the places of its subscribers among the members, rising.
+    /// For each topic the places of its subscribers among the members, rising. They are found only where a partition has
+    /// no owner or may move.
     pub takers: Vec<Vec<usize>>,
 }
 
 impl<'a> Board<'a> {
-    /// The partitions of the view and their takers.
+    /// The partitions of the view, whose takers are not found yet.
     pub fn of(alloc: Global, subs: &'a Subs<'a>, view: &'a View) -> Result<Board<'a>, AllocError>
-        ensures board { IfOk result (λ board. IsBoard board) }
-        ensures subs { IfOk result (λ board. board.subs.now ≡ subs.now) }
+        ensures board { IfOk result (λ board. IsBare board) }
+        ensures members { IfOk result (λ board. members_on board ≡ subs.now) }
         ensures view { IfOk result (λ board. board.view.now ≡ view.now) }
     {
-        let topics = view.topics();
-        let places = places_of(alloc, topics)?;
-        let takers = takers_of(alloc, topics, subs.members())?;
+        let places = places_of(alloc, view.topics())?;
         Ok(Board {
-            subs,
+            members: subs.members(),
             view,
             places,
-            takers,
+            takers: Vec::new(alloc),
         })
+    }
+
+    /// Finds the takers of the topics.
+    pub fn find_takers(&mut self, alloc: Global) -> Result<(), AllocError>
+        requires { IsBare self.old }
+        ensures board { OnOk result (IsBoard self.new) }
+        ensures same { OnOk result (self.new ≡ record self.old { takers = self.new.takers }) }
+    {
+        self.takers = takers_of(alloc, self.view.topics(), self.members)?;
+        Ok(())
     }
 }
 

@@ -1,7 +1,8 @@
 //! The owners of the partitions while they are worked out.
 
 ghost use Rattle.std.specs.Prelude.{◌≡◌, ◌<◌, ℕ, All, IfOk, None, Some, length, replicate, slice_get, slice_set};
-ghost use Rattle.uniform_assign.specs.Drafts.{AreCounts};
+ghost use Rattle.std.specs.Bool.{OnTrue};
+ghost use Rattle.uniform_assign.specs.Drafts.{AreCounts, IsSingle};
 ghost use Rattle.uniform_assign.specs.Moves.{one_moved};
 
 use std::alloc::{AllocError, Global};
@@ -24,6 +25,22 @@ impl Draft {
         let owners = no_owners(alloc, partitions)?;
         let counts = vec![in alloc; 0; members]?;
         Ok(Draft { owners, counts })
+    }
+
+    /// Whether each partition has an owner, which owns no other.
+    pub fn is_single(&self) -> bool
+        requires { AreCounts self.now.owners.items self.now.counts.items }
+        ensures { OnTrue result (IsSingle self.now) }
+    {
+        for owner in &self.owners {
+            let Some(member) = *owner else {
+                return false;
+            };
+            if self.counts[member] > 1 {
+                return false;
+            }
+        }
+        true
     }
 
     /// Gives the partition at a place to the member at a place, from its owner if it has one.

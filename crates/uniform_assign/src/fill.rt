@@ -4,7 +4,7 @@ ghost use Rattle.std.specs.Prelude.{◌≡◌, ◌<◌, None, OnOk, Some, length
 ghost use Rattle.group_types.specs.declared.partition.Partition.{Partition as Key};
 ghost use Rattle.group_types.specs.Text.{Text};
 ghost use Rattle.group_types.specs.Uniform.{AreFilled, Fills, in_partition_order};
-ghost use Rattle.uniform_assign.specs.Boards.{IsBoard};
+ghost use Rattle.uniform_assign.specs.Boards.{IsBoard, members_on};
 ghost use Rattle.uniform_assign.specs.Drafts.{IsDraft, drawn_on};
 ghost use Rattle.uniform_assign.specs.Rankings.{IsOfTopic, IsRankingOf};
 
@@ -27,7 +27,7 @@ impl Board<'_> {
         requires board { IsBoard self.now }
         requires draft { IsDraft self.now draft.old }
         ensures draft { OnOk result (IsDraft self.now draft.new) }
-        ensures filled { OnOk result (AreFilled self.now.subs.now (drawn_on self.now draft.old.owners.items)
+        ensures filled { OnOk result (AreFilled (members_on self.now) (drawn_on self.now draft.old.owners.items)
             (in_partition_order self.now.view.now) (drawn_on self.now draft.new.owners.items)) }
     {
         let mut queue = Queue {
@@ -78,7 +78,7 @@ impl Board<'_> {
         ensures topic { queue.new.topic ≡ queue.old.topic }
         ensures queue { IsRankingOf self.now draft.new queue.old.topic queue.new.ranking }
         ensures filled { (x : Text × Key) → slice_get (in_partition_order self.now.view.now) at ≡ Some x
-            → Fills self.now.subs.now (drawn_on self.now draft.old.owners.items) x (drawn_on self.now draft.new.owners.items) }
+            → Fills (members_on self.now) (drawn_on self.now draft.old.owners.items) x (drawn_on self.now draft.new.owners.items) }
     {
         if let Some(first) = queue.ranking.first() {
             let member = self.takers[queue.topic][first];

@@ -1,10 +1,11 @@
 //! The former owners of the partitions, found by the partitions' places.
 
-ghost use Rattle.std.specs.Prelude.{◌≡◌, IfOk, length};
-ghost use Rattle.group_types.specs.Assignors.{IdsAreApart};
-ghost use Rattle.range_assign.specs.Members.{subscribers_in};
-ghost use Rattle.uniform_assign.specs.Boards.{IsBoard};
-ghost use Rattle.uniform_assign.specs.Former.{AreFirsts, AreFormerOwners, IsPlaceOf, IsShared};
+ghost use Rattle.std.specs.Prelude.{◌≡◌, ◌≤◌, IfOk, IsSorted, length};
+ghost use Rattle.std.specs.Bool.{OnTrue};
+ghost use Rattle.group_types.specs.Assignors.{IdsAreApart, member_cmp};
+ghost use Rattle.range_assign.specs.Members.{subscriber_of, subscribers_in};
+ghost use Rattle.uniform_assign.specs.Boards.{IsBare};
+ghost use Rattle.uniform_assign.specs.Former.{AreFirsts, AreFormerOwners, EndsOwners, IsPlaceOf, IsShared, OwnNothingFrom};
 
 use crate::board::Board;
 use crate::draft::no_owners;
@@ -22,16 +23,19 @@ impl Board<'_> {
         former: &Spread,
         members: &[Subscriber<'_>],
     ) -> Result<Vec<Option<usize>>, AllocError>
-        requires board { IsBoard self.now }
+        requires board { IsBare self.now }
         requires apart { IdsAreApart (subscribers_in members.now) }
+        requires sorted { IsSorted member_cmp (subscribers_in members.now) }
         ensures as_many { IfOk result (λ owners. length owners.items ≡ length self.now.places.items) }
         ensures owners { IfOk result (λ owners. AreFormerOwners former.now (subscribers_in members.now) self.now.places.items owners.items) }
     {
         let firsts = self.firsts(alloc)?;
         let mut owners = no_owners(alloc, self.places.len())?;
-        for (at, member) in members.iter().enumerate() {
-            if let Some(set) = former.share_of(member.id.as_str()) {
+        let mut near = 0;
+        for at in 0..last_owner_end(former, members) {
+            if let Some((set, next)) = former.share_near(members[at].id.as_str(), near) {
                 self.add_share(&firsts, &mut owners, set, at);
+                near = next;
             }
         }
         Ok(owners)
@@ -39,7 +43,7 @@ impl Board<'_> {
 
     /// The place of each topic's first partition, by the topic's id.
     fn firsts(&self, alloc: Global) -> Result<BTreeMap<Uuid, usize>, AllocError>
-        requires { IsBoard self.now }
+        requires { IsBare self.now }
         ensures { IfOk result (AreFirsts self.now.places.items) }
     {
         let mut firsts = BTreeMap::new(alloc);
@@ -59,7 +63,7 @@ impl Board<'_> {
         set: &PartSet,
         member: usize,
     )
-        requires board { IsBoard self.now }
+        requires board { IsBare self.now }
         requires firsts { AreFirsts self.now.places.items firsts.now }
         requires as_many { length owners.old.items ≡ length self.now.places.items }
         ensures as_many { length owners.new.items ≡ length owners.old.items }
@@ -74,7 +78,7 @@ impl Board<'_> {
 
     /// Where the partition is in partition order.
     fn place_of(&self, firsts: &BTreeMap<Uuid, usize>, partition: &Partition) -> Option<usize>
-        requires board { IsBoard self.now }
+        requires board { IsBare self.now }
         requires firsts { AreFirsts self.now.places.items firsts.now }
         ensures { IsPlaceOf self.now.places.items partition.now result }
     {
@@ -87,4 +91,30 @@ impl Board<'_> {
             None
         }
     }
+}
+
+/// A place from which on no member owned a partition. It is found without a walk over the members.
+fn last_owner_end(former: &Spread, members: &[Subscriber<'_>]) -> usize
+    requires { IsSorted member_cmp (subscribers_in members.now) }
+    ensures within { result ≤ length members.now }
+    ensures none { OwnNothingFrom former.now (subscribers_in members.now) result }
+{
+    let mut low = 0;
+    let mut high = members.len();
+    while low < high {
+        let middle = low + (high - low) / 2;
+        if ends_owners(former, &members[middle]) {
+            high = middle;
+        } else {
+            low = middle + 1;
+        }
+    }
+    high
+}
+
+/// Whether neither the member owned a partition, nor those behind it in member order.
+fn ends_owners(former: &Spread, member: &Subscriber<'_>) -> bool
+    ensures { OnTrue result (EndsOwners former.now (subscriber_of member.now)) }
+{
+    member.instance.is_none() && former.none_from(member.id.as_str())
 }

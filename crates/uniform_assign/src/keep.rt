@@ -7,7 +7,7 @@ ghost use Rattle.group_types.specs.Sets.{has};
 ghost use Rattle.group_types.specs.Text.{Text};
 ghost use Rattle.group_types.specs.Topics.{Topic};
 ghost use Rattle.group_types.specs.Uniform.{IsKept};
-ghost use Rattle.uniform_assign.specs.Boards.{IsBoard};
+ghost use Rattle.uniform_assign.specs.Boards.{IsBare, members_on};
 ghost use Rattle.uniform_assign.specs.Drafts.{IsDraft, drawn_on};
 
 use crate::board::Board;
@@ -18,13 +18,12 @@ use std::alloc::{AllocError, Global};
 impl Board<'_> {
     /// The partitions whose former owners still subscribe them are theirs, and the others have no owner.
     pub fn kept(&self, alloc: Global, former: &Spread) -> Result<Draft, AllocError>
-        requires { IsBoard self.now }
+        requires { IsBare self.now }
         ensures draft { IfOk result (λ draft. IsDraft self.now draft) }
-        ensures kept { IfOk result (λ draft. IsKept self.now.view.now self.now.subs.now former.now (drawn_on self.now draft.owners.items)) }
+        ensures kept { IfOk result (λ draft. IsKept self.now.view.now (members_on self.now) former.now (drawn_on self.now draft.owners.items)) }
     {
-        let members = self.subs.members();
-        let owners = self.former_owners(alloc, former, members)?;
-        let mut draft = Draft::new(alloc, self.places.len(), members.len())?;
+        let owners = self.former_owners(alloc, former, self.members)?;
+        let mut draft = Draft::new(alloc, self.places.len(), self.members.len())?;
         for (at, place) in self.places.iter().enumerate() {
             if let Some(member) = owners[at] {
                 if self.subscribes(member, place.topic) {
@@ -37,12 +36,12 @@ impl Board<'_> {
 
     /// Whether the member at a place subscribes the topic at a place.
     fn subscribes(&self, member: usize, topic: usize) -> bool
-        requires member_in { member < length self.now.subs.now }
+        requires member_in { member < length (members_on self.now) }
         requires topic_in { topic < length (entries self.now.view.now) }
-        ensures { (m : Member) (t : Text × Topic) → slice_get self.now.subs.now member ≡ Some m
+        ensures { (m : Member) (t : Text × Topic) → slice_get (members_on self.now) member ≡ Some m
             → slice_get (entries self.now.view.now) topic ≡ Some t → result ≡ has m.names t.0 }
     {
         let name = self.view.topics()[topic].name.as_str();
-        self.subs.members()[member].names.contains(name)
+        self.members[member].names.contains(name)
     }
 }

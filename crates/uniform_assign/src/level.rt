@@ -2,7 +2,7 @@
 
 ghost use Rattle.std.specs.Prelude.{◌≡◌, ◌<◌, ◌+◌, ℕ, IfOk, None, OnOk, Some, length, slice_get};
 ghost use Rattle.std.specs.Bool.{OnTrue};
-ghost use Rattle.uniform_assign.specs.Boards.{IsBoard};
+ghost use Rattle.uniform_assign.specs.Boards.{IsBoard, members_on};
 ghost use Rattle.uniform_assign.specs.Drafts.{IsDraft, IsLevelled, drawn_on};
 ghost use Rattle.uniform_assign.specs.Moves.{AreFewest, IsEarlier, IsFirstAmong, IsFirstOf, IsMoveOf, IsNext, IsNextBelow};
 ghost use Rattle.uniform_assign.specs.Piles.{AreOfTopic, ArePiles, IsHand, IsIn};
@@ -29,14 +29,26 @@ impl Board<'_> {
         requires board { IsBoard self.now }
         requires draft { IsDraft self.now draft.old }
         ensures draft { OnOk result (IsDraft self.now draft.new) }
-        ensures levelled { OnOk result (IsLevelled self.now.view.now self.now.subs.now
+        ensures levelled { OnOk result (IsLevelled self.now.view.now (members_on self.now)
             (drawn_on self.now draft.old.owners.items) (drawn_on self.now draft.new.owners.items)) }
     {
-        let mut rankings = self.rankings(alloc, draft)?;
-        let fewest = self.fewest(alloc, &rankings)?;
+        let fewest = self.least_takers(alloc, draft)?;
         if self.is_level(draft, &fewest) {
             return Ok(());
         }
+        self.move_each(alloc, draft)
+    }
+
+    /// Moves one partition after the other until none can move: each is found by the orders of the topics' subscribers
+    /// and by the members' piles.
+    fn move_each(&self, alloc: Global, draft: &mut Draft) -> Result<(), AllocError>
+        requires board { IsBoard self.now }
+        requires draft { IsDraft self.now draft.old }
+        ensures draft { OnOk result (IsDraft self.now draft.new) }
+        ensures levelled { OnOk result (IsLevelled self.now.view.now (members_on self.now)
+            (drawn_on self.now draft.old.owners.items) (drawn_on self.now draft.new.owners.items)) }
+    {
+        let mut rankings = self.rankings(alloc, draft)?;
         let mut piles = self.piles(alloc, draft)?;
         while let Some(next) = self.next_move(alloc, draft, &rankings, &mut piles)? {
             let topic = self.places[next.partition].topic;

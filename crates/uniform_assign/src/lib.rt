@@ -10,11 +10,13 @@ mod fill;
 mod former;
 mod keep;
 mod laws;
+mod least;
 mod level;
 mod pile;
 mod piles;
 mod ranking;
 mod rankings;
+mod settle;
 mod shares;
 mod uniform;
 

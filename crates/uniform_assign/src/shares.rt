@@ -1,12 +1,12 @@
 //! The members' shares of a draft.
 
-ghost use Rattle.std.specs.Prelude.{◌≡◌, IfOk, map};
+ghost use Rattle.std.specs.Prelude.{◌≡◌, IfOk, filter, map};
 ghost use Rattle.group_types.specs.Sets.{nothing};
 ghost use Rattle.range_assign.specs.Members.{subscribers_in};
 ghost use Rattle.range_assign.specs.Shares.{AreShares, shares_in, spread_of};
-ghost use Rattle.uniform_assign.specs.Boards.{IsBoard};
+ghost use Rattle.uniform_assign.specs.Boards.{IsBare};
 ghost use Rattle.uniform_assign.specs.Drafts.{IsDraft, drawn_on};
-ghost use Rattle.uniform_assign.specs.Hands.{hands_in};
+ghost use Rattle.uniform_assign.specs.Hands.{has_parts, hands_in};
 
 use crate::board::Board;
 use crate::draft::Draft;
@@ -16,20 +16,20 @@ use std::alloc::{AllocError, Global};
 
 /// A member's partitions as they are dealt: in partition order, which goes by the topics' names.
 #[derive(Drop)]
-pub struct Hand {
-    pub id: MemberId,
+pub struct Hand<'a> {
+    pub id: &'a MemberId,
     pub parts: Vec<Partition>,
 }
 
 impl Board<'_> {
-    /// Each member's partitions.
+    /// The partitions of each member that owns any.
     pub fn shares(&self, alloc: Global, draft: &Draft) -> Result<Vec<Share>, AllocError>
-        requires board { IsBoard self.now }
+        requires board { IsBare self.now }
         requires draft { IsDraft self.now draft.now }
         ensures shares { IfOk result (λ shares. AreShares (shares_in shares.items)) }
         ensures drawn { IfOk result (λ shares. spread_of (shares_in shares.items) ≡ drawn_on self.now draft.now.owners.items) }
     {
-        let mut hands = no_partitions(alloc, self.subs.members())?;
+        let mut hands = no_partitions(alloc, self.members)?;
         for (at, place) in self.places.iter().enumerate() {
             if let Some(owner) = draft.owners[at] {
                 hands[owner].parts.push(place.partition)?;
@@ -40,27 +40,32 @@ impl Board<'_> {
 }
 
 /// A hand without a partition for each member.
-fn no_partitions(alloc: Global, members: &[Subscriber<'_>]) -> Result<Vec<Hand>, AllocError>
+fn no_partitions<'a>(alloc: Global, members: &[Subscriber<'a>]) -> Result<Vec<Hand<'a>>, AllocError>
     ensures { IfOk result (λ hands. hands_in hands.items ≡ map (λ m. (m.id, nothing)) (subscribers_in members.now)) }
 {
-    let mut hands = Vec::with_capacity(alloc, members.len())?;
+    // rounded up, so that a growing group asks the allocator for one size again and again
+    let room = (members.len() / 1024 + 1) * 1024;
+    let mut hands = Vec::with_capacity(alloc, room)?;
     for member in members {
         hands.push(Hand {
-            id: member.id.copy(alloc)?,
+            id: member.id,
             parts: Vec::new(alloc),
         })?;
     }
     Ok(hands)
 }
 
-/// The hands as shares.
-fn shares_of(alloc: Global, hands: Vec<Hand>) -> Result<Vec<Share>, AllocError>
-    ensures { IfOk result (λ shares. shares_in shares.items ≡ hands_in hands.items) }
+/// The hands that have a partition, as shares. The others cost no memory.
+fn shares_of(alloc: Global, hands: Vec<Hand<'_>>) -> Result<Vec<Share>, AllocError>
+    ensures { IfOk result (λ shares. shares_in shares.items ≡ hands_in (filter has_parts hands.entry.items)) }
 {
-    let mut shares = Vec::with_capacity(alloc, hands.len())?;
+    let mut shares = Vec::new(alloc);
     for hand in hands {
-        let (id, set) = (hand.id, PartSet::of_vec(hand.parts));
-        shares.push(Share { id, set })?;
+        if !hand.parts.is_empty() {
+            let id = hand.id.copy(alloc)?;
+            let set = PartSet::of_vec(hand.parts);
+            shares.push(Share { id, set })?;
+        }
     }
     Ok(shares)
 }

@@ -30,10 +30,9 @@ impl Assignor for Uniform {
         ensures stays { IsLawful view.now subs.now former.now → IsEven view.now subs.now former.now
             → IfOk result (λ spread. spread ≡ former.now) }
     {
-        let board = Board::of(alloc, subs, view)?;
+        let mut board = Board::of(alloc, subs, view)?;
         let mut draft = board.kept(alloc, former)?;
-        board.fill(alloc, &mut draft)?;
-        board.level(alloc, &mut draft)?;
+        board.settle(alloc, &mut draft)?;
         Ok(Spread::of(board.shares(alloc, &draft)?))
     }
 }

@@ -20,10 +20,10 @@ loop-member-preserved c =
     let m = c.member-item.result in
     let here : slice_get (subscribers_in members) n ≡ Some (subscriber_of m) =
     slice_get-map subscriber_of members n ∙ ap (option_map subscriber_of) (slice_get_read members (length members) n m refl c.loop-member-test.true c.member-item.is) in
-    let pushed : hands_in c.push.new.self.items ≡ hands_in c.loop-member.hands.items ++ (c.in_ok-copy.field-0, of_list c.new.result.items) ∷ [] =
+    let pushed : hands_in c.push.new.self.items ≡ hands_in c.loop-member.hands.items ++ ((c.member-item.result).id.now, of_list c.new.result.items) ∷ [] =
     ap hands_in c.in_ok-push.ensures.items ∙ map-append hand_in c.loop-member.hands.items _ in
     pushed
-    ∙ (λ i. c.loop-member.invariant i ++ (c.in_ok-copy.ensures i, of_list (c.new.ensures.items i)) ∷ [])
+    ∙ (λ i. c.loop-member.invariant i ++ ((c.member-item.result).id.now, of_list (c.new.ensures.items i)) ∷ [])
     ∙ sym (ap (map (λ (s : Subscriber). (s.id, nothing))) (take-next (subscribers_in members) n (subscriber_of m) here) ∙ map-append (λ (s : Subscriber). (s.id, nothing)) (take n (subscribers_in members)) (subscriber_of m ∷ []))
 
 pub returns : goal.returns

@@ -13,6 +13,7 @@ use Rattle.uniform_assign.proofs.Boards.{as_many_places, at_place, place_here}
 use Rattle.uniform_assign.proofs.Filled.{AreFilled-next, Fills-owned}
 use Rattle.uniform_assign.proofs.board.Board.fill.Goals as goal
 use Rattle.uniform_assign.proofs.board.Board.fill.Goals.{then-is_none+in_ok-turn_to, else-is_none}
+use Rattle.uniform_assign.specs.Boards.{members_on}
 
 pub loop-at-init : goal.loop-at-init
 loop-at-init c = (
@@ -58,7 +59,7 @@ give_first-requires-clause-topic c =
 pub loop-at-preserved : goal.loop-at-preserved
 loop-at-preserved c =
     let board = c.args.self.now in
-    let subs = board.subs.now in
+    let subs = members_on board in
     let parts = in_partition_order board.view.now in
     let n = c.loop-at.at in
     let place = c.place-item.result in
@@ -84,7 +85,7 @@ loop-at-preserved c =
           )
       | else-is_none w ↦
           let (m, is_m) = some_owner c.index.result.now c.is_none.result c.is_none.ensures w.if-is_none.false in
-          let fills = Fills-owned board draft c.requires.board is_draft n x at.is_part m (owner ∙ ap Some is_m) in (
+          let fills = Fills-owned board draft c.requires.board.bare is_draft n x at.is_part m (owner ∙ ap Some is_m) in (
             subst (IsDraft board) (sym w.draft-is) is_draft,
             subst (λ (d : Draft). AreFilled subs first (take (n + 1) parts) (drawn_on board d.owners.items)) (sym w.draft-is) (AreFilled-next subs first spread spread parts n x at.is_part filled fills),
             subst (λ (q : Queue). IsRankingOf board c.if-is_none.draft q.topic q.ranking) (sym w.queue-is) (subst (λ (d : Draft). IsRankingOf board d c.loop-at.queue.topic c.loop-at.queue.ranking) (sym w.draft-is) queue),
@@ -96,9 +97,9 @@ returns c =
     let board = c.args.self.now in
     let parts = in_partition_order board.view.now in
     let places = ap length c.deref-place-items.ensures.value in
-    let many = as_many_places board c.requires.board in
+    let many = as_many_places board c.requires.board.bare in
     let last = c.loop-at-test.false in
     record {
       draft = c.loop-at.invariant.0;
-      filled = subst (λ xs. AreFilled board.subs.now (drawn_on board c.args.draft.now.owners.items) xs (drawn_on board c.loop-at.draft.owners.items)) (take_all c.loop-at.at parts (omega arith)) c.loop-at.invariant.1;
+      filled = subst (λ xs. AreFilled (members_on board) (drawn_on board c.args.draft.now.owners.items) xs (drawn_on board c.loop-at.draft.owners.items)) (take_all c.loop-at.at parts (omega arith)) c.loop-at.invariant.1;
     }

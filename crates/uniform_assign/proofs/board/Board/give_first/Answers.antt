@@ -14,6 +14,7 @@ use Rattle.uniform_assign.proofs.Filled.{Fills-fewest, Fills-nobody}
 use Rattle.uniform_assign.proofs.Moves.{fewest-shown}
 use Rattle.uniform_assign.proofs.Queued.{AreOnce-takers, IsFirstIn, IsFirstIn-of, IsQueued, IsQueued-of, IsRanking-given, first-within}
 use Rattle.uniform_assign.proofs.board.Board.give_first.Goals as goal
+use Rattle.uniform_assign.specs.Boards.{members_on}
 
 -- the taker that was read is the first in the queue
 read_first : (board : Board) (draft : Draft) (at topic k m : ℕ) (nodes : List Rank) (v : Vec ℕ) → IsDraft board draft → (queued : IsQueued board draft at topic nodes) → IsLeastAt (counts_of draft.counts.items queued.is_at.takers.items) k
@@ -109,9 +110,9 @@ returns-in-Some-clause-queue c = λ takers is_takers.
     let written = c.set.ensures (counts_of draft.counts.items here.takers.items) first.queued.ranking in
     subst (λ (v : Vec ℕ). IsRanking (counts_of new.counts.items v.items) c.set.new.self.nodes.items) same
     (IsRanking-given draft.owners.items draft.counts.items new.counts.items here.takers.items c.args.at c.in-Some.first m c.requires.draft.counts c.requires.free first.within after many c.set.new.self.nodes.items
-    (AreOnce-takers board.subs.now here.topic.0 here.takers.items c.requires.board.apart here.are_takers)
+    (AreOnce-takers (members_on board) here.topic.0 here.takers.items c.requires.board.bare.apart here.are_takers)
     (λ j t is_t.
-    let all = all_takers board.subs.now here.topic.0 here.takers.items here.are_takers in
+    let all = all_takers (members_on board) here.topic.0 here.takers.items here.are_takers in
     let inside = slice_get_within here.takers.items j t is_t in
     let taker = all j t inside in
     let read = get_or_from_slice_get here.takers.items j t t is_t in
@@ -131,9 +132,9 @@ returns-in-Some-clause-filled c = λ x is_x.
     let here = first.queued.is_at in
     let part : (here.topic.0, first.queued.place.partition) ≡ x = same_Some _ x (sym here.is_part ∙ is_x) in
     let fewest = fewest-shown board draft c.requires.board c.requires.draft here.topic.0 here.takers.items m first.member here.are_takers first.least first.is_member in
-    subst (λ os. Fills board.subs.now (drawn_on board draft.owners.items) x (drawn_on board os)) (sym c.give.ensures.owners)
-    (subst (λ y. Fills board.subs.now (drawn_on board draft.owners.items) y (drawn_on board (slice_set draft.owners.items c.args.at (Some m)))) part
-    (Fills-fewest board draft c.requires.board c.requires.draft c.args.at (here.topic.0, first.queued.place.partition) here.is_part m first.member c.requires.free first.is_member
+    subst (λ os. Fills (members_on board) (drawn_on board draft.owners.items) x (drawn_on board os)) (sym c.give.ensures.owners)
+    (subst (λ y. Fills (members_on board) (drawn_on board draft.owners.items) y (drawn_on board (slice_set draft.owners.items c.args.at (Some m)))) part
+    (Fills-fewest board draft c.requires.board.bare c.requires.draft c.args.at (here.topic.0, first.queued.place.partition) here.is_part m first.member c.requires.free first.is_member
     (slice_get_within draft.owners.items c.args.at None c.requires.free) fewest))
 
 pub returns-in_default-clause-filled : goal.returns-in_default-clause-filled
@@ -148,5 +149,5 @@ returns-in_default-clause-filled c = λ x is_x.
     let long = length-map here.takers.items (λ u. get_or draft.counts.items u 0) in
     let nothing = ap length none in
     let empty = nil_from_length here.takers.items (omega arith) in
-    subst (λ y. Fills board.subs.now (drawn_on board draft.owners.items) y (drawn_on board draft.owners.items)) part
-    (Fills-nobody board draft c.requires.board c.requires.draft c.args.at (here.topic.0, queued.place.partition) here.is_part c.requires.free (no_takers board.subs.now here.topic.0 here.takers.items here.are_takers empty))
+    subst (λ y. Fills (members_on board) (drawn_on board draft.owners.items) y (drawn_on board draft.owners.items)) part
+    (Fills-nobody board draft c.requires.board.bare c.requires.draft c.args.at (here.topic.0, queued.place.partition) here.is_part c.requires.free (no_takers (members_on board) here.topic.0 here.takers.items here.are_takers empty))

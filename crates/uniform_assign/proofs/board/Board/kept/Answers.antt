@@ -9,12 +9,12 @@ use Rattle.group_types.specs.Uniform.{in_partition_order}
 use Rattle.range_assign.specs.Members.{subscriber_of}
 use Rattle.uniform_assign.specs.declared.draft.Draft.{Draft}
 use Rattle.uniform_assign.specs.Drafts.{IsDraft}
-use Rattle.uniform_assign.specs.Former.{IsFormerOwner}
-use Rattle.uniform_assign.proofs.Boards.{as_many_places, at_place, parts_are_apart, place_here}
+use Rattle.uniform_assign.proofs.Boards.{as_many_places, part_at, parts_are_apart, place_here}
 use Rattle.uniform_assign.proofs.Kept.{AreCounts-none, AreKeptTo, AreKeptTo-give, AreKeptTo-none, AreKeptTo-skip, IsKept-of, Keeps, Keeps-of, Keeps-owner, Keeps-subscribes}
 use Rattle.uniform_assign.proofs.Moves.{IsDraft-give}
 use Rattle.uniform_assign.proofs.board.Board.kept.Goals as goal
 use Rattle.uniform_assign.proofs.board.Board.kept.Goals.{in-Some+then-subscribes, in-Some+else-subscribes, in_default}
+use Rattle.uniform_assign.specs.Boards.{members_on}
 
 -- the former owner that was read
 read : (owners : List (Option ℕ)) (k : ℕ) (o : Option ℕ) (m : ℕ) → k < length owners → o ≡ get_or owners k o → o ≡ Some m → get_or owners k None ≡ Some m
@@ -23,15 +23,15 @@ read owners k o m within is same = get_or_default owners k None o within ∙ sym
 pub loop-at-init : goal.loop-at-init
 loop-at-init c =
     let draft = c.in_ok-draft.draft in
-    let subs = c.args.self.now.subs.now in
+    let subs = members_on c.args.self.now in
     let parts = in_partition_order c.args.self.now.view.now in
     let owners = ap length c.in_ok-draft.ensures.owners ∙ length-replicate c.len.result None in
-    let counts = ap length c.in_ok-draft.ensures.counts ∙ length-replicate (length c.members-members.result.now) 0 in
-    let members = sym (length-map c.members-members.result.now subscriber_of) ∙ ap length c.members-members.ensures.all in (
+    let counts = ap length c.in_ok-draft.ensures.counts ∙ length-replicate (length c.args.self.now.members.now) 0 in
+    let members = sym (length-map c.args.self.now.members.now subscriber_of) in (
       record {
         as_many_owners = owners ∙ c.len.ensures ∙ c.args.self.now.places.ok.0;
         as_many_counts = counts ∙ members;
-        counts = AreCounts-none draft.owners.items draft.counts.items c.len.result (length c.members-members.result.now) c.in_ok-draft.ensures.owners c.in_ok-draft.ensures.counts;
+        counts = AreCounts-none draft.owners.items draft.counts.items c.len.result (length c.args.self.now.members.now) c.in_ok-draft.ensures.owners c.in_ok-draft.ensures.counts;
       },
       AreKeptTo-none c.args.former.now subs parts draft.owners.items c.len.result c.in_ok-draft.ensures.owners,
     )
@@ -40,11 +40,11 @@ pub subscribes-requires : goal.subscribes-requires
 subscribes-requires c =
     let board = c.args.self.now in
     let place = c.place-item.result in
-    let at = at_place board c.requires c.loop-at.at place (place_here c.deref-place-items.result.now board.places.items c.loop-at.at place c.deref-place-items.ensures.value c.loop-at-test.true c.place-item.is) in
+    let at = part_at board c.requires c.loop-at.at place (place_here c.deref-place-items.result.now board.places.items c.loop-at.at place c.deref-place-items.ensures.value c.loop-at-test.true c.place-item.is) in
     let here = place_here c.deref-place-items.result.now board.places.items c.loop-at.at place c.deref-place-items.ensures.value c.loop-at-test.true c.place-item.is in
     let owner = (c.in_ok-owners.ensures.owners c.loop-at.at c.in-Some.member place here).0 (read c.in_ok-owners.owners.items c.loop-at.at c.index.result.now c.in-Some.member (let as_many = c.in_ok-owners.ensures.as_many in let shown = ap length c.deref-place-items.ensures.value in let within = c.loop-at-test.true in omega arith) c.index.ensures c.in-Some.is) in
     record {
-      member_in = slice_get_within board.subs.now c.in-Some.member owner.member (ap (λ xs. slice_get xs c.in-Some.member) (sym c.members-members.ensures.all) ∙ owner.is_member);
+      member_in = slice_get_within (members_on board) c.in-Some.member owner.member owner.is_member;
       topic_in = slice_get_within (finite.entries board.view.now) place.topic at.topic at.is_topic;
     }
 
@@ -54,7 +54,7 @@ give-requires c =
     let place = c.place-item.result in
     let here = place_here c.deref-place-items.result.now board.places.items c.loop-at.at place c.deref-place-items.ensures.value c.loop-at-test.true c.place-item.is in
     let owner = (c.in_ok-owners.ensures.owners c.loop-at.at c.in-Some.member place here).0 (read c.in_ok-owners.owners.items c.loop-at.at c.index.result.now c.in-Some.member (let as_many = c.in_ok-owners.ensures.as_many in let shown = ap length c.deref-place-items.ensures.value in let within = c.loop-at-test.true in omega arith) c.index.ensures c.in-Some.is) in
-    let member = slice_get_within board.subs.now c.in-Some.member owner.member (ap (λ xs. slice_get xs c.in-Some.member) (sym c.members-members.ensures.all) ∙ owner.is_member) in
+    let member = slice_get_within (members_on board) c.in-Some.member owner.member owner.is_member in
     let low = c.loop-at-test.true in
     let places = ap length c.deref-place-items.ensures.value in
     let owners = c.loop-at.invariant.0.as_many_owners in
@@ -65,11 +65,11 @@ pub loop-at-preserved : goal.loop-at-preserved
 loop-at-preserved c =
     let board = c.args.self.now in
     let former = c.args.former.now in
-    let subs = board.subs.now in
+    let subs = members_on board in
     let parts = in_partition_order board.view.now in
     let n = c.loop-at.at in
     let place = c.place-item.result in
-    let at = at_place board c.requires n place (place_here c.deref-place-items.result.now board.places.items n place c.deref-place-items.ensures.value c.loop-at-test.true c.place-item.is) in
+    let at = part_at board c.requires n place (place_here c.deref-place-items.result.now board.places.items n place c.deref-place-items.ensures.value c.loop-at-test.true c.place-item.is) in
     let owners = c.loop-at.draft.owners.items in
     let (draft, kept) = c.loop-at.invariant in
     let low = c.loop-at-test.true in
@@ -80,7 +80,7 @@ loop-at-preserved c =
     elim c.match-index.branch [
       | in-Some+then-subscribes w ↦
           let m = w.in-Some.member in
-          let owner = subst (λ ms. IsFormerOwner former ms m place.partition) c.members-members.ensures.all ((c.in_ok-owners.ensures.owners n m place here).0 (read c.in_ok-owners.owners.items n c.index.result.now m in_owners c.index.ensures w.in-Some.is)) in
+          let owner = (c.in_ok-owners.ensures.owners n m place here).0 (read c.in_ok-owners.owners.items n c.index.result.now m in_owners c.index.ensures w.in-Some.is) in
           let takes = sym (w.if-subscribes.ensures owner.member at.topic owner.is_member at.is_topic) in
           let keeps = Keeps-of former subs parts n m x owner.member at.is_part owner.is_member owner takes in
           let given = ap (λ (d : Draft). d.owners.items) w.draft-is ∙ w.give.ensures.owners in (
@@ -89,7 +89,7 @@ loop-at-preserved c =
           )
       | in-Some+else-subscribes w ↦
           let m = w.in-Some.member in
-          let owner = subst (λ ms. IsFormerOwner former ms m place.partition) c.members-members.ensures.all ((c.in_ok-owners.ensures.owners n m place here).0 (read c.in_ok-owners.owners.items n c.index.result.now m in_owners c.index.ensures w.in-Some.is)) in
+          let owner = (c.in_ok-owners.ensures.owners n m place here).0 (read c.in_ok-owners.owners.items n c.index.result.now m in_owners c.index.ensures w.in-Some.is) in
           let away = sym (w.if-subscribes.ensures owner.member at.topic owner.is_member at.is_topic) in
           let nobody : (j : ℕ) → ¬ Keeps former subs parts n j = λ j keeps.
           let other = Keeps-owner former subs parts n j x at.is_part keeps in
@@ -102,7 +102,7 @@ loop-at-preserved c =
           )
       | in_default w ↦
           let nobody : (j : ℕ) → ¬ Keeps former subs parts n j = λ j keeps.
-          let other = subst (λ ms. IsFormerOwner former ms j place.partition) (sym c.members-members.ensures.all) (Keeps-owner former subs parts n j x at.is_part keeps) in
+          let other = Keeps-owner former subs parts n j x at.is_part keeps in
           let found = (c.in_ok-owners.ensures.owners n j place here).1 other in
           let none = w.in_default.is in
           let shown = get_or_default c.in_ok-owners.owners.items n None c.index.result.now in_owners in
@@ -121,5 +121,5 @@ returns c =
     let last = c.loop-at-test.false in
     record {
       draft = c.loop-at.invariant.0;
-      kept = IsKept-of board.view.now board.subs.now c.args.former.now c.loop-at.at c.loop-at.draft.owners.items (parts_are_apart board c.requires) (omega arith) c.loop-at.invariant.1;
+      kept = IsKept-of board.view.now (members_on board) c.args.former.now c.loop-at.at c.loop-at.draft.owners.items (parts_are_apart board c.requires) (omega arith) c.loop-at.invariant.1;
     }

@@ -11,6 +11,7 @@ use Rattle.uniform_assign.proofs.Boards.{IsAt, at_place, least-within}
 use Rattle.uniform_assign.proofs.Counts.{count-le}
 use Rattle.uniform_assign.proofs.Moves.{near-stays, no_owner-stays, no_taker-stays}
 use Rattle.uniform_assign.proofs.board.Board.move_of.Goals as goal
+use Rattle.uniform_assign.specs.Boards.{members_on}
 
 -- the place that was read
 read : {X : Type 0} (xs : List X) (k : ℕ) (x : X) → k < length xs → x ≡ get_or xs k x → slice_get xs k ≡ Some x
@@ -27,8 +28,8 @@ module _ (board : Board) (draft : Draft) (fewest : List (Option ℕ)) (are : Are
 
   least_in : (is_draft : IsDraft board draft) (m : ℕ) → IsLeast draft.counts.items at.takers.items m → m < length draft.counts.items
   least_in is_draft m least =
-      let (s, is_s) = least-within board.subs.now at.topic.0 draft.counts.items at.takers.items m at.are_takers least in
-      let low = slice_get_within board.subs.now m s is_s in
+      let (s, is_s) = least-within (members_on board) at.topic.0 draft.counts.items at.takers.items m at.are_takers least in
+      let low = slice_get_within (members_on board) m s is_s in
       let many = is_draft.as_many_counts in
       omega arith
 
