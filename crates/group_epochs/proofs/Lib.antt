@@ -8,3 +8,4 @@ pub mod Ranked
 pub mod Earliest
 pub mod Counted
 pub mod Listed
+pub mod Around

@@ -1,9 +1,7 @@
--- The members in the order of ids, with a record at its rank.
-use Rattle.std.proofs.Common.{◌≡◌, ℕ, Option, Some, None, List, [], ◌∷◌, ◌++◌, drop, map, slice_get, take, String, refl, sym, ap, subst, ◌∙◌}
-use Rattle.std.specs.Prelude.{IsPermutation}
-use Rattle.std.proofs.lemmas.List.{map-append, take-append-drop}
+-- The members at places, but one of them.
+use Rattle.std.proofs.Common.{◌≡◌, ℕ, Option, Some, None, List, [], ◌∷◌, ◌++◌, map, slice_get, String, refl, ap, ◌∙◌}
+use Rattle.std.proofs.lemmas.List.{map-append}
 use Rattle.std.proofs.lemmas.List.Elements.{filter-append}
-use Rattle.std.proofs.lemmas.List.Sorted.{IsPermutation-middle}
 use Rattle.std.specs.Prelude.{not, string_bytes}
 use Rattle.std.specs.Str.{bytes_eq}
 use Rattle.group_types.specs.Assignors.{Subscriber}
@@ -24,15 +22,8 @@ module _ {Y : Type 0} (rows : List (String Y × Entry)) where
   abbrev pub listed : Text → List ℕ → List Subscriber
   listed id places = map seen_of (others id (rows_at rows places))
 
-  listed-append : (id : Text) (xs ys : List ℕ) → listed id (xs ++ ys) ≡ listed id xs ++ listed id ys
+  pub listed-append : (id : Text) (xs ys : List ℕ) → listed id (xs ++ ys) ≡ listed id xs ++ listed id ys
   listed-append id xs ys =
       ap (λ l. map seen_of (others id l)) (rows_at-append xs ys)
       ∙ ap (map seen_of) (filter-append (λ (row : String Y × Entry). not (bytes_eq (string_bytes row.0) id)) (rows_at rows xs) (rows_at rows ys))
       ∙ map-append seen_of (others id (rows_at rows xs)) (others id (rows_at rows ys))
-
-  -- one among the others at its rank, and in front of them
-  pub listed_moves : (id : Text) (m : Subscriber) (places : List ℕ) (rank : ℕ) → IsPermutation (listed id (take rank places) ++ m ∷ listed id (drop rank places)) (m ∷ listed id places)
-  listed_moves id m places rank =
-      subst (λ l. IsPermutation (listed id (take rank places) ++ m ∷ listed id (drop rank places)) (m ∷ l))
-      (sym (listed-append id (take rank places) (drop rank places)) ∙ ap (listed id) (take-append-drop rank places))
-      (IsPermutation-middle (listed id (take rank places)) m (listed id (drop rank places)))

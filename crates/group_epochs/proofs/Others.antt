@@ -69,7 +69,7 @@ insert_over s id r =
     ∙ ap (λ o. cond (eq_by_cmp text_cmp q id) (Some r) o) (finite.get-remove text_cmp_total s id q)
     ∙ elim (eq_by_cmp text_cmp q id) as (λ b. cond b (Some r) (cond b None (finite.get s q)) ≡ cond b (Some r) (finite.get s q)) [ true ↦ refl | false ↦ refl ])
 
-apart_of_distinct : (subs : List Subscriber) → IsDistinct (eq_by_cmp text_cmp) (map (λ s. s.id) subs) → IdsAreApart subs
+pub apart_of_distinct : (subs : List Subscriber) → IsDistinct (eq_by_cmp text_cmp) (map (λ s. s.id) subs) → IdsAreApart subs
 apart_of_distinct subs distinct = λ i j m n is_m is_n same.
     let in_i = slice_get_within subs i m is_m in
     let in_j = slice_get_within subs j n is_n in

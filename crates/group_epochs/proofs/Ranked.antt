@@ -33,7 +33,7 @@ both_hold : (a b : Bool) → T a → T b → T (a && b)
 both_hold true b p q = q
 both_hold false b p q = p
 
-row_there : {X : Type 0} (xs : List X) (i : ℕ) → i < length xs → (x : X) × (slice_get xs i ≡ Some x)
+pub row_there : {X : Type 0} (xs : List X) (i : ℕ) → i < length xs → (x : X) × (slice_get xs i ≡ Some x)
 row_there [] i within = absurd (omega (arith, within))
 row_there (x ∷ xs) zero within = (x, refl)
 row_there (x ∷ xs) (suc i) within = row_there xs i (omega (arith, within))
@@ -52,7 +52,7 @@ module _ {Y : Type 0} where
       by zero row rest = sym row.1
       by (suc s) row rest = rest s
 
-  texts_of_rows : (rows : List (String Y × Entry)) (places : List ℕ) → AllByRecursion (λ k. k < length rows) places → texts_in (rows_at rows places) ≡ texts_at (texts_in rows) places
+  pub texts_of_rows : (rows : List (String Y × Entry)) (places : List ℕ) → AllByRecursion (λ k. k < length rows) places → texts_in (rows_at rows places) ≡ texts_at (texts_in rows) places
   texts_of_rows rows [] within = refl
   texts_of_rows rows (k ∷ ks) within =
       let row = row_there rows k within.0 in

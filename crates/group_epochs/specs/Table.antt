@@ -1,7 +1,7 @@
 -- The members of a group as a table by their ids' texts, and what callers see of it.
 use Rattle.group_types.specs.Tick.{IsFirstDue, is_due}
 use Rattle.group_types.specs.Leave.{away}
-use Rattle.std.specs.Prelude.{◌≡◌, ℕ, ◌+◌, nat_le, min, not, if◌then◌else◌, List, [], ◌∷◌, length, map, filter, Option, Some, None, IsSome, String, string_bytes, ◌<◌, ◌≤◌, ◌==◌, Result, MatchResult, slice_get, slice_index_or, false, Bool}
+use Rattle.std.specs.Prelude.{◌≡◌, ℕ, ◌+◌, nat_le, min, not, if◌then◌else◌, List, [], ◌∷◌, length, map, filter, Option, Some, None, IsSome, String, string_bytes, ◌<◌, ◌≤◌, ◌==◌, Result, MatchResult, slice_get, slice_index_or, false, Bool, Ok, Err, suc, take, drop, ◌⊎◌}
 use Rattle.std.specs.FinMap as finite
 use Rattle.std.specs.Ordering.{eq_by_cmp}
 use Rattle.std.specs.declared.cmp.Ordering.TheVariants.{Less, Greater}
@@ -64,6 +64,14 @@ abbrev pub IsRank : List Text → List ℕ → Text → Result ℕ ℕ → Type 
 IsRank texts places m rank =
     MatchResult rank (λ r. (r < length places) × (slice_get (texts_at texts places) r ≡ Some m))
     (λ r. (r ≤ length places) × IsPartitionPoint (λ t. text_cmp t m ≡ Less) (λ t. text_cmp t m ≡ Greater) (texts_at texts places) r)
+
+-- the places before the text's, and those behind it; its own, if it is there, is in neither
+pub record IsAround (texts : List Text) (places : List ℕ) (m : Text) (before after : List ℕ) : Type 0 where
+  pub rank : ℕ
+  pub next : ℕ
+  pub is_rank : (IsRank texts places m (Ok rank) × (next ≡ suc rank)) ⊎ (IsRank texts places m (Err rank) × (next ≡ rank))
+  pub is_before : before ≡ take rank places
+  pub is_after : after ≡ drop next places
 
 -- the last place goes to where a member went
 abbrev pub renumbered : ℕ → ℕ → ℕ → ℕ

@@ -12,6 +12,7 @@ mod past;
 mod record;
 mod records;
 mod sets;
+mod subscribers;
 mod table;
 
 pub use names::NewNames;

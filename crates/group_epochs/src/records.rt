@@ -19,9 +19,9 @@ use crate::entry::{Entry, Table};
 use crate::names::NewNames;
 use crate::past::Past;
 use crate::record::Record;
+use crate::subscribers::{add_all, in_member_order};
 use crate::table::{
-    add, add_others, beat, first_due, first_with, go_away, mark, put, rank_at, take_out,
-    take_out_at,
+    add, around, beat, first_due, first_with, go_away, mark, put, take_out, take_out_at,
 };
 use group_types::limits::SESSION_TIMEOUT;
 use group_types::{EpochNumber, MemberId, Moment, NameSet, Stamp};
@@ -155,7 +155,7 @@ impl Records {
     }
 
     /// The members in member order, with this record for the id in place of the one that is kept, if any. They are listed in the
-    /// order of ids, so that a group without static members needs no sort. Fails where memory is short.
+    /// order of ids, so that in a group without static members no two ids are compared. Fails where memory is short.
     pub fn subs_with<'a>(
         &'a self,
         alloc: Global,
@@ -164,13 +164,14 @@ impl Records {
     ) -> Result<Subs<'a>, AllocError>
         ensures { IfOk result (λ subs. AreMembers (finite.insert self.now.records id.now «record».now) subs) }
     {
-        let mut members = Vec::with_capacity(alloc, self.members.len() + 1)?;
-        let rank = rank_at(&self.members, &self.by_id, id.as_str());
-        let (before, after) = self.by_id.split_at(rank);
-        add_others(&mut members, &self.members, before, id.as_str())?;
+        // rounded up, so that a growing group asks the allocator for one size again and again
+        let room = (self.members.len() / 1024 + 1) * 1024;
+        let mut members = Vec::with_capacity(alloc, room)?;
+        let (before, after) = around(&self.members, &self.by_id, id.as_str());
+        add_all(&mut members, &self.members, before)?;
         members.push(record.as_subscriber(id))?;
-        add_others(&mut members, &self.members, after, id.as_str())?;
-        Ok(Subs::of(members))
+        add_all(&mut members, &self.members, after)?;
+        Ok(in_member_order(members))
     }
 
     /// The image's topics that some member subscribes, with this record for the id in place of the one that is kept, if any.

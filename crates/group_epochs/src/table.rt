@@ -1,20 +1,16 @@
 //! The members of a group by their ids' texts: what the records do to them.
 
-ghost use Rattle.std.specs.Prelude.{Ok, ◌≡◌, ◌<◌, ◌≤◌, ◌-◌, ◌++◌, ◌∷◌, [], ℕ, length, false, true, bytes_eq, slice_get, if◌then◌else◌, MatchOption, None, Some, IsSome, OnOk, map, string_bytes, vec_capacity, vec_len};
+ghost use Rattle.std.specs.Prelude.{Ok, ◌≡◌, ◌<◌, ◌≤◌, ◌-◌, ℕ, length, false, true, slice_get, MatchOption, None, Some, IsSome, map, string_bytes, vec_capacity, vec_len};
 ghost use Rattle.group_types.specs.Text.{Text, text_cmp};
 ghost use Rattle.std.specs.Option.{option_copied};
 ghost use Rattle.std.specs.String.{string_eq};
 ghost use Rattle.indexmap.specs.IndexMap.{IsUnique, get, get_by_text, index_map_len, spare};
-ghost use Rattle.group_epochs.specs.Seen.{seen_as};
 ghost use Rattle.group_epochs.specs.declared.entry.Entry.{Entry as Stored};
-ghost use Rattle.range_assign.specs.Members.{subscribers_in};
-ghost use Rattle.group_epochs.specs.Table.{Adds, IsIdOrder, IsRank, Rewrites, TakesOut, first_with, is_due_at, is_row_due, marked_at, others, seen_of, with_away, with_beat, with_record_kept, renumbered, rows_at, text_at, texts_in};
+ghost use Rattle.group_epochs.specs.Table.{Adds, IsAround, IsIdOrder, IsRank, Rewrites, TakesOut, first_with, is_due_at, is_row_due, marked_at, with_away, with_beat, with_record_kept, renumbered, text_at, texts_in};
 
 use crate::entry::{Entry, Table};
 use crate::record::Record;
 use group_types::{EpochNumber, Moment, Stamp};
-use range_assign::Subscriber;
-use std::alloc::{AllocError, Global};
 use std::cmp::Ordering;
 use std::mem;
 
@@ -136,13 +132,14 @@ fn renumber(members: &Table, places: &mut [usize], to: usize)
     places[rank] = to;
 }
 
-/// The rank of an id, or else that at which its place goes.
-pub fn rank_at(members: &Table, by_id: &[usize], id: &str) -> usize
+/// The places of the members before an id, and those of the members behind it, in the order of ids.
+pub fn around<'a>(members: &Table, by_id: &'a [usize], id: &str) -> (&'a [usize], &'a [usize])
     requires { IsIdOrder (texts_in members.now.entries) by_id.now }
-    ensures { result ≤ length by_id.now }
+    ensures { IsAround (texts_in members.now.entries) by_id.now id.now result.0.now result.1.now }
 {
     match rank_of(members, by_id, id) {
-        Ok(rank) | Err(rank) => rank,
+        Ok(rank) => (&by_id[..rank], &by_id[rank + 1..]),
+        Err(rank) => by_id.split_at(rank),
     }
 }
 
@@ -174,40 +171,6 @@ pub fn first_with<'a>(members: &'a Table, instance: &str) -> Option<&'a Entry>
         }
     }
     None
-}
-
-/// Adds the members but this one, as an assignor sees them, in the order of their places. Where memory is short, some of
-/// them may be in already.
-pub fn add_others<'a>(
-    subscribers: &mut Vec<Subscriber<'a>>,
-    members: &'a Table,
-    places: &[usize],
-    id: &str,
-) -> Result<(), AllocError>
-    ensures { OnOk result (subscribers_in subscribers.new.items ≡ subscribers_in subscribers.old.items ++ map seen_of (others id.now (rows_at members.now.entries places.now))) }
-{
-    for place in places {
-        if let Some((text, entry)) = members.get_index(*place) {
-            add_other(subscribers, text.as_str(), entry, id)?;
-        }
-    }
-    Ok(())
-}
-
-/// Adds the member with this text, where it isn't the one with the id. Where memory is short, nothing is added.
-fn add_other<'a>(
-    subscribers: &mut Vec<Subscriber<'a>>,
-    text: &str,
-    entry: &'a Entry,
-    id: &str,
-) -> Result<(), AllocError>
-    ensures { OnOk result (subscribers_in subscribers.new.items ≡ (if bytes_eq text.now id.now then subscribers_in subscribers.old.items
-        else subscribers_in subscribers.old.items ++ seen_as entry.now.id entry.now.kept ∷ [])) }
-{
-    if text != id {
-        subscribers.push(entry.kept.as_subscriber(&entry.id))?;
-    }
-    Ok(())
 }
 
 /// The first rank, from one on, at whose place a member is due.
