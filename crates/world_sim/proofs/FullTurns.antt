@@ -1,8 +1,12 @@
 -- A client's turn in a round: its full beat is accepted, its reply is taken, and it releases all that it isn't shown.
-use Rattle.std.proofs.Common.{◌≡◌, ◌≢◌, ℕ, zero, suc, pos, Bool, true, false, ◌&&◌, ◌||◌, if◌then◌else◌, List, [], ◌∷◌, ◌++◌, map, length, slice_get, Option, Some, unwrap_or, inl, inr, refl, sym, ap, subst, ◌∙◌, true≢false}
+use Rattle.std.proofs.Common.{◌≡◌, ◌≢◌, ℕ, zero, suc, ◌≤◌, ℤ, pos, negsuc, arith, Bool, true, false, not, zero-lt-suc, ◌&&◌, ◌||◌, if◌then◌else◌, List, [], ◌∷◌, ◌++◌, map, length, slice_get, Option, Some, unwrap_or, inl, inr, refl, sym, ap, subst, ◌∙◌, true≢false}
+use Rattle.std.specs.Ordering.{int_eq}
 use Rattle.std.specs.FinMap as finite
-use Rattle.kip_msgs.specs.Values.{HeartbeatReplyValue, RequestValue, heartbeat_reply}
-use Rattle.kip_msgs.specs.Spelling.{SpellsRequest, SpellsReply}
+use Rattle.std.proofs.lemmas.Bool.{leb-true}
+use Rattle.std.proofs.lemmas.Bool.Decides.{Decides-int_eq}
+use Rattle.flex_wire.specs.Spelling.{signed}
+use Rattle.kip_msgs.specs.Values.{RequestHeaderValue, HeartbeatRequestValue, HeartbeatReplyValue, RequestValue, heartbeat_request, heartbeat_reply}
+use Rattle.kip_msgs.specs.Spelling.{SpellsRequest, SpellsReply, request_body, request_header_fields}
 use Rattle.kip_msgs.specs.Laws.{OneRequestABody, OneReplyABody}
 use Rattle.group_types.specs.declared.partition.Partition.{Partition}
 use Rattle.group_types.specs.declared.stamp.Stamp.{Stamp}
@@ -10,7 +14,8 @@ use Rattle.group_types.specs.Text.{Text}
 use Rattle.group_types.specs.Sets.{has, in_order, union}
 use Rattle.group_types.specs.Partition.{Partitions}
 use Rattle.group_types.specs.Code.{code_number}
-use Rattle.group_types.specs.Request.{Heartbeat}
+use Rattle.group_types.specs.Limits.{LARGEST_BODY}
+use Rattle.group_types.specs.Request.{Heartbeat, is_empty}
 use Rattle.group_types.specs.Group.{Group, Record}
 use Rattle.group_types.specs.HeartbeatStep.{shown}
 use Rattle.group_types.specs.HeartbeatStep as group
@@ -20,16 +25,16 @@ use Rattle.group_types.proofs.Orders.{partition_cmp_total, partition_cmp-IsAntis
 use Rattle.group_types.proofs.SetLemmas.{has-union, same_set}
 use Rattle.group_epochs.specs.Request.{arrival_of}
 use Rattle.coord_node.specs.Coordinator.{Coordinator, Answer, Replied, Closes, Done}
-use Rattle.coord_node.specs.Replies.{reply_value}
-use Rattle.coord_node.specs.Steps.{FrameStepBy, HeartbeatAt, RequestStep, Sends, message_of, with_group}
-use Rattle.member_core.specs.Client.{Client, State, Inside, to_release}
-use Rattle.member_core.specs.Asking.{Beat, Full, after_sending, beat_of, fullness_of, heartbeat_for, heartbeat_value, request_for, request_value}
+use Rattle.coord_node.specs.Replies.{heartbeat_reply_value, reply_value}
+use Rattle.coord_node.specs.Steps.{FrameStepBy, HeartbeatAt, IsRequest, RequestStep, Sends, message_of, with_group}
+use Rattle.member_core.specs.Client.{Client, State, Inside, state_of, to_release}
+use Rattle.member_core.specs.Asking.{Beat, Full, after_sending, beat_of, fullness_of, header_of, heartbeat_for, heartbeat_value, request_for, request_value}
 use Rattle.member_core.specs.Taking.{MeansSuccess, News, Accepts, Takes, Tells, after_news, meaning_of, news_by, news_of}
 use Rattle.world_sim.specs.World.{World, Request, Reply, numbered, with_client, with_coordinator, with_reply, with_request}
-use Rattle.world_sim.specs.Acts.{AsksIf, AsksStep, DeliversIf, DeliverStep, Outcome, IsSent, IsReplied, Is, Pools, SendsIf, TakeBy, TakenAs, TakeStep, Release, Run, fits_frame, stamp_of}
+use Rattle.world_sim.specs.Acts.{AsksIf, AsksStep, DeliversIf, DeliverStep, Outcome, IsSent, IsReplied, Is, Pools, SendsIf, TakeBy, TakenAs, TakeStep, Release, Run, fits_frame, is_forgotten, is_unremembered, stamp_of}
 use Rattle.world_sim.specs.Rounds.{HasTurn}
 use Rattle.world_sim.proofs.FullBeats.{CanBeat, HasBeat, full_beat, has_beat}
-use Rattle.world_sim.proofs.Messages.{assignment_same, heartbeat_reply_in, heartbeat_said, same_body}
+use Rattle.world_sim.proofs.Messages.{assignment_same, heartbeat_in, heartbeat_reply_in, heartbeat_said, same_body}
 use Rattle.world_sim.proofs.Numbered.{numbered_itself, numbered_other}
 use Rattle.world_sim.proofs.Released.{HasReleased, releases}
 
@@ -68,6 +73,30 @@ told_by : (m : Text) (epoch : ℕ) (set : Partitions) (news : News) → news_by 
 told_by m zero set news is = absurd (not_none news is)
 told_by m (suc epoch) set news is = sym (some_is (Accepts m (suc epoch) (Some set)) news is)
 
+-- ---- what a full beat is
+
+not_zero : (below : ℕ) → int_eq (pos (suc below)) (pos 0) ≡ false
+not_zero below = by (int_eq (pos (suc below)) (pos 0)) refl
+  where
+    by : (b : Bool) → int_eq (pos (suc below)) (pos 0) ≡ b → b ≡ false
+    by true so =
+        let same : suc below ≡ 0 = ap (λ (x : ℤ). elim x [ pos n ↦ n | negsuc n ↦ 0 ]) ((Decides-int_eq (pos (suc below)) (pos 0)).0 so) in
+        absurd (omega (arith, same))
+    by false so = refl
+
+some_bytes : (header : RequestHeaderValue) (v : HeartbeatRequestValue) → 1 ≤ length (request_body (heartbeat_request header v))
+unfolding request_body request_header_fields signed
+some_bytes header v = zero-lt-suc _
+
+-- a heartbeat whose body fits a frame is a request
+heartbeat_is_request : (header : RequestHeaderValue) (v : HeartbeatRequestValue) (body : List ℕ) → SpellsRequest (heartbeat_request header v) body → length body ≤ LARGEST_BODY
+    → IsRequest (heartbeat_request header v) body
+heartbeat_is_request header v body spells most =
+    record { least = subst (λ (b : List ℕ). 1 ≤ length b) (sym spells.bytes) (some_bytes header v); most = most; spells = spells }
+
+abbrev pub IsReply : Outcome → Type 0
+IsReply outcome = (k : ℕ) × (said : HeartbeatReplyValue) × (outcome ≡ IsReplied k said)
+
 -- ---- a full beat is full anyway
 
 full_anyway : (c : Client) → fullness_of c Full ≡ Full
@@ -86,23 +115,24 @@ module _ (one_request : OneRequestABody) (one_reply : OneReplyABody) (w : World)
 
   -- ---- it asks
 
-  record IsSending (request : ℕ) (sent : World) : Type 0 where
-    body : List ℕ
-    spells : SpellsRequest (request_for c (Beat Full)) body
-    is_request : request ≡ suc (length w.requests)
-    is : sent ≡ with_request (with_client w n Asked) (record { sender = n; stamp = stamp_of n Asked; body = body })
+  pub record IsSending (request : ℕ) (sent : World) : Type 0 where
+    pub body : List ℕ
+    pub fits : fits_frame body ≡ true
+    pub spells : SpellsRequest (request_for c (Beat Full)) body
+    pub is_request : request ≡ suc (length w.requests)
+    pub is : sent ≡ with_request (with_client w n Asked) (record { sender = n; stamp = stamp_of n Asked; body = body })
 
-  sends_if : (b : Bool) (request : ℕ) (sent : World) (body : List ℕ) → SpellsRequest (request_for c (Beat Full)) body
+  sends_if : (b : Bool) (request : ℕ) (sent : World) (body : List ℕ) → fits_frame body ≡ b → SpellsRequest (request_for c (Beat Full)) body
       → SendsIf b w n Asked body (IsSent request) sent → IsSending request sent
-  sends_if true request sent body spells is = record { body = body; spells = spells; is_request = ap number_of is.0; is = is.1 }
-  sends_if false request sent body spells is = absurd (true≢false (ap is_sent is.0))
+  sends_if true request sent body fits spells is = record { body = body; fits = fits; spells = spells; is_request = ap number_of is.0; is = is.1 }
+  sends_if false request sent body fits spells is = absurd (true≢false (ap is_sent is.0))
 
   asks_if : (b : Bool) (request : ℕ) (sent : World) → AsksIf b c w n (Beat Full) (IsSent request) sent → IsSending request sent
   asks_if false request sent is = absurd (true≢false (ap is_sent is.0))
   asks_if true request sent (body, after, asks, is) =
-      sends_if (fits_frame body) request sent body asks.spells (subst (λ (x : Client). SendsIf (fits_frame body) w n x body (IsSent request) sent) asks.after is)
+      sends_if (fits_frame body) request sent body refl asks.spells (subst (λ (x : Client). SendsIf (fits_frame body) w n x body (IsSent request) sent) asks.after is)
 
-  sending : (request : ℕ) (sent : World) → AsksStep (numbered w.clients n) w n (Beat Full) (IsSent request) sent → IsSending request sent
+  pub sending : (request : ℕ) (sent : World) → AsksStep (numbered w.clients n) w n (Beat Full) (IsSent request) sent → IsSending request sent
   sending request sent is = asks_if _ request sent (subst (λ (o : Option Client). AsksStep o w n (Beat Full) (IsSent request) sent) there is)
 
   -- ---- it is heard
@@ -124,16 +154,64 @@ module _ (one_request : OneRequestABody) (one_reply : OneReplyABody) (w : World)
     TheMessage = request_value (suc c.number) TheBeat
 
     -- the group's answer, and the bytes that are pooled
-    record IsHeardIn (k : ℕ) (sent heard : World) : Type 0 where
-      after : Group
-      answer : group.Answer
-      beat : HasBeat g w.coordinator.image m c.own answer after
-      request : Request
-      sender : request.sender ≡ n
-      body : List ℕ
-      spells : SpellsReply (reply_value (pos (suc c.number)) beat.reply) body
-      is_reply : k ≡ suc (length sent.replies)
-      is : heard ≡ with_reply (with_coordinator sent (with_group w.coordinator c.settings.group after)) (record { request = request; body = body })
+    pub record IsHeardIn (k : ℕ) (sent heard : World) : Type 0 where
+      pub after : Group
+      pub answer : group.Answer
+      pub beat : HasBeat g w.coordinator.image m c.own answer after
+      pub request : Request
+      pub sender : request.sender ≡ n
+      pub body : List ℕ
+      pub spells : SpellsReply (reply_value (pos (suc c.number)) beat.reply) body
+      pub is_reply : k ≡ suc (length sent.replies)
+      pub is : heard ≡ with_reply (with_coordinator sent (with_group w.coordinator c.settings.group after)) (record { request = request; body = body })
+
+    -- ---- whatever comes of the delivery is a reply
+
+    module _ (body : List ℕ) (spells : SpellsRequest (request_for c (Beat Full)) body) (sent heard : World) (is_sent_w : sent ≡ with_request (with_client w n Asked) (record { sender = n; stamp = stamp_of n Asked; body = body })) where
+      abbrev AnyRequest : Request
+      AnyRequest = record { sender = n; stamp = stamp_of n Asked; body = body }
+
+      pooled_anyway : (after : Group) (given : group.Answer) (beat : HasBeat g w.coordinator.image m c.own given after) (answer : Answer)
+          → Sends (Some (reply_value (pos (suc c.number)) beat.reply)) answer → (outcome : Outcome)
+          → Pools (with_coordinator sent (with_group w.coordinator c.settings.group after)) AnyRequest answer outcome heard → IsReply outcome
+      pooled_anyway after given beat (Replied frame) sends outcome (bytes, header, reply, framed, spelled, comes) = (suc (length sent.replies), reply, comes.0)
+      pooled_anyway after given beat Closes sends outcome pools = absurd sends
+      pooled_anyway after given beat (Done removed) sends outcome pools = absurd sends
+
+      answered_anyway : (answer : Answer) (new : Coordinator) (given : group.Answer)
+          → HeartbeatAt (Some g) w.coordinator (arrival_of (heartbeat_value TheBeat) TheStamp w.clock w.coordinator.image) given new → Sends (message_of (pos (suc c.number)) given) answer
+          → (outcome : Outcome) → Pools (with_coordinator sent new) AnyRequest answer outcome heard → IsReply outcome
+      answered_anyway answer new given (after, step, is) sends outcome pools =
+          let beat : HasBeat g w.coordinator.image m c.own given after =
+          has_beat g sound w.coordinator.image c.settings m below c.own TheStamp w.clock r e can given after
+          (subst (λ (q : Heartbeat). group.HeartbeatStep g (record { heartbeat = q; stamp = TheStamp; moment = w.clock; image = w.coordinator.image }) given after) (heartbeat_said TheBeat) step) in
+          pooled_anyway after given beat answer
+          (subst (λ (x : group.Answer). Sends (message_of (pos (suc c.number)) x) answer) beat.answers sends) outcome
+          (subst (λ (x : Coordinator). Pools (with_coordinator sent x) AnyRequest answer outcome heard) is pools)
+
+      stepped_anyway : fits_frame body ≡ true → (answer : Answer) (new : Coordinator) → FrameStepBy RequestStep w.coordinator body TheStamp w.clock answer new
+          → (outcome : Outcome) → Pools (with_coordinator sent new) AnyRequest answer outcome heard → IsReply outcome
+      stepped_anyway fits answer new (inl (v, is, step)) outcome pools =
+          let same : v ≡ TheMessage = one_request v (request_for c (Beat Full)) body is.spells spells ∙ ap (request_value (suc c.number)) same_beat in
+          let beats : RequestStep w.coordinator TheMessage TheStamp w.clock answer new = subst (λ (x : RequestValue). RequestStep w.coordinator x TheStamp w.clock answer new) same step in
+          answered_anyway answer new beats.0
+          (subst (λ (o : Option Group). HeartbeatAt o w.coordinator (arrival_of (heartbeat_value TheBeat) TheStamp w.clock w.coordinator.image) beats.0 new) of_group beats.1)
+          beats.2 outcome pools
+      stepped_anyway fits answer new (inr is) outcome pools =
+          absurd (is.0 (request_for c (Beat Full)) (heartbeat_is_request (header_of (suc c.number)) (heartbeat_value (heartbeat_for c (Beat Full))) body spells (leb-true (length body) LARGEST_BODY fits)))
+
+      delivers_anyway : fits_frame body ≡ true → (b : Bool) → b ≡ false → (outcome : Outcome) → DeliversIf b sent AnyRequest outcome heard → IsReply outcome
+      delivers_anyway fits true known outcome is = absurd (true≢false known)
+      delivers_anyway fits false known outcome (answer, new, step, pools) =
+          stepped_anyway fits answer new
+          (subst (λ (v : World). FrameStepBy RequestStep v.coordinator body TheStamp v.clock answer new) is_sent_w step) outcome pools
+
+      hears_anyway : fits_frame body ≡ true → (outcome : Outcome) → DeliverStep (Some AnyRequest) sent outcome heard → IsReply outcome
+      hears_anyway fits outcome (header, v, spelled, is) =
+          let same : heartbeat_request header v ≡ TheMessage = one_request (heartbeat_request header v) (request_for c (Beat Full)) body spelled spells ∙ ap (request_value (suc c.number)) same_beat in
+          delivers_anyway fits (is_forgotten sent.coordinator v)
+          (ap (λ (x : RequestValue). is_forgotten sent.coordinator (heartbeat_in x v)) same ∙ ap (λ b. b && not (is_empty m) && is_unremembered (finite.get sent.coordinator.groups Name) m) (not_zero below))
+          outcome is
 
     module _ (body : List ℕ) (spells : SpellsRequest (request_for c (Beat Full)) body) (k : ℕ) (said : HeartbeatReplyValue) (sent heard : World) (is_sent_w : sent ≡ with_request (with_client w n Asked) (record { sender = n; stamp = stamp_of n Asked; body = body })) where
       abbrev TheRequest : Request
@@ -189,7 +267,15 @@ module _ (one_request : OneRequestABody) (one_reply : OneReplyABody) (w : World)
       hears : DeliverStep (Some TheRequest) sent (IsReplied k said) heard → IsHeardIn k sent heard
       hears (header, v, spelled, is) = delivers_if _ is
 
-    heard_in : (request : ℕ) (sent heard : World) (k : ℕ) (said : HeartbeatReplyValue) → IsSending request sent → DeliverStep (numbered sent.requests request) sent (IsReplied k said) heard → IsHeardIn k sent heard
+    -- the beat is answered
+    pub is_answered : (request : ℕ) (sent heard : World) (outcome : Outcome) → IsSending request sent → DeliverStep (numbered sent.requests request) sent outcome heard → IsReply outcome
+    is_answered request sent heard outcome sending is =
+        let TheRequest : Request = record { sender = n; stamp = stamp_of n Asked; body = sending.body } in
+        let pooled : numbered sent.requests request ≡ Some TheRequest =
+        ap (λ (v : World). numbered v.requests request) sending.is ∙ numbered_last w.requests TheRequest request sending.is_request in
+        hears_anyway sending.body sending.spells sent heard sending.is sending.fits outcome (subst (λ (o : Option Request). DeliverStep o sent outcome heard) pooled is)
+
+    pub heard_in : (request : ℕ) (sent heard : World) (k : ℕ) (said : HeartbeatReplyValue) → IsSending request sent → DeliverStep (numbered sent.requests request) sent (IsReplied k said) heard → IsHeardIn k sent heard
     heard_in request sent heard k said sending is =
         let TheRequest : Request = record { sender = n; stamp = stamp_of n Asked; body = sending.body } in
         let pooled : numbered sent.requests request ≡ Some TheRequest =
@@ -233,6 +319,40 @@ module _ (one_request : OneRequestABody) (one_reply : OneReplyABody) (w : World)
           subst (λ (o : Option Reply). TakeStep o heard (Is state) told) pooled is in
           take_by (subst (λ (o : Option Client). TakeBy o TheReply heard (Is state) told) (ap (numbered heard.clients) heard_as.sender ∙ is_asked) by_reply)
 
+    -- ---- whatever comes of its being given the reply, it takes it
+
+    module _ (k : ℕ) (sent heard : World) (heard_as : IsHeardIn k sent heard) (is_asked : numbered heard.clients n ≡ Some Asked) (told : World) where
+      abbrev AnyReply : Reply
+      AnyReply = record { request = heard_as.request; body = heard_as.body }
+
+      is_told : (below : ℕ) → heard_as.beat.epoch ≡ suc below → Tells (suc c.number) heard_as.body (Accepts m (suc below) (Some (shown heard_as.after m)))
+      is_told below positive =
+          let beat = heard_as.beat in
+          record {
+            header = record { correlation_id = pos (suc c.number); tags = [] };
+            reply = heartbeat_reply_value beat.reply;
+            spells = heard_as.spells;
+            answers = refl;
+            tells =
+                (λ i. news_by (meaning_of (code_number (beat.success i))) (beat.is_id i) (beat.is_epoch i) ((assignment_same beat.reply.assignment ∙ beat.is_shown) i))
+                ∙ ap (λ k. news_by MeansSuccess (Some m) (pos k) (Some (shown heard_as.after m))) positive;
+          }
+
+      taken_anyway : (below : ℕ) → heard_as.beat.epoch ≡ suc below → (taken : Bool) (after : Client) → Takes Asked heard_as.body taken after
+          → (outcome : Outcome) → TakenAs taken heard heard_as.request.sender after outcome told → (s : State) × (outcome ≡ Is s)
+      taken_anyway below positive true after takes outcome is = (state_of after, is.0)
+      taken_anyway below positive false after takes outcome is = absurd (takes.0 (Accepts m (suc below) (Some (shown heard_as.after m))) (is_told below positive))
+
+      pub is_taken : (below : ℕ) → heard_as.beat.epoch ≡ suc below → (outcome : Outcome) → TakeStep (numbered heard.replies k) heard outcome told → (s : State) × (outcome ≡ Is s)
+      is_taken below positive outcome is =
+          let pooled : numbered heard.replies k ≡ Some AnyReply =
+          ap (λ (v : World). numbered v.replies k) heard_as.is ∙ numbered_last sent.replies AnyReply k heard_as.is_reply in
+          let by_reply : TakeBy (numbered heard.clients heard_as.request.sender) AnyReply heard outcome told =
+          subst (λ (o : Option Reply). TakeStep o heard outcome told) pooled is in
+          let by_client : TakeBy (Some Asked) AnyReply heard outcome told =
+          subst (λ (o : Option Client). TakeBy o AnyReply heard outcome told) (ap (numbered heard.clients) heard_as.sender ∙ is_asked) by_reply in
+          taken_anyway below positive by_client.0 by_client.1 by_client.2 outcome by_client.3
+
     -- ---- the whole turn
 
     pub record HasGone (new : World) : Type 0 where
@@ -247,6 +367,8 @@ module _ (one_request : OneRequestABody) (one_reply : OneReplyABody) (w : World)
       pub id : client.id ≡ Some m
       pub place : client.place ≡ Inside
       pub epoch : client.epoch ≡ beat.epoch
+      pub number : client.number ≡ suc c.number
+      pub waits : client.waits ≡ false
       pub own : client.own ≡ shown after m
 
     both_or : (a b : Bool) → ((a || b) && b) ≡ b
@@ -278,6 +400,8 @@ module _ (one_request : OneRequestABody) (one_reply : OneReplyABody) (w : World)
           id = done.id;
           place = done.place;
           epoch = done.epoch;
+          number = done.number;
+          waits = done.waits;
           own = same_set partition_cmp_total partition_cmp-IsAntisymmetric done.client.own (shown heard_as.after m)
               (λ q.
               owned q

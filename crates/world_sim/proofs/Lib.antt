@@ -27,6 +27,12 @@ pub mod Released
 pub mod FullTurns
 pub mod RoundTurns
 pub mod ThreeRounds
+pub mod Goings
+pub mod Turning
+pub mod Releasings
+pub mod Counted
+pub mod Grouped
+pub mod Fits
 pub mod OneTarget
 pub mod OneJoin
 pub mod OneHolder
@@ -47,3 +53,4 @@ pub mod Took
 pub mod SceneMessages
 pub mod SceneAnswers
 pub mod Takers
+pub mod Replies

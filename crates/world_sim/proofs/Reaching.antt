@@ -11,6 +11,7 @@ use Rattle.world_sim.specs.Acts.{Act, Outcome, ActStep, Run}
 use Rattle.world_sim.specs.Exclusivity.{ActsLawfully, Always, RenewsLawfully, target_epoch_of}
 use Rattle.world_sim.specs.Acting.{Acted}
 use Rattle.world_sim.specs.Reached.{IsReached}
+use Rattle.world_sim.specs.Running.{AllActed, Answers, StaysLawful, StaysSo}
 use Rattle.world_sim.proofs.MailLemmas.{map_more}
 
 one_act_more : (acts : List Act) (outcomes : List Outcome) (w middle new : World) (act : Act) (outcome : Outcome)
@@ -45,6 +46,29 @@ pub acted_lawfully : (w new : World) (act : Act) (result : Result Shown WorldFau
 acted_lawfully w new act (Ok shown) lawfully acted = lawfully act acted.0 new acted.1
 acted_lawfully w new act (Err fault) lawfully acted = subst (λ (x : World). RenewsLawfully w x) (sym acted.1) (same_lawfully w)
 
+-- ---- a list of acts in the code
+
+pub stays_so : (Holds : World → Type 0) → Always Holds → (w : World) → IsReached w → StaysSo Holds w
+stays_so Holds so w reached [] answers = tt
+stays_so Holds so w reached (act ∷ acts) [] = tt
+stays_so Holds so w reached (act ∷ acts) (answer ∷ answers) = λ new acted.
+    let after = acted_reaches w new act answer reached acted in
+    (always Holds so new after, stays_so Holds so new after acts answers)
+
+pub stays_lawful : Always ActsLawfully → (w : World) → IsReached w → StaysLawful w
+stays_lawful so w reached [] answers = tt
+stays_lawful so w reached (act ∷ acts) [] = tt
+stays_lawful so w reached (act ∷ acts) (answer ∷ answers) = λ new acted.
+    let after = acted_reaches w new act answer reached acted in
+    (acted_lawfully w new act answer (always ActsLawfully so w reached) acted, stays_lawful so new after acts answers)
+
+pub one_more_acted : (acts : List Act) (answers : Answers) (w middle new : World) (act : Act) (answer : Result Shown WorldFault)
+    → AllActed w acts answers middle → Acted middle act answer new → AllActed w (acts ++ act ∷ []) (answers ++ answer ∷ []) new
+one_more_acted [] [] w middle new act answer is acted = (new, subst (λ (x : World). Acted x act answer new) is acted, refl)
+one_more_acted [] (a ∷ answers) w middle new act answer never acted = absurd never
+one_more_acted (a ∷ acts) [] w middle new act answer never acted = absurd never
+one_more_acted (a ∷ acts) (b ∷ answers) w middle new act answer all acted = (all.0, all.1, one_more_acted acts answers all.0 middle new act answer all.2 acted)
+
 -- ---- the first world
 
 map_twice : {X Y Z : Type 0} (f : Y → Z) (g : X → Y) (xs : List X) → map (λ x. f (g x)) xs ≡ map f (map g xs)
@@ -75,6 +99,9 @@ middle P all done rest left x each parts next =
 
 pub further : {X : Type 0} (all done rest left : List X) (x : X) → all ≡ done ++ rest → rest ≡ x ∷ left → all ≡ (done ++ x ∷ []) ++ left
 further all done rest left x parts next = parts ∙ ap (λ ys. done ++ ys) next ∙ sym (append_assoc done (x ∷ []) left)
+
+pub is_before : {X : Type 0} (all done rest left : List X) (x : X) → all ≡ done ++ rest → rest ≡ x ∷ left → length done < length all
+is_before all done rest left x parts next = subst (λ ys. length done < length ys) (sym (parts ∙ ap (λ ys. done ++ ys) next)) (before_middle done x left)
 
 pub one_more_made : {X Y : Type 0} (f : X → Y) (done : List X) (x : X) (made : List Y) (y : Y) (new : List Y) → made ≡ map f done → y ≡ f x → new ≡ made ++ y ∷ [] → new ≡ map f (done ++ x ∷ [])
 one_more_made f done x made y new so is more = more ∙ ap₂ (λ ys z. ys ++ z ∷ []) so is ∙ sym (map_more f done x)

@@ -24,6 +24,10 @@ pub record HasReleased (w : World) (n : ℕ) (x : Client) (ps : List Partition) 
   pub id : client.id ≡ x.id
   pub epoch : client.epoch ≡ x.epoch
   pub place : client.place ≡ x.place
+  pub number : client.number ≡ x.number
+  pub waits : client.waits ≡ x.waits
+  pub shown : client.shown ≡ x.shown
+  pub says_all : client.says_all ≡ x.says_all
   pub own : (q : Partition) → has client.own q ≡ (has x.own q && (has x.shown q || not (list_any (eq_by_cmp partition_cmp q) ps)))
 
 -- ---- truth
@@ -70,8 +74,10 @@ record IsAfter (x y : Client) (p : Partition) : Type 0 where
   id : y.id ≡ x.id
   epoch : y.epoch ≡ x.epoch
   place : y.place ≡ x.place
+  number : y.number ≡ x.number
   waits : y.waits ≡ x.waits
   shown : y.shown ≡ x.shown
+  says_all : y.says_all ≡ x.says_all
   own : (q : Partition) → has y.own q ≡ (has x.own q && (has x.shown q || not (eq_by_cmp partition_cmp q p)))
 
 released_after : (b : Bool) (x : Client) (p : Partition) → has x.shown p ≡ b → IsAfter x (released_if b x p) p
@@ -81,8 +87,10 @@ released_after true x p is =
       id = refl;
       epoch = refl;
       place = refl;
+      number = refl;
       waits = refl;
       shown = refl;
+      says_all = refl;
       own = λ q. sym (keeps_shown (has x.own q) (has x.shown q) (eq_by_cmp partition_cmp q p) (shown_alike x.shown q p true is));
     }
 released_after false x p is =
@@ -91,8 +99,10 @@ released_after false x p is =
       id = refl;
       epoch = refl;
       place = refl;
+      number = refl;
       waits = refl;
       shown = refl;
+      says_all = refl;
       own = λ q. has-without partition_cmp_total x.own p q ∙ sym (goes_unshown (has x.own q) (has x.shown q) (eq_by_cmp partition_cmp q p) (shown_alike x.shown q p false is));
     }
 
@@ -125,6 +135,10 @@ further n p ps state states w middle new x others_released later there inside st
           id = rest.id ∙ after.id;
           epoch = rest.epoch ∙ after.epoch;
           place = rest.place ∙ after.place;
+          number = rest.number ∙ after.number;
+          waits = rest.waits ∙ after.waits;
+          shown = rest.shown ∙ after.shown;
+          says_all = rest.says_all ∙ after.says_all;
           own = λ q.
               rest.own q
               ∙ (λ i. after.own q i && (has (after.shown i) q || not (list_any (eq_by_cmp partition_cmp q) ps)))
@@ -146,8 +160,10 @@ further n p ps state states w middle new x others_released later there inside st
           id = refl;
           epoch = refl;
           place = refl;
+          number = refl;
           waits = refl;
           shown = refl;
+          says_all = refl;
           own = λ q. sym (stays_shown (has x.own q) (has x.shown q) (eq_by_cmp partition_cmp q p) (nothing_to x inside still never q));
         } in
         let here : numbered middle.clients n ≡ Some x = ap (λ (v : World). numbered v.clients n) is.1 ∙ there in
@@ -155,7 +171,7 @@ further n p ps state states w middle new x others_released later there inside st
 
 -- ---- all of them
 
-releases_all : (n : ℕ) (ps : List Partition) (states : List Outcome) (w new : World) (x : Client) → numbered w.clients n ≡ Some x → x.place ≡ Inside → x.waits ≡ false
+pub releases_all : (n : ℕ) (ps : List Partition) (states : List Outcome) (w new : World) (x : Client) → numbered w.clients n ≡ Some x → x.place ≡ Inside → x.waits ≡ false
     → Run w (map (Release n) ps) states new → HasReleased w n x ps new
 releases_all n [] [] w new x there inside still is =
     record {
@@ -167,6 +183,10 @@ releases_all n [] [] w new x there inside still is =
       id = refl;
       epoch = refl;
       place = refl;
+      number = refl;
+      waits = refl;
+      shown = refl;
+      says_all = refl;
       own = λ q. sym (all_kept (has x.own q) (has x.shown q));
     }
 releases_all n [] (state ∷ states) w new x there inside still is = absurd is
@@ -175,7 +195,7 @@ releases_all n (p ∷ ps) (state ∷ states) w new x there inside still (middle,
     further n p ps state states w middle new x (releases_all n ps states middle new) later there inside still (may_release x) refl
     (subst (λ (o : Option Client). ReleaseStep o w n p state middle) there step)
 
-released_bool : (a s : Bool) → (a && (s || not (a && not s))) ≡ (a && s)
+pub released_bool : (a s : Bool) → (a && (s || not (a && not s))) ≡ (a && s)
 released_bool true true = refl
 released_bool true false = refl
 released_bool false s = refl

@@ -26,12 +26,12 @@ get_below [] k x is = absurd (not_none x is)
 get_below (y ∷ xs) zero x is = omega arith
 get_below (y ∷ xs) (suc k) x is = let rest = get_below xs k x is in omega (arith, rest)
 
-numbered_below : {X : Type 0} (xs : List X) (k : ℕ) (x : X) → numbered xs k ≡ Some x → k < 1 + length xs
+pub numbered_below : {X : Type 0} (xs : List X) (k : ℕ) (x : X) → numbered xs k ≡ Some x → k < 1 + length xs
 numbered_below xs zero x is = absurd (not_none x is)
 numbered_below xs (suc k) x is = let below = get_below xs k x is in omega (arith, below)
 
 -- a turn is a client's
-turns_client : (w new : World) (n : ℕ) → HasTurn w n new → (c : Client) × (numbered w.clients n ≡ Some c)
+pub turns_client : (w new : World) (n : ℕ) → HasTurn w n new → (c : Client) × (numbered w.clients n ≡ Some c)
 turns_client w new n turn = by (numbered w.clients n) refl turn.is_told.is_heard.sends
   where
     by : (o : Option Client) → numbered w.clients n ≡ o → AsksStep o w n (Beat Full) (IsSent turn.is_told.is_heard.request) turn.is_told.is_heard.sent → (c : Client) × (numbered w.clients n ≡ Some c)
@@ -67,28 +67,28 @@ module _ (one_request : OneRequestABody) (one_reply : OneReplyABody) (steps_soun
         let c = who.0 in
         let rest : AfterTurns middle last new =
         turns count (suc n) last middle new (omega (arith, is_last))
-        (ready_after one_request one_reply steps_sound every w middle n c who.1 ready turn)
+        (ready_after one_request one_reply steps_sound every w n c who.1 ready middle turn)
         (still w middle n c who.1 ready known turn)
         (λ k x below there. by_place c who.1 k x below there (place k n)) later in
         record {
           ready = rest.ready;
           known = rest.known;
           before = rest.before;
-          clients = λ k x there. let y = rest.clients k x there in had c who.1 k y.0 (back one_request one_reply steps_sound every w middle n c who.1 ready turn k y.0 y.1);
+          clients = λ k x there. let y = rest.clients k x there in had c who.1 k y.0 (back one_request one_reply steps_sound every w n c who.1 ready middle turn k y.0 y.1);
         }
       where
-        had : (c : Client) (there : numbered w.clients n ≡ Some c) (k : ℕ) (x : Client) → Back one_request one_reply steps_sound every w middle n c there ready turn k x
+        had : (c : Client) (there : numbered w.clients n ≡ Some c) (k : ℕ) (x : Client) → Back one_request one_reply steps_sound every w n c there ready middle turn k x
             → (y : Client) × (numbered w.clients k ≡ Some y)
         had c there k x (it same) = (c, ap (numbered w.clients) same ∙ there)
         had c there k x (another other is) = (x, is)
 
         by_place : (c : Client) (there : numbered w.clients n ≡ Some c) (k : ℕ) (x : Client) → k < suc n → numbered middle.clients k ≡ Some x → Place k n → IsAt S middle x
         by_place c there k x below is (at same) = nearer w middle n c there ready known turn x (ap (numbered middle.clients) (sym same) ∙ is)
-        by_place c there k x below is (elsewhere other) = by_back (back one_request one_reply steps_sound every w middle n c there ready turn k x is)
+        by_place c there k x below is (elsewhere other) = by_back (back one_request one_reply steps_sound every w n c there ready middle turn k x is)
           where
-            by_back : Back one_request one_reply steps_sound every w middle n c there ready turn k x → IsAt S middle x
+            by_back : Back one_request one_reply steps_sound every w n c there ready middle turn k x → IsAt S middle x
             by_back (it same) = absurd (other same)
-            by_back (another _ was) = other_stays one_request one_reply steps_sound every w middle n c there ready turn S k x other was (before k x (omega (arith, below, other)) was)
+            by_back (another _ was) = other_stays one_request one_reply steps_sound every w n c there ready middle turn S k x other was (before k x (omega (arith, below, other)) was)
 
     whole : (w new : World) → IsReadyFor w → Known w → Round w new → IsReadyFor new × Every S new
     whole w new ready known round =
@@ -106,26 +106,26 @@ module _ (one_request : OneRequestABody) (one_reply : OneReplyABody) (steps_soun
       (nearer : (w new : World) (n : ℕ) (c : Client) (there : numbered w.clients n ≡ Some c) (ready : IsReadyFor w) → Every S w → (turn : HasTurn w n new)
       → (x : Client) → numbered new.clients n ≡ Some x → IsAt S new x) where
     all_still : (w new : World) (n : ℕ) (c : Client) → numbered w.clients n ≡ Some c → IsReadyFor w → Every S w → HasTurn w n new → Every S new
-    all_still w new n c there ready all turn k x is = by (back one_request one_reply steps_sound every w new n c there ready turn k x is)
+    all_still w new n c there ready all turn k x is = by (back one_request one_reply steps_sound every w n c there ready new turn k x is)
       where
-        by : Back one_request one_reply steps_sound every w new n c there ready turn k x → IsAt S new x
+        by : Back one_request one_reply steps_sound every w n c there ready new turn k x → IsAt S new x
         by (it same) = nearer w new n c there ready all turn x (ap (numbered new.clients) (sym same) ∙ is)
-        by (another other was) = other_stays one_request one_reply steps_sound every w new n c there ready turn S k x other was (all k x was)
+        by (another other was) = other_stays one_request one_reply steps_sound every w n c there ready new turn S k x other was (all k x was)
 
   -- ---- the client of a turn comes a stage nearer
 
   to_first : (w new : World) (n : ℕ) (c : Client) (there : numbered w.clients n ≡ Some c) (ready : IsReadyFor w) (turn : HasTurn w n new) (x : Client) → numbered new.clients n ≡ Some x → IsAt OwnsWithin new x
-  to_first w new n c there ready turn = first_stage one_request one_reply steps_sound every w new n c there ready turn
+  to_first w new n c there ready turn = first_stage one_request one_reply steps_sound every w n c there ready new turn
 
   to_second : (w new : World) (n : ℕ) (c : Client) (there : numbered w.clients n ≡ Some c) (ready : IsReadyFor w) → Every OwnsWithin w → (turn : HasTurn w n new) (x : Client) → numbered new.clients n ≡ Some x → IsAt HoldsWithin new x
-  to_second w new n c there ready all turn = second_stage one_request one_reply steps_sound every w new n c there ready turn (all n c there)
+  to_second w new n c there ready all turn = second_stage one_request one_reply steps_sound every w n c there ready new turn (all n c there)
 
   to_third : (w new : World) (n : ℕ) (c : Client) (there : numbered w.clients n ≡ Some c) (ready : IsReadyFor w) → Every HoldsWithin w → (turn : HasTurn w n new) (x : Client) → numbered new.clients n ≡ Some x → IsAt OwnsAll new x
-  to_third w new n c there ready all turn = third_stage one_request one_reply steps_sound every w new n c there ready turn (only_own w c (all n c there)) all
+  to_third w new n c there ready all turn = third_stage one_request one_reply steps_sound every w n c there ready new turn (only_own w c (all n c there)) all
 
   -- ---- from a world that can settle
 
-  begins : (w : World) → Keeps w → CanSettle w → IsReadyFor w
+  pub begins : (w : World) → Keeps w → CanSettle w → IsReadyFor w
   begins w keeps can =
       record {
         keeps = keeps;

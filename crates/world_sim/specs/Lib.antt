@@ -3,13 +3,17 @@ pub mod Acts
 pub mod Holding
 pub mod Exclusivity
 pub mod Rounds
+pub mod Running
 pub mod Convergence
 pub mod Reached
+pub mod Underway
 pub mod Examples
 pub mod Turn
 pub mod Invariant
 pub mod Laws
 pub mod Faults
+pub mod Settling
+pub mod Fitting
 pub mod Standing
 pub mod Stands
 pub mod Stored

@@ -1,10 +1,11 @@
 -- What a client at a place of a list does.
-use Rattle.std.specs.Prelude.{◌≡◌, ℕ, suc, Bool, true, false, List, set, slice_get, Option, Some, None, Ok, Err, Result}
+use Rattle.std.specs.Prelude.{◌≡◌, ℕ, suc, Bool, true, false, if◌then◌else◌, List, [], ◌∷◌, set, slice_get, Option, Some, None, Ok, Err, Result}
 use Rattle.std.specs.declared.alloc.AllocError.{AllocError}
-use Rattle.group_types.specs.declared.stamp.Stamp.{Stamp}
 use Rattle.member_core.specs.Client.{Client, state_of}
 use Rattle.member_core.specs.Asking.{Ask}
 use Rattle.member_core.specs.Taking.{Takes}
+use Rattle.member_core.specs.Releasing.{after_release, may_release}
+use Rattle.group_types.specs.declared.partition.Partition.{Partition}
 use Rattle.world_sim.specs.declared.mail.Request as mail
 use Rattle.world_sim.specs.declared.fault.WorldFault.{WorldFault}
 use Rattle.world_sim.specs.declared.fault.WorldFault.TheVariants.{WrongState}
@@ -44,3 +45,8 @@ ShowsChange None shown = shown ≡ Err WrongState
 abbrev pub ShowsTaken : Option ClientState → Shown → Type 0
 ShowsTaken (Some state) shown = shown ≡ shows.Is state
 ShowsTaken None shown = shown ≡ shows.Ignored
+
+-- the client after releasing each of these, where it may release any
+abbrev pub releasing_all : Client → List Partition → Client
+releasing_all c [] = c
+releasing_all c (p ∷ ps) = releasing_all (if may_release c then after_release c p else c) ps

@@ -5,7 +5,8 @@ use Rattle.kip_msgs.specs.Values.{HeartbeatReplyValue}
 use Rattle.member_core.specs.Client.{Client, State, to_release}
 use Rattle.member_core.specs.Asking.{Beat, Full}
 use Rattle.world_sim.specs.World.{World, numbered}
-use Rattle.world_sim.specs.Acts.{Asks, GivesUp, Deliver, Take, Release, Outcome, IsRefused, IsSent, IsReplied, Is, TooLarge, ActStep, Run}
+use Rattle.world_sim.specs.Acts.{Asks, GivesUp, Deliver, Take, Release, Outcome, IsSent, IsReplied, Is, ActStep, Run}
+use Rattle.world_sim.specs.Acting.{IsTooLarge}
 
 -- ---- whole rounds
 
@@ -67,7 +68,7 @@ pub record ComesTo (w : World) (n : ℕ) (new : World) : Type 0 where
 pub record StopsTooLarge (w new : World) : Type 0 where
   pub client : ℕ
   pub comes : ComesTo w client new
-  pub refused : ActStep new (Asks client (Beat Full)) (IsRefused TooLarge) new
+  pub refused : IsTooLarge new (Asks client (Beat Full))
 
 -- What is left where memory runs out in the turn of a client: the turn went so far. A client that waits has given up.
 pub data LeavesTurn (w : World) (n : ℕ) (new : World) : Type 0 where

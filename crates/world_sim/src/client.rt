@@ -1,5 +1,5 @@
 //! Clients of a world.
-ghost use Rattle.std.specs.Prelude.{◌≡◌, ◌≤◌, map, All, IfOk, IfErr, OnErr, string_bytes, if◌then◌else◌};
+ghost use Rattle.std.specs.Prelude.{◌≡◌, ◌≤◌, ◌↔◌, IsTrue, map, All, IfOk, IfErr, OnErr, string_bytes, if◌then◌else◌};
 ghost use Rattle.std.specs.Option.{option_copied};
 ghost use Rattle.kip_msgs.specs.Views.{commit_request_topic_value};
 ghost use Rattle.member_core.specs.Asking.{after_giving_up};
@@ -10,7 +10,10 @@ ghost use Rattle.member_core.specs.Views.{settings_value, HasShortTexts};
 ghost use Rattle.member_core.specs.Writing.{HasShortTopic};
 ghost use Rattle.world_sim.specs.Standing.{state_value, ask_value, CannotAsk};
 ghost use Rattle.world_sim.specs.Stands.{TakesReply, CannotCommit};
+ghost use Rattle.group_types.specs.Sets.{in_order};
 ghost use Rattle.world_sim.specs.Clients.{AsksWithin, IsCommitOf};
+ghost use Rattle.world_sim.specs.Fitting.{IsIdle};
+ghost use Rattle.world_sim.specs.Places.{releasing_all};
 
 use crate::act::Ask;
 use crate::commit::Commit;
@@ -67,6 +70,13 @@ impl Client {
         ensures { state_value result ≡ state_of self.now }
     {
         self.standing.state()
+    }
+
+    /// Whether the client is inside its group, and doesn't wait.
+    pub(crate) fn is_idle(&self) -> bool
+        ensures { IsTrue result ↔ IsIdle self.now }
+    {
+        self.standing.is_idle()
     }
 
     pub(crate) fn id(&self) -> Option<&str>
@@ -149,6 +159,15 @@ impl Client {
         let (standing, may) = mem::replace(&mut self.standing, Standing::nobody(alloc)).release(p);
         put(&mut self.standing, standing);
         may
+    }
+
+    /// Releases each of these partitions that the client may release. Takes no memory.
+    pub(crate) fn release_each(&mut self, alloc: Global, parts: &PartSet)
+        ensures { self.new ≡ releasing_all self.old (in_order parts.now) }
+    {
+        for p in parts.iter() {
+            self.release(alloc, p);
+        }
     }
 
     /// A commit of these offsets under a number, with copies of what the client is now.

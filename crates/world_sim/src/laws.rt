@@ -5,6 +5,8 @@ ghost use Rattle.world_sim.specs.Examples.{SomebodyHolds, SomeCommitIsTaken, Som
 ghost use Rattle.world_sim.specs.Exclusivity.{ActsLawfully, Always, BringsHeld, CommitHeld, HoldApart, HoldGranted, ShowGranted, SinceGranted};
 ghost use Rattle.world_sim.specs.Invariant.{Keeps};
 ghost use Rattle.world_sim.specs.Laws.{OneOutcomeAnAct, OneRunOfActs};
+ghost use Rattle.world_sim.specs.Underway.{RoundsGo, RoundsKeepClients};
+ghost use Rattle.world_sim.specs.Viewing.{RepliesAreSpelled};
 
 use coord_node::{one_answer, steps_are_sound};
 use group_types::every_group_is_sound;
@@ -60,6 +62,11 @@ pub fn targets_are_renewed_lawfully()
     every_act_keeps_the_invariant();
 }
 
+/// Every reply that was ever sent spells a reply to a heartbeat.
+pub(crate) fn replies_are_spelled()
+    ensures { Always RepliesAreSpelled }
+{}
+
 /// An act has one outcome in a world, and leaves one world; and so does a list of acts.
 pub fn an_act_has_one_outcome()
     ensures act { OneOutcomeAnAct }
@@ -75,6 +82,19 @@ pub fn an_act_has_one_outcome()
 /// Three rounds in which no message is lost settle everything: each member then owns its target, at the target's epoch.
 pub fn three_rounds_settle()
     ensures { Convergence }
+{
+    one_request_a_body();
+    one_reply_a_body();
+    steps_are_sound();
+    every_group_is_sound();
+    every_act_keeps_the_invariant();
+}
+
+/// While three rounds are made nothing is refused: each client may ask when its turn comes, its beat is answered by a
+/// reply, and it takes the reply. No client comes or goes.
+pub fn rounds_go_on()
+    ensures go { Always RoundsGo }
+    ensures clients { Always RoundsKeepClients }
 {
     one_request_a_body();
     one_reply_a_body();

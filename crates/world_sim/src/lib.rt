@@ -4,7 +4,7 @@
 //! Start from [`World::new`] and [`World::act`]. After every list of acts no two members of one group hold one partition,
 //! a commit is taken only while what its maker held is granted, every target is lawful when it is renewed, and three rounds in
 //! which no message is lost settle everything: these are the laws of `specs/Exclusivity.antt` and `specs/Convergence.antt`, and
-//! they hold of each [`World`]. Lists of acts and settling are yet to come as calls.
+//! they hold of each [`World`]. [`World::run`] does lists of acts, and [`World::settle`] makes three such rounds.
 #![tactic(auto)]
 
 mod act;
@@ -27,7 +27,7 @@ pub use fault::WorldFault;
 pub use frame::Frame;
 pub use laws::{
     an_act_has_one_outcome, commits_are_taken_while_held, every_act_keeps_the_invariant,
-    members_hold_apart, replies_show_what_is_granted, targets_are_renewed_lawfully,
+    members_hold_apart, replies_show_what_is_granted, rounds_go_on, targets_are_renewed_lawfully,
     the_laws_are_met, three_rounds_settle,
 };
 pub use member_core::{Array, CommitRequestTopic, Kind, Partition, Quit, Settings};

@@ -9,6 +9,7 @@ mod bringing;
 mod clients;
 mod delivering;
 mod passing;
+mod settling;
 
 use crate::act::{Act, Ask};
 use crate::client::Client;

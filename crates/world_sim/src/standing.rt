@@ -1,7 +1,8 @@
 //! Clients by their states.
-ghost use Rattle.std.specs.Prelude.{◌≡◌};
+ghost use Rattle.std.specs.Prelude.{◌≡◌, ◌↔◌, IsTrue};
 ghost use Rattle.std.specs.Option.{option_copied};
 ghost use Rattle.member_core.specs.Client.{state_of};
+ghost use Rattle.world_sim.specs.Fitting.{IsIdle};
 ghost use Rattle.world_sim.specs.Standing.{client_of, state_value, HasState};
 
 mod asking;
@@ -75,6 +76,22 @@ impl Standing {
                 let _ = member.own();
                 ClientState::Releasing
             }
+        }
+    }
+
+    /// Whether the client is inside its group, and doesn't wait.
+    pub(crate) fn is_idle(&self) -> bool
+        ensures { IsTrue result ↔ IsIdle (client_of self.now) }
+    {
+        let _ = self.state();
+        match self {
+            Standing::Outside(_) => false,
+            Standing::Steady(_) => true,
+            Standing::Releasing(_) => true,
+            Standing::Gone(_) => false,
+            Standing::Joining(_) => false,
+            Standing::BeatingSteady(_) => false,
+            Standing::BeatingReleasing(_) => false,
         }
     }
 

@@ -7,14 +7,18 @@ ghost use Rattle.world_sim.specs.World.{new_world, numbered};
 ghost use Rattle.world_sim.specs.Acting.{act_value, Acted, HasShortTopics};
 ghost use Rattle.world_sim.specs.Exclusivity.{ActsLawfully, BringsHeld, CommitHeld, HoldApart, HoldGranted, RenewsLawfully, ShowGranted, SinceGranted};
 ghost use Rattle.world_sim.specs.Invariant.{Keeps};
-ghost use Rattle.world_sim.specs.Viewing.{IsView};
+ghost use Rattle.world_sim.specs.Convergence.{IsSettled};
+ghost use Rattle.world_sim.specs.Running.{AfterEachAct, HasRun, InEachAct, StaysLawful, StaysSo};
+ghost use Rattle.world_sim.specs.Settling.{IsSettling};
+ghost use Rattle.world_sim.specs.Viewing.{IsReplyBody, IsView};
 
 use crate::act::Act;
 use crate::client::Client;
 use crate::fault::WorldFault;
 use crate::laws::{
     commits_are_taken_while_held, every_act_keeps_the_invariant, members_hold_apart,
-    replies_show_what_is_granted, targets_are_renewed_lawfully,
+    replies_are_spelled, replies_show_what_is_granted, targets_are_renewed_lawfully,
+    three_rounds_settle,
 };
 use crate::scene::{Scene, place_of};
 use crate::shown::Shown;
@@ -94,6 +98,74 @@ impl World {
         shown
     }
 
+    /// Does one act after the other, and says what each shows, or why it is refused; a refused act changes nothing, and those
+    /// behind it are done. The texts of the commits' lists are at most 32,767 bytes, and their tagged fields rise.
+    ///
+    /// Fails with `NoMemory` alone, and then no act was done.
+    ///
+    /// After each act the laws hold that [`World::act`] names.
+    pub fn run<'a>(
+        &mut self,
+        alloc: Global,
+        acts: Vec<Act<'a>>,
+    ) -> Result<Vec<Result<Shown, WorldFault>>, WorldFault>
+        requires { All (λ act. HasShortTopics (act_value act)) acts.items }
+        ensures steps { HasRun self.old (map act_value acts.entry.items) result self.new }
+        ensures apart { IfOk result (λ answers. AfterEachAct HoldApart self.old (map act_value acts.entry.items) answers.items) }
+        ensures granted { IfOk result (λ answers. AfterEachAct HoldGranted self.old (map act_value acts.entry.items) answers.items) }
+        ensures shown { IfOk result (λ answers. AfterEachAct ShowGranted self.old (map act_value acts.entry.items) answers.items) }
+        ensures commits { IfOk result (λ answers. AfterEachAct CommitHeld self.old (map act_value acts.entry.items) answers.items) }
+        ensures since { IfOk result (λ answers. AfterEachAct SinceGranted self.old (map act_value acts.entry.items) answers.items) }
+        ensures brought { IfOk result (λ answers. AfterEachAct BringsHeld self.old (map act_value acts.entry.items) answers.items) }
+        ensures lawful { IfOk result (λ answers. InEachAct RenewsLawfully self.old (map act_value acts.entry.items) answers.items) }
+    {
+        self.hold_on();
+        let mut answers = Vec::with_capacity(alloc, acts.len())?;
+        for act in acts {
+            let answer = self.act(alloc, act);
+            answers.push_reserved(answer);
+        }
+        Ok(answers)
+    }
+
+    /// Settles the world by three rounds. In a round client after client sends a full heartbeat, the coordinator answers
+    /// it, the client takes the reply, and releases all that it isn't shown. Every client then owns its target, at the
+    /// target's epoch (KIP-848, "Reconciliation of the group"; that three rounds do is ours).
+    ///
+    /// Faults: `WrongState` where a client isn't inside its group, waits, has no record, knows an epoch that its record neither
+    /// has nor had last, or has fewer than three requests left; where a record has no client, or is away; or where a group is at
+    /// its greatest epoch. Nothing has changed then. `TooLarge` where a heartbeat has more bytes than a frame may have, and
+    /// `NoMemory`: the acts before that were done, and a client that waited has given up.
+    pub fn settle(&mut self, alloc: Global) -> Result<(), WorldFault>
+        ensures rounds { IsSettling self.old result self.new }
+        ensures settled { IfOk result (λ _. IsSettled self.new) }
+        ensures apart { HoldApart self.new }
+        ensures granted { HoldGranted self.new }
+        ensures shown { ShowGranted self.new }
+        ensures commits { CommitHeld self.new }
+        ensures since { SinceGranted self.new }
+    {
+        three_rounds_settle();
+        self.hold();
+        if !self.scene.may_settle() {
+            return Err(WorldFault::WrongState);
+        }
+        let settled = self.scene.make_rounds(alloc);
+        self.hold();
+        settled
+    }
+
+    /// The body of the reply with a number, from 1: the reply to a heartbeat. Takes no memory.
+    pub fn reply(&self, number: usize) -> Option<&[u8]>
+        ensures { MatchOption result (numbered self.now.replies number ≡ None) (λ body. IsReplyBody self.now number body.now) }
+    {
+        replies_are_spelled();
+        let Some(place) = place_of(number, self.scene.replies.as_slice().len()) else {
+            return None;
+        };
+        Some(self.scene.replies[place].frame.body())
+    }
+
     /// What holds of every world. Nothing runs.
     pub(crate) fn hold(&self)
         ensures keeps { Keeps self.now }
@@ -106,6 +178,23 @@ impl World {
         ensures lawful { ActsLawfully self.now }
     {
         every_act_keeps_the_invariant();
+        members_hold_apart();
+        replies_show_what_is_granted();
+        commits_are_taken_while_held();
+        targets_are_renewed_lawfully();
+        let _ = &self.scene;
+    }
+
+    /// What holds after every act that is yet to come. Nothing runs.
+    fn hold_on(&self)
+        ensures apart { StaysSo HoldApart self.now }
+        ensures granted { StaysSo HoldGranted self.now }
+        ensures shown { StaysSo ShowGranted self.now }
+        ensures commits { StaysSo CommitHeld self.now }
+        ensures since { StaysSo SinceGranted self.now }
+        ensures brought { StaysSo BringsHeld self.now }
+        ensures lawful { StaysLawful self.now }
+    {
         members_hold_apart();
         replies_show_what_is_granted();
         commits_are_taken_while_held();
