@@ -1,0 +1,127 @@
+//! The desk of a worker: it calls the shards from a seat.
+ghost use Rattle.std.specs.Prelude.{◌≡◌, ◌++◌, IfOk, IfErr, OnOk, OnErr};
+ghost use Rattle.coord_shards.specs.Calls.{SeatCalls};
+ghost use Rattle.coord_shards.specs.Seat.{IsNewSeat};
+ghost use Rattle.coord_server.specs.Desks.{MayHaveCalled};
+
+use coord_node::Answered;
+use coord_shards::{Answer, Event, Gate, Image, Moment, Octets, Seat, ShardFault, Shards, Stamp};
+use link_futures::{Desk, Moments};
+use std::alloc::{AllocError, Global};
+use std::sync::Wait;
+use std::sync::ledger::Ledger;
+
+/// A desk that answers frames by calls of shards, from a seat of its own, and asks for the moment of each frame.
+///
+/// A call that the shards refuse is want of memory: with a cap of 0 no journal is full.
+#[derive(Drop)]
+pub struct ShardsDesk<'a, A: Ledger, C: Ledger, G, M, R> {
+    shards: &'a Shards<A, C, G>,
+    seat: Seat<C>,
+    moments: M,
+    rt: &'a R,
+    alloc: Global,
+}
+
+impl<'a, A: Ledger, C: Ledger, G: Gate, M: Moments, R: Wait> ShardsDesk<'a, A, C, G, M, R> {
+    /// A desk over shards, with a new seat.
+    pub fn new(
+        rt: &'a R,
+        alloc: Global,
+        shards: &'a Shards<A, C, G>,
+        moments: M,
+    ) -> Result<ShardsDesk<'a, A, C, G, M, R>, ShardFault>
+        ensures seat { IfOk result (λ desk. IsNewSeat desk.seat.number desk.seat) }
+        ensures shards { IfOk result (λ desk. desk.shards.now ≡ shards.now) }
+        ensures moments { IfOk result (λ desk. desk.moments ≡ moments) }
+        ensures fault { IfErr result (λ fault. fault ≡ ShardFault.NoSeat) }
+    {
+        let seat = shards.seat(rt, alloc)?;
+        Ok(ShardsDesk {
+            shards,
+            seat,
+            moments,
+            rt,
+            alloc,
+        })
+    }
+
+    /// Calls the shards for an event.
+    fn call(&mut self, event: Event) -> Answer
+        ensures call { SeatCalls self.old.shards.now self.old.seat event result self.new.seat }
+        ensures others { self.new ≡ record self.old { seat = self.new.seat } }
+        ensures once { MayHaveCalled self.old.shards.now self.old.seat self.new.seat }
+    {
+        self.shards.call(self.rt, self.alloc, &mut self.seat, event)
+    }
+
+    /// Lets the time of each shard go on to the present moment. A shard that refuses, for want of memory, goes on at a later tick.
+    pub fn tick_all(&mut self) {
+        let moment = self.moments.now();
+        for shard in 0..self.shards.shards() {
+            let _ = self.call(Event::Tick { shard, moment });
+        }
+    }
+
+    /// Gives each shard a new image. Where memory is short, some may have it.
+    pub fn set_image(&mut self, image: &Image) -> Result<(), AllocError> {
+        for shard in 0..self.shards.shards() {
+            let image = image.copy()?;
+            if self.call(Event::Image { shard, image }).is_refused() {
+                return Err(AllocError);
+            }
+        }
+        Ok(())
+    }
+}
+
+impl<'a, A: Ledger, C: Ledger, G: Gate, M: Moments, R: Wait> Desk
+    for ShardsDesk<'a, A, C, G, M, R> {
+    ghost use Rattle.coord_server.specs.Desks.{ShardsAnswer, ShardsLack};
+
+    ghost answers = { λ d body stamp answer e. (e.shards ≡ d.shards) × ShardsAnswer M.hands d.shards.now d.seat d.moments body stamp answer e.seat e.moments };
+
+    ghost lacks = { λ d e. (e.shards ≡ d.shards) × ShardsLack M.hands d.shards.now d.seat d.moments e.seat e.moments };
+
+    #[tactic(auto, using(crate::proofs::DeskLemmas::not_called))]
+    fn answer(
+        &mut self,
+        body: &[u8],
+        stamp: Stamp,
+        out: &mut Vec<u8>,
+    ) -> Result<Answered, AllocError> {
+        let moment = self.moments.now();
+        let body = Octets::of(Vec::from_slice(self.alloc, body)?);
+        let event = Event::Frame {
+            body,
+            stamp,
+            moment,
+        };
+        match self.call(event) {
+            Answer::Replied(reply) => match append(out, reply) {
+                Ok(()) => Ok(Answered::Replied),
+                Err(error) => Err(error),
+            },
+            Answer::Closes => Ok(Answered::Closes),
+            Answer::Refused => Err(AllocError),
+            Answer::Done(_) => unreachable!(),
+        }
+    }
+
+    /// Asks the gate.
+    fn may_send(&self, stamp: Stamp) -> bool {
+        self.shards.gate().may_reply(stamp)
+    }
+}
+
+/// Appends a reply. Takes no memory where nothing is there yet.
+fn append(out: &mut Vec<u8>, reply: Octets) -> Result<(), AllocError>
+    ensures ok { OnOk result (out.new.items ≡ out.old.items ++ reply) }
+    ensures err { OnErr result (out.new.items ≡ out.old.items) }
+{
+    if out.is_empty() {
+        *out = reply.into_vec();
+        return Ok(());
+    }
+    out.extend_from_slice(reply.as_slice())
+}

@@ -1,0 +1,12 @@
+//! How large a server is, and when it ends.
+
+/// How large a server is, and when it ends.
+#[derive(Clone, Copy, Debug)]
+pub struct Plan {
+    /// How many workers serve the connections: 1 to 64.
+    pub workers: usize,
+    /// After so many connections the server takes no more, and ends once these have ended.
+    pub connections: u64,
+    /// Whether an expiry worker runs.
+    pub expires: bool,
+}
