@@ -218,15 +218,34 @@ fn print_growth_of_range(
     rt: &(impl AllocGlobal + Clock + Print),
     view: &View,
 ) -> Result<(), Fault> {
-    let alloc = rt.alloc();
-    let seats = seats_of(alloc, 1_000, 1, Wish::All)?;
-    let (few, many) = (subs_of(alloc, &seats, 10)?, subs_of(alloc, &seats, 1_000)?);
-    let nothing = Spread::empty(alloc);
+    let seats = seats_of(rt.alloc(), 1_000, 1, Wish::All)?;
+    print_growth_among(rt, view, &seats)
+}
+
+fn print_growth_among(
+    rt: &(impl AllocGlobal + Clock + Print),
+    view: &View,
+    seats: &[Seat],
+) -> Result<(), Fault>
+    requires { 1000 ≤ length seats.now }
+{
+    let few = subs_of(rt.alloc(), seats, 10)?;
+    let many = subs_of(rt.alloc(), seats, 1_000)?;
+    print_growth_between(rt, view, &few, &many)
+}
+
+fn print_growth_between(
+    rt: &(impl AllocGlobal + Clock + Print),
+    view: &View,
+    few: &Subs<'_>,
+    many: &Subs<'_>,
+) -> Result<(), Fault> {
+    let nothing = Spread::empty(rt.alloc());
     print_growth_of(
         rt,
         "range, 1 topic, 1000 members against 10",
-        &over(alloc, Range, &nothing, &few, view),
-        &over(alloc, Range, &nothing, &many, view),
+        &over(rt.alloc(), Range, &nothing, few, view),
+        &over(rt.alloc(), Range, &nothing, many, view),
     )
 }
 
@@ -240,13 +259,22 @@ fn print_growth_of_looking(
         view,
         former: &Spread::empty(rt.alloc()),
     };
+    print_growth_of_looking_in(rt, setting)
+}
+
+fn print_growth_of_looking_in(
+    rt: &(impl AllocGlobal + Clock + Print),
+    setting: Setting<'_>,
+) -> Result<(), Fault>
+    requires { 1000 ≤ length setting.seats.now }
+{
     let few = spread_of(rt.alloc(), Range, setting, 10)?;
     let many = spread_of(rt.alloc(), Range, setting, 1_000)?;
     print_growth_of(
         rt,
         "a member's partitions, 1000 members against 10",
-        &looked_up(&few, &seats[9]),
-        &looked_up(&many, &seats[999]),
+        &looked_up(&few, &setting.seats[9]),
+        &looked_up(&many, &setting.seats[999]),
     )
 }
 

@@ -12,7 +12,7 @@ use topic_meta::ImageFault;
 #[derive(Debug, Drop, Error)]
 pub enum Fault {
     /// The command line is none that the program knows.
-    #[error("usage: benchmarks [times | spreads SEED INPUTS]")]
+    #[error("usage: benchmarks [times [PART] | spreads SEED INPUTS]")]
     CommandLine,
     #[error("out of memory")]
     NoMemory,

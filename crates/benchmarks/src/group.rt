@@ -54,13 +54,25 @@ fn topic_name(alloc: Global, topic: u16) -> Result<String, AllocError> {
 pub fn image_of(alloc: Global, topics: u16, partitions: i32) -> Result<Image, Fault> {
     let mut list = Vec::new(alloc);
     for topic in 0..topics {
-        list.push(TopicEntry {
-            name: topic_name(alloc, topic)?,
-            id: Uuid::from_u128(u128::from(topic)),
-            count: partitions,
-        })?;
+        list.push(topic_of(alloc, topic, partitions)?)?;
     }
     Ok(Image::of(alloc, list)?)
+}
+
+/// Two topics, which have so many partitions.
+pub fn image_of_two(alloc: Global, first: i32, second: i32) -> Result<Image, Fault> {
+    let mut list = Vec::new(alloc);
+    list.push(topic_of(alloc, 0, first)?)?;
+    list.push(topic_of(alloc, 1, second)?)?;
+    Ok(Image::of(alloc, list)?)
+}
+
+fn topic_of(alloc: Global, topic: u16, partitions: i32) -> Result<TopicEntry, AllocError> {
+    Ok(TopicEntry {
+        name: topic_name(alloc, topic)?,
+        id: Uuid::from_u128(u128::from(topic)),
+        count: partitions,
+    })
 }
 
 /// The names of those of so many topics that a member subscribes.

@@ -87,7 +87,7 @@ pub fn commit_request(alloc: Global, partitions: u16) -> Result<Request<'static>
     let mut topics = Array::new(alloc);
     topics.push(CommitRequestTopic {
         name: TOPIC,
-        partitions: offsets(alloc, partitions)?,
+        partitions: offsets(alloc, 0, partitions)?,
         tags: TaggedFields::new(alloc),
     })?;
     let message = CommitRequest {
@@ -164,9 +164,10 @@ fn indexes(alloc: Global, partitions: u16) -> Result<Array<i32>, AllocError>
     Ok(indexes)
 }
 
-/// Offsets of so many partitions.
-fn offsets(
+/// Offsets of so many partitions, from so many thousands on.
+pub fn offsets(
     alloc: Global,
+    thousands: u16,
     partitions: u16,
 ) -> Result<Array<CommitRequestPartition<'static>>, AllocError>
     ensures count { IfOk result (λ offsets. length offsets ≡ partitions) }
@@ -174,22 +175,29 @@ fn offsets(
 {
     let mut offsets = Array::new(alloc);
     for partition in 0..partitions {
-        offsets.push(offset(alloc, partition))?;
+        offsets.push(offset(alloc, thousands, partition))?;
     }
     Ok(offsets)
 }
 
-/// An offset of a partition, without metadata.
-fn offset(alloc: Global, partition: u16) -> CommitRequestPartition<'static>
+/// An offset of the partition that is so many behind so many thousands, without metadata.
+fn offset(alloc: Global, thousands: u16, partition: u16) -> CommitRequestPartition<'static>
     ensures { IsWritableCommitRequestPartition (commit_request_partition_value result) }
 {
     CommitRequestPartition {
-        partition_index: i32::from(partition),
+        partition_index: index_of(thousands, partition),
         committed_offset: 1_000_000,
         committed_leader_epoch: -1,
         committed_metadata: None,
         tags: TaggedFields::new(alloc),
     }
+}
+
+/// The index of that partition.
+fn index_of(thousands: u16, partition: u16) -> i32 {
+    i32::from(thousands)
+        .saturating_mul(1_000)
+        .saturating_add(i32::from(partition))
 }
 
 /// The answers to the commits of so many partitions, each of which was taken.

@@ -1,7 +1,9 @@
 //! What the parts of the table have in common.
 
 use crate::command_line::Mode;
+use crate::course::{Course, Runs, given_by_course, pace_of_course};
 use crate::fault::Fault;
+use crate::pace::Pace;
 use crate::table::{counts_line, pace_line, ratio_line};
 use crate::timing::pace_of;
 use crate::work::Work;
@@ -72,7 +74,41 @@ pub fn print_growth_of<W: Work, V: Work>(
 {
     let short = pace_of(rt, short)?;
     let long = pace_of(rt, long)?;
-    let line = ratio_line(rt.alloc(), name, long, short)?;
-    rt.println(line)?;
+    print_ratio(rt, name, long, short)
+}
+
+/// Prints what a work of this size gives that changes what it is done to.
+pub fn print_given<C: Course>(
+    rt: &(impl AllocGlobal + Print),
+    name: &str,
+    size: usize,
+    course: &C,
+) -> Result<(), Fault> {
+    let given = given_by_course(rt.alloc(), course)?;
+    rt.println(counts_line(rt.alloc(), name, size, given)?)?;
+    Ok(())
+}
+
+/// Prints how long a work of this size takes that changes what it is done to, and says so.
+pub fn print_course<C: Course>(
+    rt: &(impl AllocGlobal + Clock + Print),
+    name: &str,
+    size: usize,
+    course: &C,
+    runs: Runs,
+) -> Result<Pace, Fault> {
+    let pace = pace_of_course(rt, course, runs)?;
+    rt.println(pace_line(rt.alloc(), name, "", size, pace)?)?;
+    Ok(pace)
+}
+
+/// Prints how many times as long one pace is as another.
+pub fn print_ratio(
+    rt: &(impl AllocGlobal + Print),
+    name: &str,
+    long: Pace,
+    short: Pace,
+) -> Result<(), Fault> {
+    rt.println(ratio_line(rt.alloc(), name, long, short)?)?;
     Ok(())
 }

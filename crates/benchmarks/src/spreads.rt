@@ -9,6 +9,7 @@
 //!     uniform ID TOPIC.INDEX ..                  what the member owns by the assignor
 //!     plain ID TOPIC.INDEX ..                    what it owns by the plain rule
 
+use crate::dice::Dice;
 use crate::fault::Fault;
 use crate::plain::plain_owners;
 use group_types::{MemberId, NameSet, Partition};
@@ -25,23 +26,6 @@ const MEMBERS: u64 = 8;
 /// How many partitions a topic may have.
 const PARTITIONS: u64 = 12;
 
-/// Numbers that look random, from a seed.
-#[derive(Drop)]
-struct Dice {
-    state: u64,
-}
-
-impl Dice {
-    /// A number below the limit.
-    fn below(&mut self, limit: u64) -> u64 {
-        self.state = self
-            .state
-            .wrapping_mul(6_364_136_223_846_793_005)
-            .wrapping_add(1_442_695_040_888_963_407);
-        (self.state >> 33) % limit.max(1)
-    }
-}
-
 /// What a member refers to.
 #[derive(Drop)]
 struct Person {
@@ -52,7 +36,7 @@ struct Person {
 
 /// Prints so many inputs and what became of each.
 pub fn print_spreads(rt: &(impl AllocGlobal + Print), seed: u64, inputs: u64) -> Result<(), Fault> {
-    let mut dice = Dice { state: seed };
+    let mut dice = Dice::new(seed);
     for number in 0..inputs {
         print_input(rt, &mut dice, number)?;
     }
@@ -64,13 +48,35 @@ fn print_input(rt: &(impl AllocGlobal + Print), dice: &mut Dice, number: u64) ->
     rt.println(format!(in alloc; "input {number}")?)?;
     let salt = dice.below(u64::MAX).wrapping_mul(0x9e37_79b9_7f4a_7c15);
     let view = view_of(alloc, dice, salt)?;
-    let former = former_of(alloc, dice, salt, &view)?;
-    let people = people_of(alloc, dice, salt)?;
-    let subs = subs_of(alloc, &people)?;
     print_topics(rt, &view)?;
+    print_group(rt, dice, salt, &view)
+}
+
+/// Prints a group over a view, and its owners.
+fn print_group(
+    rt: &(impl AllocGlobal + Print),
+    dice: &mut Dice,
+    salt: u64,
+    view: &View,
+) -> Result<(), Fault> {
+    let former = former_of(rt.alloc(), dice, salt, view)?;
+    let people = people_of(rt.alloc(), dice, salt)?;
+    print_people(rt, salt, view, &former, &people)
+}
+
+/// Prints the members of a group over a view, and its owners.
+fn print_people(
+    rt: &(impl AllocGlobal + Print),
+    salt: u64,
+    view: &View,
+    former: &Spread,
+    people: &[Person],
+) -> Result<(), Fault> {
+    let subs = subs_of(rt.alloc(), people)?;
     print_members(rt, &subs)?;
-    print_former(rt, salt, &former)?;
-    print_answers(rt, &former, &subs, &view)
+    print_former(rt, salt, former)?;
+    print_uniform(rt, former, &subs, view)?;
+    print_plain(rt, former, &subs, view)
 }
 
 fn name_of(alloc: Global, topic: u64) -> Result<String, AllocError> {
@@ -89,22 +95,35 @@ fn id_of(alloc: Global, salt: u64, member: u64) -> Result<MemberId, AllocError> 
 
 /// A view of some topics.
 fn view_of(alloc: Global, dice: &mut Dice, salt: u64) -> Result<View, Fault> {
+    let list = topics_of(alloc, dice, salt)?;
+    let names = names_in(alloc, &list)?;
+    let image = Image::of(alloc, list)?;
+    Ok(image.view(alloc, &names)?)
+}
+
+/// Some topics.
+fn topics_of(alloc: Global, dice: &mut Dice, salt: u64) -> Result<Vec<TopicEntry>, AllocError> {
     let mut list = Vec::new(alloc);
-    let mut names = NameSet::new(alloc);
     for topic in 0..TOPICS {
         if dice.below(6) != 0 {
-            let name = name_of(alloc, topic)?;
-            names.insert(alloc, name.as_str())?;
             let number = (mixed(salt, topic) % 1_000) * 8 + topic;
             list.push(TopicEntry {
-                name,
+                name: name_of(alloc, topic)?,
                 id: Uuid::from_u128(u128::from(number)),
                 count: i32::try_from(dice.below(PARTITIONS).saturating_add(1)).unwrap_or(1),
             })?;
         }
     }
-    let image = Image::of(alloc, list)?;
-    Ok(image.view(alloc, &names)?)
+    Ok(list)
+}
+
+/// The names of topics.
+fn names_in(alloc: Global, topics: &[TopicEntry]) -> Result<NameSet, AllocError> {
+    let mut names = NameSet::new(alloc);
+    for topic in topics {
+        names.insert(alloc, topic.name.as_str())?;
+    }
+    Ok(names)
 }
 
 /// Some members, who subscribe most topics.
@@ -162,17 +181,26 @@ fn subs_of<'a>(alloc: Global, people: &'a [Person]) -> Result<Subs<'a>, Fault> {
 
 /// Former owners: nobody, or those of other members, and of other topics or of these.
 fn former_of(alloc: Global, dice: &mut Dice, salt: u64, view: &View) -> Result<Spread, Fault> {
-    let nobody = Spread::empty(alloc);
     let people = people_of(alloc, dice, salt)?;
-    let subs = subs_of(alloc, &people)?;
     let other = view_of(alloc, dice, salt)?;
     match dice.below(5) {
-        0 => Ok(nobody),
-        1 => Ok(Range.assign(alloc, &nobody, &subs, &other)?),
-        2 => Ok(Range.assign(alloc, &nobody, &subs, view)?),
-        3 => Ok(Uniform.assign(alloc, &nobody, &subs, &other)?),
-        _ => Ok(Uniform.assign(alloc, &nobody, &subs, view)?),
+        0 => Ok(Spread::empty(alloc)),
+        1 => owners_by(alloc, Range, &people, &other),
+        2 => owners_by(alloc, Range, &people, view),
+        3 => owners_by(alloc, Uniform, &people, &other),
+        _ => owners_by(alloc, Uniform, &people, view),
     }
+}
+
+/// The owners by an assignor, without former ones.
+fn owners_by(
+    alloc: Global,
+    assignor: impl Assignor + Copy,
+    people: &[Person],
+    view: &View,
+) -> Result<Spread, Fault> {
+    let subs = subs_of(alloc, people)?;
+    Ok(assignor.assign(alloc, &Spread::empty(alloc), &subs, view)?)
 }
 
 fn print_topics(rt: &(impl AllocGlobal + Print), view: &View) -> Result<(), Fault> {
@@ -185,15 +213,19 @@ fn print_topics(rt: &(impl AllocGlobal + Print), view: &View) -> Result<(), Faul
 
 fn print_members(rt: &(impl AllocGlobal + Print), subs: &Subs<'_>) -> Result<(), Fault> {
     for member in subs.members() {
-        let (id, instance) = (member.id.as_str(), member.instance.unwrap_or("-"));
-        let mut line = format!(in rt.alloc(); "member {id} {instance}")?;
-        for name in member.names.iter() {
-            line.push_str(" ")?;
-            line.push_str(name.as_str())?;
-        }
-        rt.println(line)?;
+        rt.println(member_line(rt.alloc(), member)?)?;
     }
     Ok(())
+}
+
+fn member_line(alloc: Global, member: &Subscriber<'_>) -> Result<String, AllocError> {
+    let (id, instance) = (member.id.as_str(), member.instance.unwrap_or("-"));
+    let mut line = format!(in alloc; "member {id} {instance}")?;
+    for name in member.names.iter() {
+        line.push_str(" ")?;
+        line.push_str(name.as_str())?;
+    }
+    Ok(line)
 }
 
 fn print_former(rt: &(impl AllocGlobal + Print), salt: u64, former: &Spread) -> Result<(), Fault> {
@@ -231,7 +263,8 @@ fn add_partition(
     line.push_str(text.as_str())
 }
 
-fn print_answers(
+/// Prints what each member owns by the assignor.
+fn print_uniform(
     rt: &(impl AllocGlobal + Print),
     former: &Spread,
     subs: &Subs<'_>,
@@ -241,14 +274,27 @@ fn print_answers(
     for member in subs.members() {
         print_owned(rt, "uniform", &spread, member.id.as_str())?;
     }
+    Ok(())
+}
+
+/// Prints what each member owns by the plain rule.
+fn print_plain(
+    rt: &(impl AllocGlobal + Print),
+    former: &Spread,
+    subs: &Subs<'_>,
+    view: &View,
+) -> Result<(), Fault> {
     let plain = plain_owners(rt.alloc(), former, subs, view)?;
     for (member, owned) in subs.members().iter().zip(plain.iter()) {
-        let id = member.id.as_str();
-        let mut line = format!(in rt.alloc(); "plain {id}")?;
-        for partition in owned {
-            add_partition(rt.alloc(), &mut line, partition)?;
-        }
-        rt.println(line)?;
+        rt.println(plain_line(rt.alloc(), member.id.as_str(), owned)?)?;
     }
     Ok(())
+}
+
+fn plain_line(alloc: Global, id: &str, owned: &[Partition]) -> Result<String, AllocError> {
+    let mut line = format!(in alloc; "plain {id}")?;
+    for partition in owned {
+        add_partition(alloc, &mut line, partition)?;
+    }
+    Ok(line)
 }

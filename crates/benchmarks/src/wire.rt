@@ -2,6 +2,7 @@
 ghost use Rattle.kip_msgs.specs.Views.{request_value, reply_value};
 ghost use Rattle.kip_msgs.specs.Writable.{IsWritableRequest, IsWritableReply};
 
+use crate::bodies::body_of;
 use crate::command_line::Mode;
 use crate::fault::Fault;
 use crate::messages::{commit_reply, commit_request, heartbeat_reply, heartbeat_request};
@@ -10,7 +11,7 @@ use crate::print::{print_counts, print_growth_of, print_pace};
 use crate::table::head_line;
 use crate::work::Work;
 use kip_msgs::{Api, Reply, Request, put_reply, put_request, read_reply, read_request};
-use std::alloc::{AllocError, Global};
+use std::alloc::Global;
 use std::rt::Clock;
 
 /// A request's body is written. Gives its number of bytes.
@@ -208,14 +209,6 @@ fn print_growth_of_reading(
         &read_of(alloc, few.as_slice()),
         &read_of(alloc, many.as_slice()),
     )
-}
-
-fn body_of(alloc: Global, request: &Request<'_>) -> Result<Vec<u8>, AllocError>
-    requires { IsWritableRequest (request_value request.now) }
-{
-    let mut body = Vec::new(alloc);
-    put_request(&mut body, request)?;
-    Ok(body)
 }
 
 fn read_of(alloc: Global, body: &[u8]) -> RequestRead<'_> {
