@@ -1,4 +1,4 @@
--- Rounds that are being made: in each of their turns nothing is refused.
+-- Rounds that are being made: in each of their turns nothing is refused but a beat that is too large.
 use Rattle.std.specs.Prelude.{◌≡◌, ℕ, ◌<◌, true, length, Some}
 use Rattle.kip_msgs.specs.Values.{HeartbeatReplyValue}
 use Rattle.member_core.specs.Client.{Client, State}

@@ -90,8 +90,8 @@ pub fn three_rounds_settle()
     every_act_keeps_the_invariant();
 }
 
-/// While three rounds are made nothing is refused: each client may ask when its turn comes, its beat is answered by a
-/// reply, and it takes the reply. No client comes or goes.
+/// While three rounds are made nothing is refused but a beat that is too large: each client may ask when its turn comes,
+/// a beat that was sent is answered by a reply, and its client takes that. No client comes or goes.
 pub fn rounds_go_on()
     ensures go { Always RoundsGo }
     ensures clients { Always RoundsKeepClients }
