@@ -2,7 +2,7 @@
 
 It works on a copy of the tree, outside the repository. There `rt ci` proves every crate and its tests from nothing
 and runs the tests and programs; the edits' folders are not in the copy, since `rt ci` would check a crate once an
-edit. Behind it come the cases, the launcher and the documents, the misuses, and the edits over the libraries that `rt ci` has
+edit. Behind it come the cases, the launcher, the documents and the server, the misuses, and the edits over the libraries that `rt ci` has
 just built.
 """
 
@@ -115,8 +115,9 @@ class Gate:
         return f"{self.tree.folder(cases.PROGRAM_CRATE)}/out/{cases.PROGRAM_CRATE}"
 
     def run_scripts(self):
-        """Checks the launcher, and with the built program what the documents show, by scripts of their own."""
-        for script, words in (("check-launcher", []), ("check-readme", [self.program()])):
+        """Checks the launcher, and with the built program what the documents show and the server, by scripts of their own."""
+        built = [self.program()]
+        for script, words in (("check-launcher", []), ("check-readme", built), ("check-server", built)):
             if not all(map(os.path.isfile, words)):
                 self.say(f"{script} was not run, since the program was not built")
                 continue

@@ -1,11 +1,13 @@
 -- The statuses with which the program ends. They are this program's own.
-use Rattle.std.specs.Prelude.{◌≡◌, ℕ}
+use Rattle.std.specs.Prelude.{◌≡◌, ◌≤◌, ℕ}
 use Rattle.std.specs.IoError.{error_kind}
 use Rattle.std.specs.declared.io.ErrorKind.TheVariants as io_kind
 use Rattle.clap.specs.Words.{kind_of}
 use Rattle.clap.specs.declared.error.kind.ErrorKind.TheVariants as clap_kind
 use Rattle.scenario_cli.specs.declared.command_line.CommandLineFault.{CommandLineFault}
-use Rattle.scenario_cli.specs.declared.command_line.CommandLineFault.TheVariants.{Refused, Unread}
+use Rattle.scenario_cli.specs.declared.command_line.CommandLineFault.TheVariants as command_line
+use Rattle.scenario_cli.specs.declared.program.Ran.{Ran}
+use Rattle.scenario_cli.specs.declared.program.Ran.TheVariants.{Ended, Serves}
 use Rattle.scenario_cli.specs.declared.fault.Fault.{Fault}
 use Rattle.scenario_cli.specs.declared.fault.Fault.TheVariants.{BadLine, Read, TooLong, Write, NoMemory}
 
@@ -19,5 +21,14 @@ status_of NoMemory = 1
 
 -- a command line could not be read, or could not be looked at, for want of memory
 abbrev pub IsForMemory : CommandLineFault → Type 0
-IsForMemory (Refused error) = kind_of error ≡ clap_kind.OutOfMemory
-IsForMemory (Unread error) = error_kind error ≡ io_kind.OutOfMemory
+IsForMemory (command_line.Refused error) = kind_of error ≡ clap_kind.OutOfMemory
+IsForMemory (command_line.Unread error) = error_kind error ≡ io_kind.OutOfMemory
+IsForMemory (command_line.OutOfRange name most) = ⊥
+IsForMemory (command_line.NoTopic word) = ⊥
+IsForMemory (command_line.NoImage fault) = ⊥
+IsForMemory command_line.NoMemory = Unit {0}
+
+-- a run that has ended did so with 0, 1 or 2
+abbrev pub HasStatus : Ran → Type 0
+HasStatus (Ended status) = status ≤ 2
+HasStatus (Serves service) = Unit {0}

@@ -252,7 +252,7 @@ fn topics_of(alloc: Global, words: &[&str]) -> Result<Vec<TopicEntry>, LineFault
 }
 
 /// The topic of three words: its name, its id and how many partitions it has.
-fn topic_of(alloc: Global, words: &[&str]) -> Result<TopicEntry, LineFault>
+pub fn topic_of(alloc: Global, words: &[&str]) -> Result<TopicEntry, LineFault>
     ensures topic { IfOk result (λ entry. SpellTopics (map (λ word. word.now) words.now) (entry_of entry ∷ [])) }
     ensures refused { result ≡ Err LineFault.BadLine → (entry : Entry) → ¬ SpellTopics (map (λ word. word.now) words.now) (entry ∷ []) }
 {

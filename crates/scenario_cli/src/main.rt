@@ -2,8 +2,8 @@
 //!
 //! `coord reply` reads lines from standard input and prints the bytes of the reply to each request frame, and
 //! `coord frame` prints what is in each. What is printed is what the lines come to one after the other, up to the first that is
-//! no line of the subcommand. Start from [`run`](program::run), [`reply_lines`](reply::reply_lines) and
-//! [`frame_lines`](frames::frame_lines).
+//! no line of the subcommand. `coord serve` answers request frames over sockets. Start from [`run`](program::run),
+//! [`reply_lines`](reply::reply_lines), [`frame_lines`](frames::frame_lines) and [`serve`](serve::serve).
 #![tactic(auto)]
 
 mod command_line;
@@ -19,9 +19,12 @@ mod page;
 mod program;
 mod reply;
 mod report;
+mod serve;
+mod service;
 mod stamps;
 mod words;
 
+use program::Ran;
 use std::collections::hash_map::RandomState;
 use std::process::ExitCode;
 
@@ -32,7 +35,7 @@ fn main(rt: HostRuntime) -> ExitCode {
     let (mut stdin, mut stdout, mut stderr) = (rt.stdin(), rt.stdout(), rt.stderr());
     let words = command_line::words_of(&rt);
     let keys = RandomState::new(&rt);
-    let status = program::run(
+    let ran = program::run(
         rt.alloc(),
         words,
         keys,
@@ -40,5 +43,8 @@ fn main(rt: HostRuntime) -> ExitCode {
         &mut stdout,
         &mut stderr,
     );
-    ExitCode::from(status)
+    ExitCode::from(match ran {
+        Ran::Ended(status) => status,
+        Ran::Serves(service) => serve::serve(&rt, service, &mut stdout, &mut stderr),
+    })
 }

@@ -1,15 +1,26 @@
 //! The program over its words and its streams.
-ghost use Rattle.std.specs.Prelude.{◌≤◌};
+ghost use Rattle.scenario_cli.specs.Statuses.{HasStatus};
 
 use crate::command_line::{Subcommand, asked};
 use crate::frames::frame_lines;
 use crate::reply::reply_lines;
+use crate::service::Service;
 use std::alloc::Global;
 use std::collections::hash_map::RandomState;
 use std::io;
 use std::io::{Read, Write};
 
-/// Does what the words of the command line ask, over the input and the two outputs. The keys are those of the maps' hashes.
+/// What the words of a command line come to.
+#[derive(Drop)]
+pub enum Ran {
+    /// The program has done what they ask, and ends with this status.
+    Ended(u8),
+    /// The program is to serve.
+    Serves(Service),
+}
+
+/// Does what the words of the command line ask over the input and the two outputs; serving is left to the caller, which has the
+/// sockets. The keys are those of the maps' hashes.
 ///
 /// Gives the program's status: that of the subcommand; 2 where the words name none or ask for help, and 1 where memory is
 /// out or there are no keys. Why is told on the second output, and so is the help.
@@ -20,21 +31,22 @@ pub fn run<R: Read, W: Write, E: Write>(
     reader: &mut R,
     writer: &mut W,
     faults: &mut E,
-) -> u8
-    ensures { result ≤ 2 }
+) -> Ran
+    ensures { HasStatus result }
 {
     match asked(alloc, words) {
-        Ok(Subcommand::Frame) => frame_lines(alloc, reader, writer, faults),
+        Ok(Subcommand::Frame) => Ran::Ended(frame_lines(alloc, reader, writer, faults)),
         Ok(Subcommand::Reply) => match keys {
-            Ok(keys) => reply_lines(alloc, keys, reader, writer, faults),
+            Ok(keys) => Ran::Ended(reply_lines(alloc, keys, reader, writer, faults)),
             Err(error) => {
                 let _ = writeln!(faults, "drawing random keys: {error}");
-                1
+                Ran::Ended(1)
             }
         },
+        Ok(Subcommand::Serve(service)) => Ran::Serves(service),
         Err(fault) => {
             let _ = write!(faults, "{fault}");
-            fault.status()
+            Ran::Ended(fault.status())
         }
     }
 }

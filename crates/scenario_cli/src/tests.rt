@@ -8,12 +8,13 @@ mod sink;
 mod streams;
 mod table;
 
-use crate::program;
+use crate::program::{self, Ran as Came};
+use crate::service::Service;
 use sink::Sink;
 use std::alloc::{AllocError, Global};
 use std::collections::hash_map::RandomState;
 use std::io;
-use std::io::{Error, ErrorKind, Read};
+use std::io::{Error, ErrorKind, Read, Write};
 
 /// Runs the program.
 #[derive(Clone, Copy)]
@@ -42,7 +43,7 @@ impl Runner<'_> {
         let words = self.words()?;
         let mut printed = Sink::with_room(self.alloc, room)?;
         let mut told = Sink::with_room(self.alloc, ROOM)?;
-        let status = program::run(
+        let came = program::run(
             self.alloc,
             words,
             self.keys(),
@@ -50,6 +51,10 @@ impl Runner<'_> {
             &mut printed,
             &mut told,
         );
+        let status = match came {
+            Came::Ended(status) => status,
+            Came::Serves(service) => echo(service, &mut printed),
+        };
         Ok(Ran {
             status,
             printed: printed.into_bytes(),
@@ -76,6 +81,21 @@ impl Runner<'_> {
         } else {
             Err(Error::from(ErrorKind::BrokenPipe))
         }
+    }
+}
+
+/// Prints the numbers of what the program is to serve, and the partitions of the topic `t`, and serves nothing. Gives 0, or 1 where the
+/// writer fails.
+fn echo<W: Write>(service: Service, writer: &mut W) -> u8 {
+    let (port, workers) = (service.port, service.workers);
+    let (shards, connections) = (service.shards, service.connections);
+    let partitions = service.image.find("t").map_or(0, |(_, count)| count);
+    match writeln!(
+        writer,
+        "{port} {workers} {shards} {connections} {partitions}"
+    ) {
+        Ok(()) => 0,
+        Err(_) => 1,
     }
 }
 

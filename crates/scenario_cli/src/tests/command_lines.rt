@@ -38,7 +38,7 @@ $ frame
 # a subcommand is wanted
 < 00000000
 ! error: 'coord' requires a subcommand but one was not provided
-!   [subcommands: reply, frame, help]
+!   [subcommands: reply, frame, serve, help]
 !
 ! Usage: coord <COMMAND>
 !
@@ -96,6 +96,7 @@ $ --help
 ! Commands:
 !   reply  Answers the request frames on standard input
 !   frame  Prints the fields of the request frames on standard input
+!   serve  Serves connections on 127.0.0.1 until so many have ended
 !   help   Print this message or the help of the given subcommand(s)
 !
 ! Options:
@@ -111,6 +112,7 @@ $ help
 ! Commands:
 !   reply  Answers the request frames on standard input
 !   frame  Prints the fields of the request frames on standard input
+!   serve  Serves connections on 127.0.0.1 until so many have ended
 !   help   Print this message or the help of the given subcommand(s)
 !
 ! Options:
@@ -134,5 +136,55 @@ $ --version
 ! Usage: coord <COMMAND>
 !
 ! For more information, try '--help'.
+= 2
+
+# a server with no topics
+$ serve --port 1 --workers 64 --shards 64 --connections 1000000
+> 1 64 64 1000000 0
+= 0
+
+# a topic is cut at its first colon and its last
+$ serve --port 65535 --workers 1 --shards 1 --connections 1 t:urn:uuid:11111111-1111-1111-1111-111111111111:2
+> 65535 1 1 1 2
+= 0
+
+# port 0
+$ serve --port 0 --workers 1 --shards 1 --connections 1
+! error: '--port' wants a number from 1 to 65535
+= 2
+
+# a port past the greatest
+$ serve --port 65536 --workers 1 --shards 1 --connections 1
+! error: '--port' wants a number from 1 to 65535
+= 2
+
+# too many workers
+$ serve --port 9092 --workers 65 --shards 1 --connections 1
+! error: '--workers' wants a number from 1 to 64
+= 2
+
+# no shards
+$ serve --port 9092 --workers 1 --shards 0 --connections 1
+! error: '--shards' wants a number from 1 to 64
+= 2
+
+# too many connections
+$ serve --port 9092 --workers 1 --shards 1 --connections 1000001
+! error: '--connections' wants a number from 1 to 1000000
+= 2
+
+# a word that is no number
+$ serve --port 9092 --workers two --shards 1 --connections 1
+! error: '--workers' wants a number from 1 to 64
+= 2
+
+# a topic with no count
+$ serve --port 9092 --workers 1 --shards 1 --connections 1 t:11111111-1111-1111-1111-111111111111
+! error: 't:11111111-1111-1111-1111-111111111111' is no topic NAME:UUID:COUNT
+= 2
+
+# an image of two topics with one name
+$ serve --port 9092 --workers 1 --shards 1 --connections 1 t:11111111-1111-1111-1111-111111111111:2 t:22222222-2222-2222-2222-222222222222:2
+! error: two topics have one name
 = 2
 ";

@@ -1,0 +1,160 @@
+//! `coord serve`: the server over sockets of this machine.
+ghost use Rattle.std.specs.Prelude.{◌≡◌, ◌≤◌, ◌<◌};
+
+use crate::service::Service;
+use coord_server::{
+    AlwaysOpen, ClockMoments, Moments, Plan, ServerFault, Shards, ShardsDesk, serve_sockets,
+};
+use std::alloc::{AllocError, AllocGlobal};
+use std::collections::hash_map::RandomState;
+use std::io;
+use std::io::Write;
+use std::marker::Brand;
+use std::net::{Ipv4Addr, Net, TcpListener, TcpStream};
+use std::random::RandomSource;
+use std::sync::Wait;
+use std::sync::ledger::{Blank, Ledger};
+use std::thread::Threads;
+use std::time::Clock;
+use thiserror::Error;
+use topic_meta::Image;
+
+/// How many seats the shards can give out.
+const SEATS: u64 = 256;
+
+/// Why `coord serve` ends before its connections have.
+#[derive(Debug, Drop, Error)]
+pub enum ServeFault {
+    #[error("drawing random keys: {0}")]
+    Keys(io::Error),
+    #[error("listening on 127.0.0.1:{0}: {1}")]
+    Port(u16, io::Error),
+    #[error("reading the clock: {0}")]
+    Clock(io::Error),
+    #[error("writing the output: {0}")]
+    Write(io::Error),
+    #[error("serving: {0}")]
+    Server(ServerFault),
+    #[error("out of memory")]
+    NoMemory,
+}
+
+/// Serves as it is asked to, over sockets of this machine. What is printed goes to the writer, and a fault is told. Gives the
+/// program's status: 0 once the connections have ended, 1 after a fault (ours).
+pub fn serve<R, W: Write, E: Write>(rt: &R, service: Service, writer: &mut W, faults: &mut E) -> u8
+where
+    R: Wait
+        + Threads
+        + Clock
+        + Net<Listener = TcpListener, Stream = TcpStream>
+        + RandomSource
+        + AllocGlobal
+        + Sync,
+    ensures { result ≤ 1 }
+{
+    match serve_port(rt, service, writer) {
+        Ok(()) => 0,
+        Err(fault) => {
+            let _ = writeln!(faults, "{fault}");
+            1
+        }
+    }
+}
+
+/// Listens on a port of 127.0.0.1, prints that it does, serves the connections, and prints how many there were.
+fn serve_port<R, W: Write>(rt: &R, service: Service, writer: &mut W) -> Result<(), ServeFault>
+where
+    R: Wait
+        + Threads
+        + Clock
+        + Net<Listener = TcpListener, Stream = TcpStream>
+        + RandomSource
+        + AllocGlobal
+        + Sync,
+{
+    let keys = RandomState::new(rt).map_err(ServeFault::Keys)?;
+    let (port, shards) = (service.port, service.shards);
+    let socket = match TcpListener::bind(rt, (Ipv4Addr::LOCALHOST, port)) {
+        Ok(socket) => socket,
+        Err(error) => return Err(ServeFault::Port(port, error)),
+    };
+    let moments = match ClockMoments::start(rt) {
+        Ok(moments) => moments,
+        Err(error) => return Err(ServeFault::Clock(error)),
+    };
+    print(writer, "listening", u64::from(port))?;
+    let salt = moments.first().millis();
+    let (entries, calls) = (Blank::new(shards as u64), Blank::new(SEATS));
+    let served = serve_over::<Brand, Brand, _, R>(
+        rt, service, keys, salt, socket, &moments, entries, calls,
+    )?;
+    print(writer, "served", served)
+}
+
+/// Serves the connections of a socket over new shards with a salt. Gives their number.
+fn serve_over<A, C, M, R>(
+    rt: &R,
+    service: Service,
+    keys: RandomState,
+    salt: u64,
+    socket: TcpListener,
+    moments: &M,
+    entries: Blank,
+    calls: Blank,
+) -> Result<u64, ServerFault>
+where
+    A: Ledger + Send + Sync,
+    C: Ledger + Send + Sync,
+    M: Moments + Clone + Send,
+    R: Wait + Threads + Clock + Net + RandomSource + AllocGlobal + Sync,
+    requires entries { (entries.name ≡ A.name) × (entries.parts ≡ A.parts) × (entries.parts ≡ service.shards) }
+    requires calls { (calls.name ≡ C.name) × (calls.parts ≡ C.parts) × (calls.parts ≡ 256) }
+{
+    let shards = Shards::<A, C, AlwaysOpen>::new(
+        rt.alloc(),
+        service.shards,
+        salt,
+        0,
+        keys,
+        AlwaysOpen,
+        entries,
+        calls,
+    )?;
+    set_image(rt, &shards, moments.clone()?, &service.image)?;
+    let plan = Plan {
+        workers: service.workers,
+        connections: service.connections,
+        expires: true,
+    };
+    serve_sockets(rt, &shards, socket, moments, plan)
+}
+
+/// Gives every shard its topics.
+fn set_image<A, C, M, R>(
+    rt: &R,
+    shards: &Shards<A, C, AlwaysOpen>,
+    moments: M,
+    image: &Image,
+) -> Result<(), ServerFault>
+where
+    A: Ledger,
+    C: Ledger,
+    M: Moments,
+    R: Wait + AllocGlobal,
+{
+    let mut desk = ShardsDesk::new(rt, rt.alloc(), shards, moments)?;
+    desk.set_image(image)?;
+    Ok(())
+}
+
+/// Prints a line of a word and a number, and flushes it.
+fn print<W: Write>(writer: &mut W, word: &str, number: u64) -> Result<(), ServeFault> {
+    writeln!(writer, "{word} {number}").map_err(ServeFault::Write)?;
+    writer.flush().map_err(ServeFault::Write)
+}
+
+impl From<ServerFault> for ServeFault {
+    fn from(fault: ServerFault) -> ServeFault {
+        ServeFault::Server(fault)
+    }
+}
