@@ -108,7 +108,7 @@ is_given m given = sym (not-not (is_empty m)) ∙ ap not (given_some m given)
     not-not false = refl
 
 -- where no check applies the heartbeat is accepted
-first_none : (checks : List (Bool × Verdict)) → NoneApplies checks → first_of checks ≡ Accepted
+pub first_none : (checks : List (Bool × Verdict)) → NoneApplies checks → first_of checks ≡ Accepted
 first_none [] none = refl
 first_none (check ∷ checks) none = ap (λ b. if b then check.1 else first_of checks) none.0 ∙ first_none checks none.1
 

@@ -59,7 +59,7 @@ is_state _ = false
 
 -- ---- the last of a list
 
-last_get : {X : Type 0} (xs : List X) (x : X) → slice_get (xs ++ x ∷ []) (length xs) ≡ Some x
+pub last_get : {X : Type 0} (xs : List X) (x : X) → slice_get (xs ++ x ∷ []) (length xs) ≡ Some x
 last_get [] x = refl
 last_get (y ∷ xs) x = last_get xs x
 

@@ -1,7 +1,7 @@
 //! Laws of the world, proved where nothing runs: what holds after every list of acts, from clients that haven't
 //! asked for anything, and that an act has one outcome.
 ghost use Rattle.world_sim.specs.Convergence.{Convergence};
-ghost use Rattle.world_sim.specs.Examples.{SomebodyHolds, SomeCommitIsTaken, SomeReplyShows, SomeTargetIsRenewed, SomeWorldCanSettle};
+ghost use Rattle.world_sim.specs.Examples.{SomebodyHolds, SomeCommitIsTaken, SomeReplyShows, SomeRoundsMove, SomeTargetIsRenewed, SomeWorldCanSettle, TwoHold};
 ghost use Rattle.world_sim.specs.Exclusivity.{ActsLawfully, Always, BringsHeld, CommitHeld, HoldApart, HoldGranted, ShowGranted, SinceGranted};
 ghost use Rattle.world_sim.specs.Invariant.{Keeps};
 ghost use Rattle.world_sim.specs.Laws.{OneOutcomeAnAct, OneRunOfActs};
@@ -103,13 +103,16 @@ pub fn rounds_go_on()
     every_act_keeps_the_invariant();
 }
 
-/// The laws aren't empty: in worlds that acts lead to a member holds a partition, a reply that may be taken shows one, a
-/// commit that is taken was made while one was held, a target is renewed, and a world with a member meets the condition
-/// of the three rounds.
+/// The laws aren't empty: in worlds that acts lead to a member holds a partition, two members of one group each hold one,
+/// a reply that may be taken shows one, a commit that is taken was made while one was held, a target is renewed, a world
+/// with a member meets the condition of the three rounds, and three rounds are made in which a member gives up a partition
+/// that its target doesn't give it.
 pub fn the_laws_are_met()
     ensures holds { SomebodyHolds }
+    ensures two_hold { TwoHold }
     ensures shows { SomeReplyShows }
     ensures takes { SomeCommitIsTaken }
     ensures renews { SomeTargetIsRenewed }
     ensures settles { SomeWorldCanSettle }
+    ensures moves { SomeRoundsMove }
 {}

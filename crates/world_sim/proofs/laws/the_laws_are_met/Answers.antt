@@ -1,8 +1,11 @@
-use Rattle.world_sim.proofs.OneHolder.{some_commit_is_taken, some_reply_shows, some_target_is_renewed, some_world_can_settle, somebody_holds}
+use Rattle.world_sim.proofs.TwoHolders.{some_commit_is_taken, some_reply_shows, some_target_is_renewed, some_world_can_settle, some_rounds_move, somebody_holds, two_hold}
 use Rattle.world_sim.proofs.laws.the_laws_are_met.Goals as goal
 
 pub returns-clause-holds : goal.returns-clause-holds
 returns-clause-holds c = somebody_holds
+
+pub returns-clause-two_hold : goal.returns-clause-two_hold
+returns-clause-two_hold c = two_hold
 
 pub returns-clause-shows : goal.returns-clause-shows
 returns-clause-shows c = some_reply_shows
@@ -15,3 +18,6 @@ returns-clause-renews c = some_target_is_renewed
 
 pub returns-clause-settles : goal.returns-clause-settles
 returns-clause-settles c = some_world_can_settle
+
+pub returns-clause-moves : goal.returns-clause-moves
+returns-clause-moves c = some_rounds_move
