@@ -1,5 +1,6 @@
 -- The past as a list: where an id stands, and what taking one out or putting one last keeps.
 use Rattle.std.proofs.Common.{◌≡◌, ℕ, zero, suc, ◌+◌, ◌<◌, Bool, true, false, cond, not, ◌||◌, ◌==◌, List, [], ◌∷◌, ◌++◌, length, map, take, drop, get_or, Option, Some, None, is_some, refl, sym, ap, subst, ◌∙◌, arith, true≢false}
+use Rattle.std.specs.Prelude.{IsSome, OnSome}
 use Rattle.std.specs.List.{HoldsAt, list_any, position, position_from, remove, drop-map, take-map}
 use Rattle.std.specs.Ordering.{eq_by_cmp}
 use Rattle.std.specs.Str.{bytes_eq}
@@ -20,6 +21,11 @@ use Rattle.group_epochs.specs.Past.{AreApart, AreKept, IsPlaceOf, fingerprint}
 
 abbrev pub Entry : Type 0
 Entry = Text × Stamp
+
+-- what is said of a value that is there
+pub of_some : {X : Type 0} {P : Type 0} (o : Option X) → IsSome o → OnSome o P → P
+of_some None there holds = absurd (true≢false (sym there))
+of_some (Some x) there holds = holds
 
 -- ---- where nothing is found
 
@@ -191,12 +197,12 @@ pub record TakesOne (past : Past) (fingerprints : List ℕ) (hasher : RandomStat
   pub place : length past < MOST_PAST_MEMBERS
 
 pub takes_one_without_oldest : (past : Past) (fingerprints : List ℕ) (hasher : RandomState) (m : Text) → AreKept past fingerprints hasher → past_stamp past m ≡ None
-    → TakesOne (remove past 0) (remove fingerprints 0) hasher m
+    → TakesOne (drop 1 past) (drop 1 fingerprints) hasher m
 takes_one_without_oldest [] fingerprints hasher m kept none =
-    record { kept = record { few = omega arith; apart = tt; beside = ap (λ l. remove l 0) kept.beside }; absent = refl; place = omega arith }
+    record { kept = record { few = omega arith; apart = tt; beside = ap (drop 1) kept.beside }; absent = refl; place = omega arith }
 takes_one_without_oldest (e ∷ past) fingerprints hasher m kept none =
     record {
-      kept = record { few = omega (arith, kept.few); apart = kept.apart.1; beside = ap (λ l. remove l 0) kept.beside };
+      kept = record { few = omega (arith, kept.few); apart = kept.apart.1; beside = ap (drop 1) kept.beside };
       absent = (first_differs e past m none).1;
       place = omega (arith, kept.few);
     }

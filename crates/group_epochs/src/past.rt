@@ -12,6 +12,7 @@ ghost use Rattle.group_epochs.specs.Past.{AreApart, HasRoomFor, IsPlaceOf, finge
 use group_types::limits::MOST_PAST_MEMBERS;
 use group_types::{MemberId, Stamp};
 use std::alloc::{AllocError, Global};
+use std::collections::VecDeque;
 use std::collections::hash_map::RandomState;
 use std::hash::BuildHasher;
 use std::marker::Model;
@@ -20,23 +21,25 @@ use std::marker::Model;
 /// (ours). By them a late repeat of a former member's join is told from a new join.
 ///
 /// A fingerprint of each id stands beside the list, so that a look-up compares numbers, and then one text. What is taken
-/// out of a list gives its place back, as a hash table can't promise: so a full list remembers more ids without memory.
+/// out of a list gives its place back, as a hash table can't promise: so a full list remembers more ids without memory. The
+/// oldest is forgotten without a move of the others.
 #[derive(Drop)]
 pub struct Past {
-    entries: Vec<(MemberId, Stamp)>,
-    fingerprints: Vec<u64>,
+    entries: VecDeque<(MemberId, Stamp)>,
+    fingerprints: VecDeque<u64>,
     hasher: RandomState,
 }
 
 impl Model for Past {
-    ghost use Rattle.std.specs.Prelude.{◌-◌, min, length, vec_capacity};
+    ghost use Rattle.std.specs.Prelude.{◌-◌, min, length};
+    ghost use Rattle.std.specs.VecDeque.{deque_capacity};
     ghost use Rattle.group_epochs.specs.Past.{AreKept, PastState, past_state_code};
 
     ghost Value = { PastState };
 
     ghost coded = { past_state_code };
 
-    ghost view = { λ a. record { past = a.entries.items; room = min (vec_capacity a.entries) (vec_capacity a.fingerprints) - length a.entries.items } };
+    ghost view = { λ a. record { past = a.entries.items; room = min (deque_capacity a.entries) (deque_capacity a.fingerprints) - length a.entries.items } };
 
     ghost invariant = { λ a. AreKept a.entries.items a.fingerprints.items a.hasher };
 }
@@ -47,8 +50,8 @@ impl Past {
         ensures { result.past ≡ [] }
     {
         Past {
-            entries: Vec::new(alloc),
-            fingerprints: Vec::new(alloc),
+            entries: VecDeque::new(alloc),
+            fingerprints: VecDeque::new(alloc),
             hasher,
         }
     }
@@ -101,12 +104,12 @@ impl Past {
         ensures places { places self.new ≡ places self.old }
     {
         if MOST_PAST_MEMBERS <= self.entries.len() {
-            self.entries.remove(0);
-            self.fingerprints.remove(0);
+            self.entries.pop_front();
+            self.fingerprints.pop_front();
         }
         self.fingerprints
-            .push_reserved(fingerprint(&self.hasher, id.as_str()));
-        self.entries.push_reserved((id, stamp));
+            .push_back_reserved(fingerprint(&self.hasher, id.as_str()));
+        self.entries.push_back_reserved((id, stamp));
     }
 
     /// Forgets an id, and keeps the order of the others. Takes no memory.
@@ -130,13 +133,13 @@ fn fingerprint(hasher: &RandomState, id: &str) -> u64
 
 /// The place of an id among entries, beside which their fingerprints stand.
 fn place_of(
-    entries: &[(MemberId, Stamp)],
-    fingerprints: &[u64],
+    entries: &VecDeque<(MemberId, Stamp)>,
+    fingerprints: &VecDeque<u64>,
     hasher: &RandomState,
     id: &str,
 ) -> Option<usize>
-    requires { fingerprints.now ≡ map (λ e. fingerprint hasher.now e.0) entries.now }
-    ensures { IsPlaceOf entries.now id.now result }
+    requires { fingerprints.now.items ≡ map (λ e. fingerprint hasher.now e.0) entries.now.items }
+    ensures { IsPlaceOf entries.now.items id.now result }
 {
     let place = first_place(fingerprints, fingerprint(hasher, id))?;
     if entries[place].0.is(id) {
@@ -146,15 +149,15 @@ fn place_of(
 }
 
 /// The first place of a number.
-fn first_place(numbers: &[u64], number: u64) -> Option<usize>
-    ensures { result ≡ position (λ n. n == number) numbers.now }
+fn first_place(numbers: &VecDeque<u64>, number: u64) -> Option<usize>
+    ensures { result ≡ position (λ n. n == number) numbers.now.items }
 {
     numbers.iter().position(|other| *other == number)
 }
 
 /// The first entry with an id, where all are looked at: another id before it has the same fingerprint.
-fn search(entries: &[(MemberId, Stamp)], id: &str) -> Option<usize>
-    ensures { result ≡ position (λ e. bytes_eq e.0 id.now) entries.now }
+fn search(entries: &VecDeque<(MemberId, Stamp)>, id: &str) -> Option<usize>
+    ensures { result ≡ position (λ e. bytes_eq e.0 id.now) entries.now.items }
 {
     entries.iter().position(|entry| entry.0.is(id))
 }

@@ -28,6 +28,7 @@ use group_types::{EpochNumber, MemberId, Moment, NameSet, Stamp};
 use indexmap::IndexMap;
 use range_assign::Subs;
 use std::alloc::{AllocError, Global};
+use std::collections::VecDeque;
 use std::collections::hash_map::RandomState;
 use std::marker::Model;
 use topic_meta::{Image, View};
@@ -59,7 +60,7 @@ impl Model for NewMember {
 pub struct Records {
     members: Table,
     /// The members' places, in the order of their ids.
-    by_id: Vec<usize>,
+    by_id: VecDeque<usize>,
     past: Past,
     /// How many members subscribe each name.
     counts: Counts,
@@ -68,7 +69,8 @@ pub struct Records {
 }
 
 impl Model for Records {
-    ghost use Rattle.std.specs.Prelude.{◌-◌, vec_capacity, vec_len};
+    ghost use Rattle.std.specs.Prelude.{◌-◌};
+    ghost use Rattle.std.specs.VecDeque.{deque_capacity, deque_len};
     ghost use Rattle.group_epochs.specs.Records.{RecordsState, records_state_code};
 
     ghost Value = { RecordsState };
@@ -79,7 +81,7 @@ impl Model for Records {
     ghost use Rattle.group_epochs.specs.Table.{state_of};
     ghost use Rattle.group_epochs.specs.Whole.{AreWhole};
 
-    ghost view = { λ a. state_of a.members a.past (vec_capacity a.by_id - vec_len a.by_id) (spare a.counts) };
+    ghost view = { λ a. state_of a.members a.past (deque_capacity a.by_id - deque_len a.by_id) (spare a.counts) };
 
     ghost invariant = { λ a. AreWhole a.members a.by_id.items a.past a.counts a.earliest };
 }
@@ -93,7 +95,7 @@ impl Records {
     {
         Records {
             members: IndexMap::with_hasher(alloc, hasher),
-            by_id: Vec::new(alloc),
+            by_id: VecDeque::new(alloc),
             past: Past::new(alloc, hasher),
             counts: IndexMap::with_hasher(alloc, hasher),
             earliest: Moment::of_millis(u64::MAX),

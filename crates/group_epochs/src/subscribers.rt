@@ -2,6 +2,7 @@
 
 ghost use Rattle.std.specs.Prelude.{◌≡◌, ◌++◌, IsPermutation, IsSorted, OnOk, is_some, map};
 ghost use Rattle.std.specs.List.{list_any};
+ghost use Rattle.std.specs.VecDeque.Iter.{deque_iter_rest};
 ghost use Rattle.std.specs.List.Sorted.{IsStrictlySortedBy};
 ghost use Rattle.group_types.specs.Assignors.{member_cmp};
 ghost use Rattle.group_types.specs.Text.{text_cmp};
@@ -11,14 +12,15 @@ ghost use Rattle.group_epochs.specs.Table.{rows_at, seen_of};
 use crate::entry::Table;
 use range_assign::{Subs, Subscriber};
 use std::alloc::AllocError;
+use std::collections::vec_deque::Iter;
 
 /// Adds the members at places, in the order of the places. Where memory is short, some of them may be in already.
 pub fn add_all<'a>(
     subscribers: &mut Vec<Subscriber<'a>>,
     members: &'a Table,
-    places: &[usize],
+    places: Iter<'_, usize>,
 ) -> Result<(), AllocError>
-    ensures { OnOk result (subscribers_in subscribers.new.items ≡ subscribers_in subscribers.old.items ++ map seen_of (rows_at members.now.entries places.now)) }
+    ensures { OnOk result (subscribers_in subscribers.new.items ≡ subscribers_in subscribers.old.items ++ map seen_of (rows_at members.now.entries (deque_iter_rest places.entry))) }
 {
     for place in places {
         if let Some((_, entry)) = members.get_index(*place) {

@@ -1,9 +1,11 @@
 //! The members of a group by their ids' texts: what the records do to them.
 
-ghost use Rattle.std.specs.Prelude.{Ok, ◌≡◌, ◌<◌, ◌≤◌, ◌-◌, ℕ, length, false, true, slice_get, MatchOption, None, Some, IsSome, map, string_bytes, vec_capacity, vec_len};
+ghost use Rattle.std.specs.Prelude.{Ok, ◌≡◌, ◌<◌, ◌≤◌, ◌-◌, ℕ, length, false, true, slice_get, MatchOption, None, Some, IsSome, map, string_bytes};
 ghost use Rattle.group_types.specs.Text.{Text, text_cmp};
 ghost use Rattle.std.specs.Option.{option_copied};
 ghost use Rattle.std.specs.String.{string_eq};
+ghost use Rattle.std.specs.VecDeque.{deque_capacity, deque_len};
+ghost use Rattle.std.specs.VecDeque.Iter.{deque_iter_rest};
 ghost use Rattle.indexmap.specs.IndexMap.{IsUnique, get, get_by_text, index_map_len, spare};
 ghost use Rattle.group_epochs.specs.declared.entry.Entry.{Entry as Stored};
 ghost use Rattle.group_epochs.specs.Table.{Adds, IsAround, IsIdOrder, IsRank, Rewrites, TakesOut, first_with, is_due_at, is_row_due, marked_at, with_away, with_beat, with_record_kept, renumbered, text_at, texts_in};
@@ -12,12 +14,14 @@ use crate::entry::{Entry, Table};
 use crate::record::Record;
 use group_types::{EpochNumber, Moment, Stamp};
 use std::cmp::Ordering;
+use std::collections::VecDeque;
+use std::collections::vec_deque::Iter;
 use std::mem;
 
 /// A member comes in under its id, for which there is room. Takes no memory.
-pub fn add(members: &mut Table, by_id: &mut Vec<usize>, text: String, entry: Entry)
+pub fn add(members: &mut Table, by_id: &mut VecDeque<usize>, text: String, entry: Entry)
     requires room { 0 < spare members.old }
-    requires order_room { vec_len by_id.old < vec_capacity by_id.old }
+    requires order_room { deque_len by_id.old < deque_capacity by_id.old }
     requires absent { get string_eq members.old text ≡ None }
     requires order { IsIdOrder (texts_in members.old.entries) by_id.old.items }
     ensures added { Adds members.old members.new (string_bytes text) entry }
@@ -82,13 +86,13 @@ pub fn go_away(members: &mut Table, id: &str, stamp: Stamp, now: Moment)
 }
 
 /// A member goes, and gives what was kept of it. Takes no memory.
-pub fn take_out(members: &mut Table, by_id: &mut Vec<usize>, id: &str) -> Entry
+pub fn take_out(members: &mut Table, by_id: &mut VecDeque<usize>, id: &str) -> Entry
     requires there { IsSome (get_by_text members.old id.now) }
     requires distinct { IsUnique string_eq members.old }
     requires order { IsIdOrder (texts_in members.old.entries) by_id.old.items }
     ensures given { (e : Stored) → get_by_text members.old id.now ≡ Some e → result ≡ e }
     ensures taken { TakesOut members.old members.new id.now result.id }
-    ensures order_room { vec_len by_id.new < vec_capacity by_id.new }
+    ensures order_room { deque_len by_id.new < deque_capacity by_id.new }
     ensures order { IsIdOrder (texts_in members.new.entries) by_id.new.items }
 {
     let Ok(rank) = rank_of(members, by_id, id) else {
@@ -98,13 +102,13 @@ pub fn take_out(members: &mut Table, by_id: &mut Vec<usize>, id: &str) -> Entry
 }
 
 /// The member at a rank goes, and gives what was kept of it. Takes no memory.
-pub fn take_out_at(members: &mut Table, by_id: &mut Vec<usize>, rank: usize) -> Entry
+pub fn take_out_at(members: &mut Table, by_id: &mut VecDeque<usize>, rank: usize) -> Entry
     requires there { rank < length by_id.old.items }
     requires distinct { IsUnique string_eq members.old }
     requires order { IsIdOrder (texts_in members.old.entries) by_id.old.items }
     ensures given { (m : Text) (e : Stored) → IsRank (texts_in members.old.entries) by_id.old.items m (Ok rank) → get_by_text members.old m ≡ Some e → result ≡ e }
     ensures taken { (m : Text) → IsRank (texts_in members.old.entries) by_id.old.items m (Ok rank) → TakesOut members.old members.new m result.id }
-    ensures order_room { vec_len by_id.new < vec_capacity by_id.new }
+    ensures order_room { deque_len by_id.new < deque_capacity by_id.new }
     ensures order { IsIdOrder (texts_in members.new.entries) by_id.new.items }
 {
     let place = by_id[rank];
@@ -117,11 +121,12 @@ pub fn take_out_at(members: &mut Table, by_id: &mut Vec<usize>, rank: usize) -> 
 }
 
 /// The last place, found by the text of the member there, gets another number.
-fn renumber(members: &Table, places: &mut [usize], to: usize)
+fn renumber(members: &Table, places: &mut VecDeque<usize>, to: usize)
     requires some { 0 < index_map_len members.now }
     requires distinct { IsUnique string_eq members.now }
-    requires order { IsIdOrder (texts_in members.now.entries) places.old }
-    ensures { places.new ≡ map (renumbered (index_map_len members.now - 1) to) places.old }
+    requires order { IsIdOrder (texts_in members.now.entries) places.old.items }
+    ensures numbered { places.new.items ≡ map (renumbered (index_map_len members.now - 1) to) places.old.items }
+    ensures room { deque_capacity places.new ≡ deque_capacity places.old }
 {
     let Some((text, _)) = members.last() else {
         unreachable!()
@@ -133,20 +138,24 @@ fn renumber(members: &Table, places: &mut [usize], to: usize)
 }
 
 /// The places of the members before an id, and those of the members behind it, in the order of ids.
-pub fn around<'a>(members: &Table, by_id: &'a [usize], id: &str) -> (&'a [usize], &'a [usize])
-    requires { IsIdOrder (texts_in members.now.entries) by_id.now }
-    ensures { IsAround (texts_in members.now.entries) by_id.now id.now result.0.now result.1.now }
+pub fn around<'a>(
+    members: &Table,
+    by_id: &'a VecDeque<usize>,
+    id: &str,
+) -> (Iter<'a, usize>, Iter<'a, usize>)
+    requires { IsIdOrder (texts_in members.now.entries) by_id.now.items }
+    ensures { IsAround (texts_in members.now.entries) by_id.now.items id.now (deque_iter_rest result.0) (deque_iter_rest result.1) }
 {
     match rank_of(members, by_id, id) {
-        Ok(rank) => (&by_id[..rank], &by_id[rank + 1..]),
-        Err(rank) => by_id.split_at(rank),
+        Ok(rank) => (by_id.range(..rank), by_id.range(rank + 1..)),
+        Err(rank) => (by_id.range(..rank), by_id.range(rank..)),
     }
 }
 
 /// The rank of an id among the places in the order of ids, or the rank at which its place goes.
-fn rank_of(members: &Table, by_id: &[usize], id: &str) -> Result<usize, usize>
-    requires { IsIdOrder (texts_in members.now.entries) by_id.now }
-    ensures { IsRank (texts_in members.now.entries) by_id.now id.now result }
+fn rank_of(members: &Table, by_id: &VecDeque<usize>, id: &str) -> Result<usize, usize>
+    requires { IsIdOrder (texts_in members.now.entries) by_id.now.items }
+    ensures { IsRank (texts_in members.now.entries) by_id.now.items id.now result }
 {
     by_id.binary_search_by(|place| compare(members, *place, id))
 }
@@ -174,10 +183,15 @@ pub fn first_with<'a>(members: &'a Table, instance: &str) -> Option<&'a Entry>
 }
 
 /// The first rank, from one on, at whose place a member is due.
-pub fn first_due(members: &Table, places: &[usize], from: usize, clock: Moment) -> Option<usize>
-    ensures { MatchOption result ((k : ℕ) → from ≤ k → k < length places.now → is_due_at members.now.entries places.now clock k ≡ false)
-        (λ rank. (rank < length places.now) × (from ≤ rank) × (is_due_at members.now.entries places.now clock rank ≡ true)
-        × ((k : ℕ) → from ≤ k → k < rank → is_due_at members.now.entries places.now clock k ≡ false)) }
+pub fn first_due(
+    members: &Table,
+    places: &VecDeque<usize>,
+    from: usize,
+    clock: Moment,
+) -> Option<usize>
+    ensures { MatchOption result ((k : ℕ) → from ≤ k → k < length places.now.items → is_due_at members.now.entries places.now.items clock k ≡ false)
+        (λ rank. (rank < length places.now.items) × (from ≤ rank) × (is_due_at members.now.entries places.now.items clock rank ≡ true)
+        × ((k : ℕ) → from ≤ k → k < rank → is_due_at members.now.entries places.now.items clock k ≡ false)) }
 {
     for rank in from..places.len() {
         if is_due(members, places[rank], clock) {

@@ -1,8 +1,9 @@
 //! The members that were offered a target, by their numbers.
 
-ghost use Rattle.std.specs.Prelude.{ℕ, ◌≡◌, ◌<◌, IfOk, IsSome, vec_capacity, vec_len};
+ghost use Rattle.std.specs.Prelude.{ℕ, ◌≡◌, ◌<◌, IfOk, IsSome};
 ghost use Rattle.std.specs.Option.{option_copied, option_map};
 ghost use Rattle.std.specs.List.Sorted.{IsStrictlySortedBy};
+ghost use Rattle.std.specs.VecDeque.{deque_capacity, deque_len};
 ghost use Rattle.slab.specs.Slab.{HasRoomFor, get};
 ghost use Rattle.group_types.specs.Text.{text_cmp};
 ghost use Rattle.group_reconcile.specs.Members.{Changes, IsIdOrder, IsIdOrderBut, IsNumberOf, IsPlace, KeepsMembers, KeepsParts, RenamesMember, SetsParts, TakesMember, by_id, id_of, with_id};
@@ -11,6 +12,7 @@ use group_types::{MemberId, PartSet};
 use slab::Slab;
 use std::alloc::{AllocError, Global};
 use std::cmp::Ordering;
+use std::collections::VecDeque;
 use std::marker::Model;
 
 /// A member and what it holds.
@@ -24,7 +26,7 @@ pub struct Member {
 #[derive(Drop)]
 pub struct Members {
     members: Slab<Member>,
-    by_id: Vec<usize>,
+    by_id: VecDeque<usize>,
 }
 
 impl Model for Members {
@@ -46,7 +48,7 @@ impl Members {
     {
         Members {
             members: Slab::new(alloc),
-            by_id: Vec::new(alloc),
+            by_id: VecDeque::new(alloc),
         }
     }
 
@@ -92,7 +94,9 @@ impl Members {
         let Ok(place) = place_of(&self.members, &self.by_id, id) else {
             return None;
         };
-        let number = self.by_id.remove(place);
+        let Some(number) = self.by_id.remove(place) else {
+            unreachable!()
+        };
         let Member { id: _, parts } = self.members.try_remove(number)?;
         Some(parts)
     }
@@ -105,7 +109,9 @@ impl Members {
         let Ok(place) = place_of(&self.members, &self.by_id, old) else {
             return;
         };
-        let number = self.by_id.remove(place);
+        let Some(number) = self.by_id.remove(place) else {
+            unreachable!()
+        };
         put_back(&mut self.members, &mut self.by_id, number, new);
     }
 
@@ -120,9 +126,9 @@ impl Members {
 }
 
 /// Puts a member in at its place among the numbers, for which there is room.
-fn add(members: &mut Slab<Member>, by_id: &mut Vec<usize>, at: usize, member: Member) -> usize
+fn add(members: &mut Slab<Member>, by_id: &mut VecDeque<usize>, at: usize, member: Member) -> usize
     requires room { HasRoomFor members.old 1 }
-    requires place_room { vec_len by_id.old < vec_capacity by_id.old }
+    requires place_room { deque_len by_id.old < deque_capacity by_id.old }
     requires order { IsIdOrder members.old by_id.old.items }
     requires place { IsPlace members.old member.id by_id.old.items (Err at) }
     ensures vacant { get members.old result ≡ None }
@@ -137,8 +143,8 @@ fn add(members: &mut Slab<Member>, by_id: &mut Vec<usize>, at: usize, member: Me
 }
 
 /// Puts the number of a member back among the others under a new id, for which there is room.
-fn put_back(members: &mut Slab<Member>, by_id: &mut Vec<usize>, number: usize, id: MemberId)
-    requires room { vec_len by_id.old < vec_capacity by_id.old }
+fn put_back(members: &mut Slab<Member>, by_id: &mut VecDeque<usize>, number: usize, id: MemberId)
+    requires room { deque_len by_id.old < deque_capacity by_id.old }
     requires order { IsIdOrderBut members.old number by_id.old.items }
     requires there { IsSome (get members.old number) }
     requires apart { IsNumberOf members.old id None }
@@ -157,9 +163,9 @@ fn put_back(members: &mut Slab<Member>, by_id: &mut Vec<usize>, number: usize, i
 }
 
 /// The place of the number whose member has this id, or the place where such a number goes.
-fn place_of(members: &Slab<Member>, numbers: &[usize], id: &str) -> Result<usize, usize>
-    requires { IsStrictlySortedBy (by_id members.now) numbers.now }
-    ensures { IsPlace members.now id.now numbers.now result }
+fn place_of(members: &Slab<Member>, numbers: &VecDeque<usize>, id: &str) -> Result<usize, usize>
+    requires { IsStrictlySortedBy (by_id members.now) numbers.now.items }
+    ensures { IsPlace members.now id.now numbers.now.items result }
 {
     numbers.binary_search_by(|number| compare(members, *number, id))
 }

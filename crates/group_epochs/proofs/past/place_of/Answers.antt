@@ -8,11 +8,11 @@ pub returns-in_err-place : goal.returns-in_err-place
 returns-in_err-place c =
     let hasher = c.args.hasher.now in
     let m = c.args.id.now in
-    let none : position (λ n. n == c.fingerprint.result) c.args.fingerprints.now ≡ None = sym c.first_place.ensures ∙ c.in_err-place.was in
-    let others = passes_none (λ n. n == c.fingerprint.result) c.args.fingerprints.now none in
-    let those = subst (λ w. (k d : ℕ) → k < length c.args.fingerprints.now → (get_or c.args.fingerprints.now k d == w) ≡ false) c.fingerprint.ensures others in
+    let none : position (λ n. n == c.fingerprint.result) c.args.fingerprints.now.items ≡ None = sym c.first_place.ensures ∙ c.in_err-place.was in
+    let others = passes_none (λ n. n == c.fingerprint.result) c.args.fingerprints.now.items none in
+    let those = subst (λ w. (k d : ℕ) → k < length c.args.fingerprints.now.items → (get_or c.args.fingerprints.now.items k d == w) ≡ false) c.fingerprint.ensures others in
     let beside = subst (λ l. (k d : ℕ) → k < length l → (get_or l k d == fingerprint hasher m) ≡ false) c.requires those in
-    subst (IsPlaceOf c.args.entries.now m) (sym c.from_residual.ensures) (no_fingerprint hasher c.args.entries.now m beside)
+    subst (IsPlaceOf c.args.entries.now.items m) (sym c.from_residual.ensures) (no_fingerprint hasher c.args.entries.now.items m beside)
 
 pub returns : goal.returns
-returns c = place_searched c.args.entries.now c.args.id.now c.search.result c.search.ensures
+returns c = place_searched c.args.entries.now.items c.args.id.now c.search.result c.search.ensures

@@ -15,10 +15,9 @@ use Rattle.group_epochs.proofs.table.add.Goals as goal
 pub unreachable-requires : goal.unreachable-requires
 unreachable-requires c =
     let rows = c.args.members.now.entries in
-    let order : IsIdOrder (texts_in rows) c.deref.result.now = subst (IsIdOrder (texts_in rows)) (sym c.deref.ensures.value) c.requires.order in
     let absent : list_any (eq_by_cmp text_cmp c.as_str.result.now) (texts_in rows) ≡ false =
     texts_hold rows c.as_str.result.now ∙ ap (λ t. is_some (lookup (λ k. bytes_eq t (string_bytes k)) rows)) c.as_str.ensures.value ∙ ap is_some c.requires.absent in
-    no_rank (texts_in rows) c.deref.result.now c.as_str.result.now c.in_default.field-0 order absent c.in_default.ensures
+    no_rank (texts_in rows) c.args.by_id.now.items c.as_str.result.now c.in_default.field-0 c.requires.order absent c.in_default.ensures
 
 pub returns-clause-order : goal.returns-clause-order
 returns-clause-order c =
@@ -27,8 +26,7 @@ returns-clause-order c =
     let places = c.args.by_id.now.items in
     let m = string_bytes c.args.text in
     let rank : IsRank texts places m (Err c.in-Err.rank) =
-    subst (λ t. IsRank texts places t (Err c.in-Err.rank)) c.as_str.ensures.value
-    (subst (λ ps. IsRank texts ps c.as_str.result.now (Err c.in-Err.rank)) c.deref.ensures.value c.in-Err.ensures) in
+    subst (λ t. IsRank texts places t (Err c.in-Err.rank)) c.as_str.ensures.value c.in-Err.ensures in
     let stored = c.in-Ok-insert.ensures.entries ∙ insert_entry-new string_eq c.args.members.now c.args.text c.args.entry c.requires.absent in
     subst (λ t. IsIdOrder t c.insert.new.self.items) (sym (texts_behind rows c.insert-2.new.self.entries c.args.text c.args.entry stored))
     (subst (IsIdOrder (texts ++ m ∷ [])) (sym (c.in-Ok.ensures.items ∙ ap (insert places c.in-Err.rank) (c.len.ensures.len ∙ sym (length-texts_in rows))))

@@ -4,4 +4,4 @@ use Rattle.group_epochs.proofs.table.first_due.Given as goal
 
 -- before it nobody is due
 abbrev pub invariant-loop-rank : goal.invariant-loop-rank
-invariant-loop-rank l = (k : ℕ) → l.from ≤ k → k < l.rank → is_due_at l.members.entries l.places l.clock k ≡ false
+invariant-loop-rank l = (k : ℕ) → l.from ≤ k → k < l.rank → is_due_at l.members.entries l.places.items l.clock k ≡ false

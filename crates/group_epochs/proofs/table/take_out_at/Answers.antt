@@ -16,9 +16,9 @@ use Rattle.std.specs.Prelude.{option_map}
 use Rattle.std.proofs.lemmas.Option.{slice_get-get_or}
 use Rattle.group_epochs.proofs.Ordered.{order_without, rank_place}
 use Rattle.group_epochs.proofs.Ranked.{slice_get_of_map}
-use Rattle.group_epochs.proofs.Remembered.{map-remove}
+use Rattle.group_epochs.proofs.Remembered.{map-remove, of_some}
 use Rattle.group_epochs.proofs.Others.{distinct_in}
-use Rattle.group_epochs.proofs.Rows.{all_written, length-texts_in, text_found, texts_fewer}
+use Rattle.group_epochs.proofs.Rows.{length-texts_in, text_found, texts_fewer}
 use Rattle.group_epochs.proofs.table.take_out_at.Goals as goal
 
 -- the text at a rank has that rank
@@ -64,12 +64,12 @@ returns-clause-order c =
     let text = text_found rows p row (sym c.in-Some.ensures.entry) in
     let fewer = texts_fewer rows c.swap_remove_index.new.self.entries p row (omega (arith, place.0, here)) c.in-Some.ensures.entries in
     let last : index_map_len c.args.members.now - 1 ≡ length texts - 1 = ap (λ n. n - 1) (sym here) in
-    let numbered : c.renumber.new.places ≡ map (renumbered (length texts - 1) p) places =
-    c.renumber.ensures ∙ (λ i. map (renumbered (last i) p) (c.deref_mut.ensures.value i)) in
+    let numbered : c.renumber.new.places.items ≡ map (renumbered (length texts - 1) p) places =
+    c.renumber.ensures.numbered ∙ (λ i. map (renumbered (last i) p) places) in
     let long = length-map places (renumbered (length texts - 1) p) in
     let removed : c.remove.new.self.items ≡ map (renumbered (length texts - 1) p) (remove places c.args.rank) =
-    c.remove.ensures.items
-    ∙ ap (λ ps. remove ps c.args.rank) (all_written c.renumber.new.places places c.args.by_id.now.len (ap length numbered ∙ long) (sym c.deref_mut.ensures.len ∙ ap length c.deref_mut.ensures.value) ∙ numbered)
+    of_some c.remove.result (c.remove.ensures.variant.1 (omega (arith, ap length numbered, long, c.renumber.new.places.ok.0, c.requires.there))) c.remove.ensures.items
+    ∙ ap (λ ps. remove ps c.args.rank) numbered
     ∙ map-remove (renumbered (length texts - 1) p) places c.args.rank in
     subst (λ t. IsIdOrder t c.remove.new.self.items) (sym fewer)
     (subst (IsIdOrder (swap_remove texts p (string_bytes c.in-Some.field-0-0))) (sym removed)

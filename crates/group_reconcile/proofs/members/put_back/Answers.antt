@@ -9,8 +9,7 @@ pub unreachable-requires : goal.unreachable-requires
 unreachable-requires c =
     let ms = c.args.members.now in
     let place =
-    subst (λ ns. IsPlace ms c.args.id ns (Ok c.in_default.field-0)) c.deref.ensures.value
-    (subst (λ text. IsPlace ms text c.deref.result.now (Ok c.in_default.field-0)) c.as_str.ensures.value c.in_default.ensures) in
+    subst (λ text. IsPlace ms text c.args.by_id.now.items (Ok c.in_default.field-0)) c.as_str.ensures.value c.in_default.ensures in
     no_place ms c.args.number c.args.by_id.now.items c.args.id c.in_default.field-0 c.requires.order c.requires.apart place
 
 pub returns-in-Some-clause-order : goal.returns-in-Some-clause-order
@@ -20,8 +19,7 @@ returns-in-Some-clause-order c =
     let ns = c.args.by_id.now.items in
     let m = with_id c.args.id c.in-Some.member.now in
     let place =
-    subst (λ ns. IsPlace ms c.args.id ns (Err c.in-Err.at)) c.deref.ensures.value
-    (subst (λ text. IsPlace ms text c.deref.result.now (Err c.in-Err.at)) c.as_str.ensures.value c.in-Err.ensures) in
+    subst (λ text. IsPlace ms text c.args.by_id.now.items (Err c.in-Err.at)) c.as_str.ensures.value c.in-Err.ensures in
     subst (IsIdOrder (with_value ms n m)) (sym c.in-Ok.ensures.items)
     (IsIdOrder-insert ms (with_value ms n m) n ns c.requires.order m c.in-Err.at
     (Changes-of ms (with_value ms n m) n (Some m) (Updates-with_value ms n m c.requires.there)) place.0 place.1)

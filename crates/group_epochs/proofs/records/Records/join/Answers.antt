@@ -1,3 +1,4 @@
+use Rattle.std.specs.VecDeque.{deque_capacity, deque_len}
 use Rattle.std.proofs.Common.{◌+◌}
 use Rattle.group_types.specs.Group.{Records}
 use Rattle.group_types.specs.Sets.{size}
@@ -7,7 +8,7 @@ use Rattle.group_epochs.proofs.Counted.{as_many_texts, counts_with, few_counted,
 use Rattle.group_epochs.proofs.Earliest.{stored_later}
 use Rattle.std.proofs.Common.{min, ◌≡◌, ◌<◌, None, refl, ap, ◌∙◌, sym, subst}
 use Rattle.std.specs.Prelude.{string_bytes}
-use Rattle.std.proofs.Common.{arith, ◌-◌, vec_capacity, vec_len}
+use Rattle.std.proofs.Common.{arith, ◌-◌}
 use Rattle.std.specs.FinMap as finite
 use Rattle.group_types.specs.Members.{with_record, without_past}
 use Rattle.group_epochs.specs.Records.{Newcomer, RecordsState, members_in}
@@ -29,11 +30,11 @@ count_up-requires-clause-fits c = few_counted c.self.inside.members c.self.insid
 
 pub add-requires-clause-room : goal.add-requires-clause-room
 add-requires-clause-room c =
-    (room_for_one c.self.inside.members c.self.inside.past (vec_capacity c.self.inside.by_id - vec_len c.self.inside.by_id) (subst (λ (s : RecordsState). 0 < s.room) (sym c.self.view_is) c.requires.room.room)).1
+    (room_for_one c.self.inside.members c.self.inside.past (deque_capacity c.self.inside.by_id - deque_len c.self.inside.by_id) (subst (λ (s : RecordsState). 0 < s.room) (sym c.self.view_is) c.requires.room.room)).1
 
 pub add-requires-clause-order_room : goal.add-requires-clause-order_room
 add-requires-clause-order_room c =
-    let some = (room_for_one c.self.inside.members c.self.inside.past (vec_capacity c.self.inside.by_id - vec_len c.self.inside.by_id) (subst (λ (s : RecordsState). 0 < s.room) (sym c.self.view_is) c.requires.room.room)).0 in
+    let some = (room_for_one c.self.inside.members c.self.inside.past (deque_capacity c.self.inside.by_id - deque_len c.self.inside.by_id) (subst (λ (s : RecordsState). 0 < s.room) (sym c.self.view_is) c.requires.room.room)).0 in
     omega (arith, some)
 
 pub add-requires-clause-absent : goal.add-requires-clause-absent
@@ -49,7 +50,7 @@ invariant_of-self c =
           (record { id = c.new.inside.id; kept = c.args.record; mark = None }) c.add.ensures.added c.self.invariant.table
           (c.forget.ensures.past ∙ ap (without_past c.self.inside.past.past) (c.as_str.ensures.value ∙ sym c.new.invariant)) c.forget.ensures.places
           (sym c.new.invariant)
-          (room_for_one c.self.inside.members c.self.inside.past (vec_capacity c.self.inside.by_id - vec_len c.self.inside.by_id) (subst (λ (s : RecordsState). 0 < s.room) (sym c.self.view_is) c.requires.room.room)).2
+          (room_for_one c.self.inside.members c.self.inside.past (deque_capacity c.self.inside.by_id - deque_len c.self.inside.by_id) (subst (λ (s : RecordsState). 0 < s.room) (sym c.self.view_is) c.requires.room.room)).2
           c.add.new.by_id.items c.add.ensures.order;
       counted =
           let names : c.new.inside.names ≡ c.args.record.names = ap (λ (n : Newcomer). n.names) c.new.view_is ∙ c.requires.room.names.0 in

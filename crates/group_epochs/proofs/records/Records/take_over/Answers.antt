@@ -1,3 +1,4 @@
+use Rattle.std.specs.VecDeque.{deque_capacity, deque_len}
 use Rattle.std.proofs.Common.{◌+◌}
 use Rattle.group_types.specs.Group.{Records}
 use Rattle.group_types.specs.Sets.{size}
@@ -10,7 +11,7 @@ use Rattle.group_epochs.proofs.Rows.{get-records_in, kept_in}
 use Rattle.std.proofs.Common.{min}
 use Rattle.group_epochs.specs.Deadlines.{IsNoLater}
 use Rattle.group_epochs.proofs.Earliest.{no_later_without, stored_later}
-use Rattle.std.proofs.Common.{◌≡◌, ◌<◌, ◌-◌, None, refl, ap, arith, ◌∙◌, sym, subst, vec_capacity, vec_len}
+use Rattle.std.proofs.Common.{◌≡◌, ◌<◌, ◌-◌, None, refl, ap, arith, ◌∙◌, sym, subst}
 use Rattle.std.specs.Prelude.{string_bytes}
 use Rattle.std.specs.FinMap as finite
 use Rattle.indexmap.specs.IndexMap.{get_by_text}
@@ -78,7 +79,7 @@ add-requires-clause-absent c =
 
 pub add-requires-clause-room : goal.add-requires-clause-room
 add-requires-clause-room c =
-    let some = (room_for_one c.self.inside.members c.self.inside.past (vec_capacity c.self.inside.by_id - vec_len c.self.inside.by_id) (subst (λ (s : RecordsState). 0 < s.room) (sym c.self.view_is) c.requires.room.room)).1 in
+    let some = (room_for_one c.self.inside.members c.self.inside.past (deque_capacity c.self.inside.by_id - deque_len c.self.inside.by_id) (subst (λ (s : RecordsState). 0 < s.room) (sym c.self.view_is) c.requires.room.room)).1 in
     let kept = c.take_out-former.ensures.taken.room in
     omega (arith, some, kept)
 
@@ -91,7 +92,7 @@ invariant_of-self c =
     let absent = entry_absent m heir
     (ap (finite.get (records_in m.entries)) (c.heir.invariant ∙ ap (λ (n : Newcomer). n.id) c.heir.view_is) ∙ ap (λ (s : RecordsState). finite.get s.records c.args.heir.id) c.self.view_is ∙ c.requires.absent) in
     let forgets = c.forget.ensures.past ∙ ap (without_past past.past) (c.as_str.ensures.value ∙ sym c.heir.invariant) in
-    let room = (room_for_one m past (vec_capacity c.self.inside.by_id - vec_len c.self.inside.by_id) (subst (λ (s : RecordsState). 0 < s.room) (sym c.self.view_is) c.requires.room.room)).2 in
+    let room = (room_for_one m past (deque_capacity c.self.inside.by_id - deque_len c.self.inside.by_id) (subst (λ (s : RecordsState). 0 < s.room) (sym c.self.view_is) c.requires.room.room)).2 in
     let between = table_without m c.take_out-former.new.members c.forget.new.self c.remember.new.self c.args.old.now c.take_out-former.result.id c.stamp-last.result c.take_out-former.ensures.taken (table_forgotten m c.take_out-former.new.members past c.forget.new.self c.remember.new.self c.args.old.now heir c.take_out-former.result.id c.stamp-last.result c.take_out-former.ensures.taken c.self.invariant.table there absent forgets c.forget.ensures.places) there
     c.remember.ensures.past c.remember.ensures.places c.take_out-former.new.by_id.items c.take_out-former.ensures.order in
     let stays = heir_stays_forgotten m c.take_out-former.new.members past c.forget.new.self c.remember.new.self c.args.old.now heir c.take_out-former.result.id c.stamp-last.result c.take_out-former.ensures.taken c.self.invariant.table there absent forgets c.forget.ensures.places c.remember.ensures.past in

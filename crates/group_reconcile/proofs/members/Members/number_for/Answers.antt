@@ -8,8 +8,7 @@ returns-in-Ok-clause-number c =
     let ms = c.self.inside.members in
     let id = c.args.id.now in
     let place =
-    subst (λ ns. IsPlace ms id ns (Ok c.in-Ok.place)) c.deref.ensures.value
-    (subst (λ text. IsPlace ms text c.deref.result.now (Ok c.in-Ok.place)) c.as_str.ensures.value c.in-Ok.ensures) in
+    subst (λ text. IsPlace ms text c.self.inside.by_id.items (Ok c.in-Ok.place)) c.as_str.ensures.value c.in-Ok.ensures in
     subst (λ us. IsNumberOf us id (Some c.index.result.now)) c.self.view_is
     (IsNumberOf-found ms c.self.inside.by_id.items c.self.invariant id c.in-Ok.place c.index.result.now place c.index.ensures)
 
@@ -18,8 +17,7 @@ returns-clause-number c =
     let ms = c.self.inside.members in
     let id = c.args.id.now in
     let place =
-    subst (λ ns. IsPlace ms id ns (Err c.in-Err.at)) c.deref.ensures.value
-    (subst (λ text. IsPlace ms text c.deref.result.now (Err c.in-Err.at)) c.as_str.ensures.value c.in-Err.ensures) in
+    subst (λ text. IsPlace ms text c.self.inside.by_id.items (Err c.in-Err.at)) c.as_str.ensures.value c.in-Err.ensures in
     let none = IsNumberOf-absent ms c.self.inside.by_id.items c.self.invariant id c.in-Err.at place in
     IsNumberOf-added c.reserve.new.self c.add.new.members c.add.result _ id c.add.ensures.added c.in_ok-id.ensures
     (subst (λ us. IsNumberOf us id None) (sym c.reserve.ensures.rest_kept) none)
