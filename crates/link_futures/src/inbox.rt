@@ -18,8 +18,11 @@ use std::marker::Model;
 /// The most bytes of a read on a quiet line. A line that waits for the next frame has no room for more.
 const SMALL_READ: usize = 3_072;
 
-/// The most bytes of a read, once one has filled the room that it was offered.
+/// The most bytes of any read.
 pub(crate) const LARGEST_READ: usize = 65_536;
+
+/// After so many reads in a row that found nothing, a line is quiet.
+const QUIET_READS: u8 = 200;
 
 /// The bytes of a frame's size.
 const SIZE_BYTES: usize = 4;
@@ -38,19 +41,23 @@ pub(crate) enum Next {
 #[derive(Drop)]
 pub(crate) struct Inbox {
     buffer: BytesMut,
-    /// A read has filled the room that it was offered, and the line hasn't been quiet since.
-    is_busy: bool,
+    /// The most bytes of the next read: twice as many after each that took its most, until the line is quiet.
+    room: usize,
     /// The buffer may have more room than a quiet line needs.
     has_grown: bool,
+    /// How many of the last reads found nothing, or more than that.
+    waits: u8,
     alloc: Global,
 }
 
 impl Model for Inbox {
-    ghost use Rattle.std.specs.Prelude.{ℕ, List};
+    ghost use Rattle.std.specs.Prelude.{ℕ, List, ◌<◌, ◌≤◌};
 
     ghost Value = { List ℕ };
 
     ghost view = { λ b. b.buffer.items };
+
+    ghost invariant = { λ b. (0 < b.room) × (b.room ≤ 65536) };
 }
 
 impl Inbox {
@@ -60,8 +67,9 @@ impl Inbox {
     {
         Inbox {
             buffer: BytesMut::new(alloc),
-            is_busy: false,
+            room: SMALL_READ,
             has_grown: false,
+            waits: 0,
             alloc,
         }
     }
@@ -70,6 +78,11 @@ impl Inbox {
         ensures { result ≡ (length self.now == 0) }
     {
         self.buffer.is_empty()
+    }
+
+    /// Whether the last reads found nothing.
+    pub(crate) fn is_quiet(&self) -> bool {
+        QUIET_READS <= self.waits
     }
 
     /// What the bytes begin with.
@@ -110,24 +123,25 @@ impl Inbox {
         ensures err { OnErr result ((self.new ≡ self.old) × (reader.new ≡ reader.old)) }
         ensures kept { Keeps cx.old cx.new }
     {
-        let room = if self.is_busy {
-            LARGEST_READ
-        } else {
-            SMALL_READ
-        };
-        self.has_grown = self.has_grown || self.is_busy || !self.buffer.is_empty();
-        let part = read_into(&mut self.buffer, room, reader, cx)?;
-        self.settle(part, room);
+        self.has_grown = self.has_grown || SMALL_READ < self.room || !self.buffer.is_empty();
+        let part = read_into(&mut self.buffer, self.room, reader, cx)?;
+        self.settle(part);
         Ok(part)
     }
 
-    /// After a read: a full one makes the next ones large, and a line that is quiet gives its room back.
-    fn settle(&mut self, part: Part, room: usize)
+    /// After a read: one that took its most makes the next larger, and a line that is quiet gives its room back.
+    fn settle(&mut self, part: Part)
         ensures { self.new ≡ self.old }
     {
         match part {
-            Part::Moved(count) => self.is_busy = self.is_busy || count == room,
+            Part::Moved(count) => {
+                self.waits = 0;
+                if count == self.room {
+                    self.room = (2 * count).min(LARGEST_READ);
+                }
+            }
             Part::Waits => {
+                self.waits = self.waits.saturating_add(1);
                 if self.has_grown && self.buffer.is_empty() {
                     *self = Inbox::new(self.alloc);
                 }

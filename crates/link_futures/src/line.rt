@@ -95,8 +95,14 @@ impl<R: ReadPart, W: WriteParts> Line<R, W> {
         }
     }
 
+    /// Whether there is nothing to do before bytes come, and none have come for some turns: no reply is unsent, and more bytes
+    /// are wanted.
+    pub(crate) fn is_quiet(&self) -> bool {
+        self.inbox.is_quiet() && self.outbox.is_empty() && self.wants_bytes()
+    }
+
     /// Reads once, where the desk may want more bytes. Says whether the reader waits.
-    fn read(&mut self, cx: &mut Context<'_>) -> Result<bool, End>
+    pub(crate) fn read(&mut self, cx: &mut Context<'_>) -> Result<bool, End>
         ensures reads { ReadsOn R.reads R.is_at_end self.old self.new }
         ensures ends { IfErr result (λ end. EndsAs R.faults W.faults W.stalls end self.old self.new) }
         ensures goes_on { OnOk result (MetNoFault R.faults W.faults W.stalls self.old self.new) }
@@ -140,7 +146,12 @@ impl<R: ReadPart, W: WriteParts> Line<R, W> {
         Ok(())
     }
 
-    /// Writes once, where a reply may be sent by now. Says whether the writer waits.
+    /// Whether replies wait for that to a frame that is there already, so that one write takes them all.
+    fn gathers(&self) -> bool {
+        self.outbox.has_room_in_a_write() && self.answerable().is_some()
+    }
+
+    /// Writes once, where a reply may be sent by now and none is to come first. Says whether the writer waits.
     fn write<D: Desk>(&mut self, cx: &mut Context<'_>, desk: &D) -> Result<bool, End>
         ensures writes { WritesOn W.writes self.old self.new }
         ensures ends { IfErr result (λ end. EndsAs R.faults W.faults W.stalls end self.old self.new) }
@@ -149,6 +160,9 @@ impl<R: ReadPart, W: WriteParts> Line<R, W> {
         ensures armed { result ≡ Ok true → Covers cx.new (W.needs self.new.writer) }
         ensures kept { Keeps cx.old cx.new }
     {
+        if self.gathers() {
+            return Ok(false);
+        }
         let count = self.outbox.sendable(desk, self.connection);
         if count == 0 {
             return Ok(false);

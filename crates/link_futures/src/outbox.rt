@@ -22,8 +22,11 @@ const MOST_REPLIES: usize = 64;
 /// The most bytes that are unsent when a frame is answered, without its own.
 const MOST_BYTES: usize = 8_388_608;
 
-/// The most replies of one write.
+/// The most parts of one write.
 const MOST_PARTS: usize = 16;
+
+/// The most bytes that replies have together where one write puts them into one part.
+const GATHERED: usize = 4_096;
 
 /// The room of the queue that a line keeps while it has nothing to write.
 const QUIET_REPLIES: usize = 8;
@@ -111,12 +114,16 @@ impl Outbox {
         Ok(answered)
     }
 
-    /// How many of the first replies may be written at once by now, on a connection.
+    /// Whether one write may take all replies, and more.
+    pub(crate) fn has_room_in_a_write(&self) -> bool {
+        self.unsent < GATHERED
+    }
+
+    /// How many of the first replies may be written by now, on a connection.
     pub(crate) fn sendable<D: Desk>(&self, desk: &D, connection: u64) -> usize
-        ensures most { result ≤ 16 }
-        ensures there { result ≤ length self.now }
+        ensures { result ≤ length self.now }
     {
-        let most = self.queue.len().min(MOST_PARTS);
+        let most = self.queue.len();
         for place in 0..most {
             let frame = self.queue[place].frame;
             if !desk.may_send(Stamp { connection, frame }) {
@@ -133,7 +140,7 @@ impl Outbox {
         writer: &mut W,
         cx: &mut Context<'_>,
     ) -> Part
-        requires { (count ≤ 16) × (count ≤ length self.old) }
+        requires { count ≤ length self.old }
         ensures bytes { TakesWritten W.writes writer.old writer.new (bytes_of_all self.old) (bytes_of_all self.new) }
         ensures counted { W.faults writer.new ≡ W.faults writer.old + faults_of result }
         ensures stalled { W.stalls writer.new ≡ W.stalls writer.old + stalls_of result }
@@ -157,14 +164,14 @@ impl Outbox {
     }
 }
 
-/// Writes once, from so many of the first replies.
+/// Writes once, from so many of the first replies: several short ones as one part, and else each as a part of its own.
 fn write_front<W: WriteParts>(
     queue: &VecDeque<Reply>,
     count: usize,
     writer: &mut W,
     cx: &mut Context<'_>,
 ) -> Part
-    requires { (count ≤ 16) × (count ≤ length queue.now.items) }
+    requires { count ≤ length queue.now.items }
     ensures bound { count_of result ≤ length (bytes_of_all (map waiting_of queue.now.items)) }
     ensures bytes { W.writes writer.old (take (count_of result) (bytes_of_all (map waiting_of queue.now.items))) writer.new }
     ensures counted { W.faults writer.new ≡ W.faults writer.old + faults_of result }
@@ -172,11 +179,35 @@ fn write_front<W: WriteParts>(
     ensures registered { OnWaits result (Covers cx.new (W.needs writer.new)) }
     ensures kept { Keeps cx.old cx.new }
 {
+    if 1 < count && queue[0].bytes.len() <= GATHERED {
+        let mut room = [0; GATHERED];
+        let len = gather(queue, count, &mut room);
+        return writer.poll_write_parts(cx, &[IoSlice::new(&room[..len])]);
+    }
+    let most = count.min(MOST_PARTS);
     let mut parts = [IoSlice::new(&[]); MOST_PARTS];
-    for place in 0..count {
+    for place in 0..most {
         parts[place] = IoSlice::new(queue[place].bytes.as_slice());
     }
-    writer.poll_write_parts(cx, &parts[..count])
+    writer.poll_write_parts(cx, &parts[..most])
+}
+
+/// Copies the bytes of as many of so many first replies as fit to the front of a room. Says how many bytes these are.
+fn gather(queue: &VecDeque<Reply>, count: usize, room: &mut [u8]) -> usize
+    requires { count ≤ length queue.now.items }
+    ensures bound { result ≤ length room.new }
+    ensures bytes { (n : ℕ) × (take result room.new ≡ bytes_of_all (map waiting_of (take n queue.now.items))) }
+{
+    let mut len = 0;
+    for place in 0..count {
+        let bytes = queue[place].bytes.as_slice();
+        if room.len() - len < bytes.len() {
+            return len;
+        }
+        room[len..len + bytes.len()].copy_from_slice(bytes);
+        len += bytes.len();
+    }
+    len
 }
 
 /// Drops the first so many bytes of the replies.

@@ -1,24 +1,29 @@
 //! Many lines over one desk.
-ghost use Rattle.std.specs.Prelude.{◌≡◌, ◌<◌, true, false, [], length, All};
+ghost use Rattle.std.specs.Prelude.{◌≡◌, ◌⊎◌, ◌<◌, true, false, [], length, All};
 ghost use Rattle.futures.specs.Task.{Covers, Keeps};
 ghost use Rattle.link_futures.specs.Stream.{LineNeeds};
+ghost use Rattle.link_futures.specs.Workers.{resting_count, RestingNeed};
 
 use crate::desk::Desk;
 use crate::line::Line;
 use crate::reader::ReadPart;
+use crate::resting::Resting;
 use crate::writer::WriteParts;
 use futures::task::{Context, Poll};
 use futures::{Future, Stream};
 use std::alloc::Global;
 
 /// Many lines over one desk. A poll looks once for an arrival and gives each line one turn, so no line waits for another to
-/// end. It is ready, with the number of lines that have ended, once arrivals have ended and no line is left.
+/// end; but a line that waits for its reader alone rests until it is woken. It is ready, with the number of lines that have
+/// ended, once arrivals have ended and no line is left.
 #[derive(Drop)]
 pub struct Worker<A: Stream, D> {
     arrivals: A,
     /// No line arrives any more.
     is_closed: bool,
+    /// The lines that have turns.
     lines: Vec<A::Item>,
+    resting: Resting<A::Item>,
     desk: D,
     /// How many lines have ended.
     ended: u64,
@@ -34,6 +39,7 @@ impl<R: ReadPart, W: WriteParts, A: Stream<Item = Line<R, W>>, D: Desk> Worker<A
             arrivals,
             is_closed: false,
             lines: Vec::new(alloc),
+            resting: Resting::new(alloc),
             desk,
             ended: 0,
         }
@@ -63,11 +69,37 @@ impl<R: ReadPart, W: WriteParts, A: Stream<Item = Line<R, W>>, D: Desk> Worker<A
         }
     }
 
+    /// Gives turns to the lines that have rested and were woken. Says whether there was such a line, or may be.
+    fn wake(&mut self, cx: &mut Context<'_>) -> bool
+        ensures arrivals { (self.new.arrivals ≡ self.old.arrivals) × (self.new.is_closed ≡ self.old.is_closed) }
+        ensures waits { result ≡ false → 0 < resting_count self.new.resting.lines → Covers cx.new (RestingNeed self.new.resting.lines) }
+        ensures kept { Keeps cx.old cx.new }
+    {
+        if self.resting.len() == 0 {
+            return false;
+        }
+        let mut has_woken = false;
+        for _ in 0..self.resting.len() {
+            if self.lines.reserve(1).is_err() {
+                return true;
+            }
+            match self.resting.poll_woken(cx) {
+                Poll::Ready(Some(line)) => {
+                    let _ = self.lines.push(line);
+                }
+                Poll::Ready(None) => self.ended = self.ended.saturating_add(1),
+                Poll::Pending => return has_woken,
+            }
+            has_woken = true;
+        }
+        true
+    }
+
     /// Whether arrivals have ended and no line is left.
     fn is_done(&self) -> bool
-        ensures { result ≡ false → self.now.is_closed ≡ true → 0 < length self.now.lines.items }
+        ensures { result ≡ false → self.now.is_closed ≡ true → (0 < length self.now.lines.items) ⊎ (0 < resting_count self.now.resting.lines) }
     {
-        self.is_closed && self.lines.is_empty()
+        self.is_closed && self.lines.is_empty() && self.resting.len() == 0
     }
 }
 
@@ -78,22 +110,54 @@ impl<R: ReadPart, W: WriteParts, A: Stream<Item = Line<R, W>>, D: Desk> Future f
 
     ghost can_poll = { λ w. w.is_closed ≡ false → A.can_poll w.arrivals };
 
-    ghost needs = { λ w. WorkerNeeds A.needs R.needs W.needs w.arrivals w.is_closed w.lines.items };
+    ghost needs = { λ w. WorkerNeeds A.needs R.needs W.needs w.arrivals w.is_closed w.lines.items w.resting.lines };
 
-    /// Looks once for an arrival, and gives each line one turn.
+    /// Looks once for an arrival, and gives each line one turn that doesn't rest.
     fn poll(&mut self, cx: &mut Context<'_>) -> Poll<u64> {
         let has_come = self.poll_arrival(cx);
+        let has_woken = self.wake(cx);
         let before = self.lines.len();
         turn_all(&mut self.lines, cx, &mut self.desk);
         let ended = before.saturating_sub(self.lines.len());
         self.ended = self.ended.saturating_add(ended as u64);
-        if has_come {
+        let has_rested = rest_all(&mut self.lines, &mut self.resting);
+        if has_come || has_woken || has_rested {
             return cx.yield_now();
         }
         if self.is_done() {
             return Poll::Ready(self.ended);
         }
         Poll::Pending
+    }
+}
+
+/// Lets the lines rest that wait for their readers alone. Says whether there was such a line.
+fn rest_all<R: ReadPart, W: WriteParts>(
+    lines: &mut Vec<Line<R, W>>,
+    resting: &mut Resting<Line<R, W>>,
+) -> bool
+    ensures { result ≡ false → (lines.new.items ≡ lines.old.items) × (resting.new.lines ≡ resting.old.lines) }
+{
+    let mut has_rested = false;
+    let mut place = 0;
+    while place < lines.len() {
+        if lines[place].is_quiet() {
+            if let Err(line) = resting.rest(lines.swap_remove(place)) {
+                keep(lines, line);
+                return true;
+            }
+            has_rested = true;
+        } else {
+            place += 1;
+        }
+    }
+    has_rested
+}
+
+/// Puts a line back from which memory was short.
+fn keep<L: Drop>(lines: &mut Vec<L>, line: Option<L>) {
+    if let Some(line) = line {
+        let _ = lines.push(line);
     }
 }
 
