@@ -15,7 +15,7 @@ use Rattle.scenario_cli.specs.Lines.{fed}
 use Rattle.scenario_cli.specs.Stamps.{stamp_of}
 use Rattle.scenario_cli.specs.Requests.{BytesStep, PrintsAnswer, text_of}
 use Rattle.scenario_cli.specs.Runs.{Prints}
-use Rattle.scenario_cli.specs.Commands.{SpellsTopic, SpellTopics, Image, Now, Stamped, Request, Tick, IsCommand, DoesCommand, one_more}
+use Rattle.scenario_cli.specs.Commands.{SpellsTopic, SpellTopics, SpellImage, IsImage, Image, Now, Stamped, Request, Tick, IsCommand, DoesCommand, one_more}
 
 -- ---- topics
 
@@ -257,13 +257,13 @@ request_done old new words before after least most prints counted kept =
       printed = prints.printed ∙ append_assoc before (text_of prints.answer) (10 ∷ []);
     }
 
-pub image_done : (old : Interpreter) (words : List (List ℕ)) (list : List Entry) (image : Topics) → SpellTopics words list
-    → (first_fault list ≡ None) × (image ≡ topics_of list) → DoesCommand (codes "image" ∷ words) old (record old { node = record old.node { image = image } }) []
-image_done old words list image topics made =
+pub image_done : (old : Interpreter) (words : List (List ℕ)) (image : Topics) → IsImage words image
+    → DoesCommand (codes "image" ∷ words) old (record old { node = record old.node { image = image } }) []
+image_done old words image is =
     record {
-      command = Image list;
-      spelled = (words, refl, record { topics = topics; sound = made.0 });
-      does = (ap (λ (t : Topics). (let it : Interpreter = record old { node = record old.node { image = t } } in it)) made.1, refl);
+      command = Image is.0;
+      spelled = (words, refl, is.1);
+      does = (ap (λ (t : Topics). (let it : Interpreter = record old { node = record old.node { image = t } } in it)) is.2, refl);
     }
 
 abbrev first_byte : List (List ℕ) → ℕ
@@ -271,15 +271,20 @@ first_byte [] = 0
 first_byte (word ∷ words) = get_or word 0 0
 
 -- topics with a fault are no image
-pub not_image : (words : List (List ℕ)) (list : List Entry) (fault : ImageFault) → SpellTopics words list → (fault ≡ NoMemory) ⊎ (first_fault list ≡ Some fault)
-    → fault ≢ NoMemory → IsCommand (codes "image" ∷ words) → ⊥
-not_image words list fault topics (inl short) other is = other short
-not_image words list fault topics (inr bad) other (Image es, spelled) =
-    let same : words ≡ spelled.0 = cc in
-    let one = SpellTopics-unique words es list (subst (λ ws. SpellTopics ws es) (sym same) spelled.2.topics) topics in
-    let none : first_fault list ≡ None = ap first_fault (sym one) ∙ spelled.2.sound in
+pub no_image : (words : List (List ℕ)) (list : List Entry) (fault : ImageFault) → SpellTopics words list → (fault ≡ NoMemory) ⊎ (first_fault list ≡ Some fault)
+    → fault ≢ NoMemory → (es : List Entry) → SpellImage words es → ⊥
+no_image words list fault topics (inl short) other es spelled = other short
+no_image words list fault topics (inr bad) other es spelled =
+    let one = SpellTopics-unique words es list spelled.topics topics in
+    let none : first_fault list ≡ None = ap first_fault (sym one) ∙ spelled.sound in
     absurd cc
-not_image words list fault topics (inr bad) other (Now moment, spelled) = absurd (omega (arith, ap first_byte spelled.1))
-not_image words list fault topics (inr bad) other (Stamped stamp, spelled) = absurd (omega (arith, ap first_byte spelled.2))
-not_image words list fault topics (inr bad) other (Request bytes, spelled) = absurd (omega (arith, ap first_byte spelled.1))
-not_image words list fault topics (inr bad) other (Tick, spelled) = absurd (omega (arith, ap first_byte spelled))
+
+-- words that are no image ask for none
+pub not_image : (words : List (List ℕ)) → ((list : List Entry) → SpellImage words list → ⊥) → IsCommand (codes "image" ∷ words) → ⊥
+not_image words none (Image es, spelled) =
+    let same : words ≡ spelled.0 = cc in
+    none es (subst (λ ws. SpellImage ws es) (sym same) spelled.2)
+not_image words none (Now moment, spelled) = absurd (omega (arith, ap first_byte spelled.1))
+not_image words none (Stamped stamp, spelled) = absurd (omega (arith, ap first_byte spelled.2))
+not_image words none (Request bytes, spelled) = absurd (omega (arith, ap first_byte spelled.1))
+not_image words none (Tick, spelled) = absurd (omega (arith, ap first_byte spelled))

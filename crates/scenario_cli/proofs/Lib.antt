@@ -1,6 +1,7 @@
 pub mod Written
 pub mod Inputs
 pub mod Numbers
+pub mod Offsets
 pub mod FrameParts
 pub mod GivenWords
 pub mod CutLines
@@ -11,3 +12,10 @@ pub mod FirstBytes
 pub mod Running
 pub mod Commanded
 pub mod Digits
+pub mod Verbs
+pub mod Asked
+pub mod Shorts
+pub mod Casting
+pub mod Described
+pub mod Played
+pub mod EmptyPages

@@ -1,13 +1,13 @@
 -- A run that goes on line by line.
 use Rattle.std.proofs.Common.{◌≡◌, inl, inr, Result, Ok, Err, OnOk, ℕ, ◌+◌, List, [], ◌∷◌, ◌++◌, length, Option, Some, None, IfSome, unwrap_or, refl, sym, ap, ◌∙◌, subst, append_assoc, append-nil, arith, length-append}
-use Rattle.std.specs.Prelude.{IfErr}
+use Rattle.std.specs.Prelude.{IfErr, OnErr, MatchResult}
 use Rattle.std.specs.Result.{result_err}
 use Rattle.std.specs.Io.KnownBytes.{Appends}
 use Rattle.std.proofs.KnownBytes.{Appends-nil, Appends-trans, Keeps-refl}
 use Rattle.scenario_cli.specs.declared.fault.Fault.{Fault}
 use Rattle.scenario_cli.specs.declared.fault.Fault.TheVariants.{BadLine, Read, TooLong, Write, NoMemory}
 use Rattle.scenario_cli.specs.Writing.{WritesPart}
-use Rattle.scenario_cli.specs.Runs.{Effect, AreDone, WritesLines, WritesPartOfLines, IsOfReading, IsWrite, Ends, LineEnds}
+use Rattle.scenario_cli.specs.Runs.{Effect, Grammar, Closing, AreDone, WritesLines, WritesPartOfLines, WritesAll, WritesPartOfAll, StopsAtBadLine, Prints, IsOfReading, IsWrite, Ends, LineEnds, EndEnds}
 
 -- the first lines are done, and of their text the front is written and the rest is held
 pub record HasDone {State : Type 0} (does : Effect State) (lines left : List (List ℕ)) (count : ℕ) (old now : State) (held : List ℕ) (before after : Option (List ℕ)) : Type 0 where
@@ -40,7 +40,7 @@ pub HasDone-none : {State : Type 0} (does : Effect State) (lines : List (List �
 HasDone-none does lines old bytes =
     record { first = []; text = []; written = []; parts = refl; counted = refl; done = (refl, refl); appends = Appends-nil bytes; whole = refl }
 
-pub HasDone-more : {State : Type 0} (does : Effect State) (takes : List ℕ → Type 0) (lines left : List (List ℕ)) (line : List ℕ) (number : ℕ) (count : ℕ)
+pub HasDone-more : {State : Type 0} (does : Effect State) (takes : Grammar State) (lines left : List (List ℕ)) (line : List ℕ) (number : ℕ) (count : ℕ)
     (old now new : State) (held held' : List ℕ) (before between after : Option (List ℕ))
     → HasDone does lines (line ∷ left) count old now held before between
     → LineEnds does takes now line number new held held' between after None
@@ -85,19 +85,28 @@ part_written does first old now text front rest before between after done append
     }
 
 -- the run ends at a line
-pub Ends-at_line : {State : Type 0} (does : Effect State) (takes : List ℕ → Type 0) (lines left : List (List ℕ)) (line : List ℕ) (count : ℕ)
+pub Ends-at_line : {State : Type 0} (does : Effect State) (takes : Grammar State) (closes : Closing State) (lines left : List (List ℕ)) (line : List ℕ) (count : ℕ)
     (old now new : State) (held held' : List ℕ) (before between after : Option (List ℕ)) (fault : Fault)
     → HasDone does lines (line ∷ left) count old now held before between
     → LineEnds does takes now line (count + 1) new held held' between after (Some fault)
-    → Ends does takes lines old before after (Some fault)
-Ends-at_line does takes lines left line count old now new held held' before between after (BadLine number) h ends =
-    (h.first, line, left, h.parts, ends.0 ∙ ap (λ n. n + 1) h.counted, ends.1, all_written does lines (line ∷ left) count old now held before between after h ends.2)
-Ends-at_line does takes lines left line count old now new held held' before between after (Read error) h ends = absurd ends
-Ends-at_line does takes lines left line count old now new held held' before between after TooLong h ends = absurd ends
-Ends-at_line does takes lines left line count old now new held held' before between after (Write error) h ends =
+    → Ends does takes closes lines old before after (Some fault)
+unfolding all_written
+Ends-at_line does takes closes lines left line count old now new held held' before between after (BadLine number) h ends =
+    record {
+      first = h.first;
+      bad = line;
+      left = left;
+      parts = h.parts;
+      numbered = ends.0 ∙ ap (λ n. n + 1) h.counted;
+      writes = all_written does lines (line ∷ left) count old now held before between after h ends.2;
+      refused = ends.1;
+    }
+Ends-at_line does takes closes lines left line count old now new held held' before between after (Read error) h ends = absurd ends
+Ends-at_line does takes closes lines left line count old now new held held' before between after TooLong h ends = absurd ends
+Ends-at_line does takes closes lines left line count old now new held held' before between after (Write error) h ends =
     elim ends [
-      | inl part ↦ (h.first, line ∷ left, h.parts, part_written does h.first old now h.text h.written held before between after h.done h.appends h.whole part)
-      | inr more ↦ (
+      | inl part ↦ inl (h.first, line ∷ left, h.parts, part_written does h.first old now h.text h.written held before between after h.done h.appends h.whole part)
+      | inr more ↦ inl (
         h.first ++ line ∷ [],
         left,
         h.parts ∙ sym (append_assoc h.first (line ∷ []) left),
@@ -106,47 +115,77 @@ Ends-at_line does takes lines left line count old now new held held' before betw
             (ap (λ t. t ++ more.1) h.whole ∙ append_assoc h.written held more.1) more.3,
       )
     ]
-Ends-at_line does takes lines left line count old now new held held' before between after NoMemory h ends =
+Ends-at_line does takes closes lines left line count old now new held held' before between after NoMemory h ends =
     (h.first, line ∷ left, h.parts, all_written does lines (line ∷ left) count old now held before between after h ends)
 
--- the run ends behind the last line
-pub Ends-well : {State : Type 0} (does : Effect State) (takes : List ℕ → Type 0) (lines left : List (List ℕ)) (count : ℕ) (old now : State) (held : List ℕ)
-    (before between after : Option (List ℕ)) → HasDone does lines left count old now held before between → left ≡ [] → Appends between after held
-    → Ends does takes lines old before after None
-Ends-well does takes lines left count old now held before between after h none wrote =
+-- all lines were done
+all_done : {State : Type 0} (does : Effect State) (lines left : List (List ℕ)) (count : ℕ) (old now : State) (held : List ℕ) (before between : Option (List ℕ))
+    (h : HasDone does lines left count old now held before between) → left ≡ [] → AreDone does lines old now h.text
+all_done does lines left count old now held before between h none =
     let all : h.first ≡ lines = sym (h.parts ∙ ap (λ l. h.first ++ l) none ∙ append-nil h.first) in
-    subst (λ l. WritesLines does l old before after) all (all_written does lines left count old now held before between after h wrote)
+    subst (λ l. AreDone does l old now h.text) all h.done
 
--- and where the last write fails
-pub Ends-at_write : {State : Type 0} (does : Effect State) (takes : List ℕ → Type 0) (lines left : List (List ℕ)) (count : ℕ) (old now : State) (held : List ℕ)
-    (before between after : Option (List ℕ)) (fault : Fault) → HasDone does lines left count old now held before between
-    → WritesPart between after held → IsWrite fault → Ends does takes lines old before after (Some fault)
-Ends-at_write does takes lines left count old now held before between after (BadLine number) h part is = absurd is
-Ends-at_write does takes lines left count old now held before between after (Read error) h part is = absurd is
-Ends-at_write does takes lines left count old now held before between after TooLong h part is = absurd is
-Ends-at_write does takes lines left count old now held before between after (Write error) h part is =
-    (h.first, left, h.parts, part_written does h.first old now h.text h.written held before between after h.done h.appends h.whole part)
-Ends-at_write does takes lines left count old now held before between after NoMemory h part is = absurd is
-
--- by what becomes of the last write
-pub Ends-by_write : {State T : Type 0} (does : Effect State) (takes : List ℕ → Type 0) (lines left : List (List ℕ)) (count : ℕ) (old now : State) (held : List ℕ)
-    (before between after : Option (List ℕ)) (r : Result T Fault) → HasDone does lines left count old now held before between → left ≡ []
-    → OnOk r (Appends between after held) → IfErr r IsWrite → WritesPart between after held → Ends does takes lines old before after (result_err r)
-Ends-by_write does takes lines left count old now held before between after (Ok done) h none wrote failed part =
-    Ends-well does takes lines left count old now held before between after h none wrote
-Ends-by_write does takes lines left count old now held before between after (Err fault) h none wrote failed part =
-    Ends-at_write does takes lines left count old now held before between after fault h part failed
+-- the run ends behind the last line
+pub Ends-behind_lines : {State : Type 0} (does : Effect State) (takes : Grammar State) (closes : Closing State) (lines left : List (List ℕ)) (count : ℕ) (old now : State)
+    (held : List ℕ) (before between after : Option (List ℕ)) (fault : Option Fault) → HasDone does lines left count old now held before between → left ≡ []
+    → EndEnds closes now held between after fault → Ends does takes closes lines old before after fault
+Ends-behind_lines does takes closes lines left count old now held before between after None h none ends =
+    record {
+      new = now;
+      text = h.text;
+      last = ends.0;
+      done = all_done does lines left count old now held before between h none;
+      closed = ends.1;
+      written = subst (Appends before after) (sym (ap (λ t. t ++ ends.0) h.whole ∙ append_assoc h.written held ends.0))
+          (Appends-trans before between after h.written (held ++ ends.0) h.appends ends.2);
+    }
+Ends-behind_lines does takes closes lines left count old now held before between after (Some (BadLine number)) h none ends = absurd ends
+Ends-behind_lines does takes closes lines left count old now held before between after (Some (Read error)) h none ends = absurd ends
+Ends-behind_lines does takes closes lines left count old now held before between after (Some TooLong) h none ends = absurd ends
+Ends-behind_lines does takes closes lines left count old now held before between after (Some (Write error)) h none ends =
+    elim ends [
+      | inl part ↦ inl (h.first, left, h.parts, part_written does h.first old now h.text h.written held before between after h.done h.appends h.whole part)
+      | inr more ↦ inr (record {
+        new = now;
+        text = h.text;
+        last = more.0;
+        done = all_done does lines left count old now held before between h none;
+        closed = more.1;
+        written = record {
+          written = h.written ++ more.2.written;
+          left = more.2.left;
+          parts = ap (λ t. t ++ more.0) h.whole ∙ append_assoc h.written held more.0 ∙ ap (λ t. h.written ++ t) more.2.parts
+              ∙ sym (append_assoc h.written more.2.written more.2.left);
+          appends = Appends-trans before between after h.written more.2.written h.appends more.2.appends;
+        };
+      })
+    ]
+Ends-behind_lines does takes closes lines left count old now held before between after (Some NoMemory) h none ends =
+    (h.first, left, h.parts, all_written does lines left count old now held before between after h ends)
 
 -- the run ends before any line
-pub Ends-before : {State : Type 0} (does : Effect State) (takes : List ℕ → Type 0) (lines : List (List ℕ)) (old : State) (bytes : Option (List ℕ)) (fault : Fault)
-    → IsOfReading fault → Ends does takes lines old bytes bytes (Some fault)
-Ends-before does takes lines old bytes (BadLine number) is = absurd is
-Ends-before does takes lines old bytes (Read error) is = Keeps-refl bytes
-Ends-before does takes lines old bytes TooLong is = Keeps-refl bytes
-Ends-before does takes lines old bytes (Write error) is = absurd is
-Ends-before does takes lines old bytes NoMemory is =
+pub Ends-before : {State : Type 0} (does : Effect State) (takes : Grammar State) (closes : Closing State) (lines : List (List ℕ)) (old : State) (bytes : Option (List ℕ)) (fault : Fault)
+    → IsOfReading fault → Ends does takes closes lines old bytes bytes (Some fault)
+Ends-before does takes closes lines old bytes (BadLine number) is = absurd is
+Ends-before does takes closes lines old bytes (Read error) is = Keeps-refl bytes
+Ends-before does takes closes lines old bytes TooLong is = Keeps-refl bytes
+Ends-before does takes closes lines old bytes (Write error) is = absurd is
+Ends-before does takes closes lines old bytes NoMemory is =
     ([], lines, refl, record { new = old; text = []; done = (refl, refl); written = Appends-nil bytes })
 
 pub known_input : (known : Option (List ℕ)) → IfSome known (λ bytes. unwrap_or known [] ≡ bytes)
 known_input None = tt
 known_input (Some bytes) = refl
+
+-- what stands behind the last line is printed, and all that is held is written
+pub EndEnds-by_write : {State T U E : Type 0} (closes : Closing State) (old : State) (held printed : List ℕ) (before after : Option (List ℕ)) (ended : Result T E) (written : Result U Fault)
+    (other : Fault) → OnOk ended (Prints (closes old) held printed) → OnErr ended (printed ≡ held) → written ≡ Err other → IsWrite other
+    → WritesPart before after printed → EndEnds closes old held before after (Some other)
+EndEnds-by_write closes old held printed before after ended written (BadLine number) prints kept was is part = absurd is
+EndEnds-by_write closes old held printed before after ended written (Read error) prints kept was is part = absurd is
+EndEnds-by_write closes old held printed before after ended written TooLong prints kept was is part = absurd is
+EndEnds-by_write closes old held printed before after (Ok done) written (Write error) prints kept was is part =
+    inr (prints.text, prints.is_text, subst (WritesPart before after) prints.printed part)
+EndEnds-by_write closes old held printed before after (Err fault) written (Write error) prints kept was is part =
+    inl (subst (WritesPart before after) kept part)
+EndEnds-by_write closes old held printed before after ended written NoMemory prints kept was is part = absurd is

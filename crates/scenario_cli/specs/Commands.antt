@@ -4,6 +4,7 @@ use Rattle.std.specs.declared.alloc.Global.{Global}
 use Rattle.hex.specs.Hex.{decode_of}
 use Rattle.uuid.specs.Text.{parsed}
 use Rattle.group_types.specs.declared.stamp.Stamp.{Stamp}
+use Rattle.group_types.specs.Topics.{Topics}
 use Rattle.topic_meta.specs.Images.{Entry, first_fault, topics_of}
 use Rattle.coord_node.specs.Coordinator.{Answer, opening}
 use Rattle.coord_node.specs.Coordinator as coordinator
@@ -37,6 +38,10 @@ SpellTopics (name ∷ id ∷ count ∷ words) (e ∷ es) = SpellsTopic name id c
 pub record SpellImage (words : List (List ℕ)) (list : List Entry) : Type 0 where
   pub topics : SpellTopics words list
   pub sound : first_fault list ≡ None
+
+-- words are the topics of this image
+abbrev pub IsImage : List (List ℕ) → Topics → Type 0
+IsImage words image = (list : List Entry) × SpellImage words list × (image ≡ topics_of list)
 
 -- what a line asks: another image, another moment, the stamp of the next request, the answer to bytes, or a tick at the moment
 pub data Command : Type 0 where

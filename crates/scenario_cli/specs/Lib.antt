@@ -11,3 +11,7 @@ pub mod Runs
 pub mod Commands
 pub mod Reporters
 pub mod FrameLines
+pub mod Scripts
+pub mod Shows
+pub mod Plays
+pub mod Stages

@@ -19,6 +19,8 @@ pub enum Subcommand {
     Reply,
     /// Print what is in the request frames on standard input.
     Frame,
+    /// Play the script on standard input.
+    Run,
     /// Serve connections.
     Serve(Service),
 }
@@ -91,6 +93,7 @@ fn subcommand_of<'a, S: AsStr>(
         .map_err(CommandLineFault::Refused)?;
     match matches.subcommand() {
         Some(("frame", _)) => Ok(Subcommand::Frame),
+        Some(("run", _)) => Ok(Subcommand::Run),
         Some(("serve", given)) => Ok(Subcommand::Serve(service::service_of(alloc, given)?)),
         _ => Ok(Subcommand::Reply),
     }
@@ -110,6 +113,7 @@ fn command<'a>(alloc: Global) -> Result<Command<'a>, AllocError> {
         "frame",
         "Prints the fields of the request frames on standard input",
     )?;
+    let coord = with_subcommand(alloc, coord, "run", "Plays the script on standard input")?;
     coord.subcommand(service::command(alloc)?)
 }
 

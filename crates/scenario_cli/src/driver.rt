@@ -5,7 +5,7 @@ ghost use Rattle.std.specs.Result.{result_err};
 ghost use Rattle.scenario_cli.specs.Inputs.{IsTooLong};
 ghost use Rattle.std.specs.Io.KnownBytes.{Appends, Keeps};
 ghost use Rattle.scenario_cli.specs.Lines.{lines_of};
-ghost use Rattle.scenario_cli.specs.Runs.{IsWrite, Prints, Ends, EndsOver, LineEnds, RunsLines};
+ghost use Rattle.scenario_cli.specs.Runs.{IsWrite, Prints, Ends, EndsOver, EndEnds, LineEnds, RunsScript};
 ghost use Rattle.scenario_cli.specs.Statuses.{status_of};
 ghost use Rattle.scenario_cli.specs.Writing.{Grows, WritesPart};
 
@@ -13,22 +13,29 @@ use crate::fault::{Fault, LineFault};
 use crate::input::read_whole;
 use crate::lines::Lines;
 use crate::output::{Output, write_whole};
-use std::alloc::Global;
+use std::alloc::{AllocError, Global};
 use std::io::{Read, Write};
 
-/// Does the lines of one subcommand. `does` says what a line does to the worker and which text it prints, and `takes` which
-/// lines the subcommand has.
+/// Does the lines of one subcommand. `does` says what a line does to the worker and which text it prints, `takes` which
+/// lines the subcommand has, and `closes` which text stands behind that of the last line.
 pub trait LineWorker {
     ghost does: { Self → List ℕ → Self → List ℕ → Type 0 };
 
-    ghost takes: { List ℕ → Type 0 };
+    ghost takes: { Self → List ℕ → Type 0 };
+
+    ghost closes: { Self → List ℕ → Type 0 };
 
     /// Does one line, and prints what it answers: whole lines, and on `Err` none.
     ///
     /// Faults: [`LineFault::BadLine`] only for a line that the subcommand doesn't have; [`LineFault::NoMemory`].
     fn line(&mut self, line: &[u8], output: &mut Output) -> Result<(), LineFault>
         ensures printed { OnOk result (Prints (does self.old line.now self.new) output.old output.new) }
-        ensures refused { result ≡ Err LineFault.BadLine → ¬ takes line.now }
+        ensures refused { result ≡ Err LineFault.BadLine → ¬ takes self.old line.now }
+        ensures err { OnErr result (output.new ≡ output.old) };
+
+    /// Prints what stands behind the text of the last line: whole lines, and on `Err` none.
+    fn end(&mut self, output: &mut Output) -> Result<(), AllocError>
+        ensures printed { OnOk result (Prints (closes self.old) output.old output.new) }
         ensures err { OnErr result (output.new ≡ output.old) };
 }
 
@@ -41,7 +48,7 @@ pub fn run<L: LineWorker, R: Read, W: Write, E: Write>(
     writer: &mut W,
     faults: &mut E,
 ) -> u8
-    ensures { RunsLines L.does L.takes worker.old (R.remaining reader.old)
+    ensures { RunsScript L.does L.takes L.closes worker.old (R.remaining reader.old)
         (W.contents writer.old, W.contents writer.new) (E.contents faults.old, E.contents faults.new) result }
 {
     match do_lines(alloc, worker, reader, writer) {
@@ -57,7 +64,7 @@ fn do_lines<L: LineWorker, R: Read, W: Write>(
     reader: &mut R,
     writer: &mut W,
 ) -> Result<(), Fault>
-    ensures ends { EndsOver L.does L.takes worker.old (R.remaining reader.old) (W.contents writer.old) (W.contents writer.new) (result_err result) }
+    ensures ends { EndsOver L.does L.takes L.closes worker.old (R.remaining reader.old) (W.contents writer.old) (W.contents writer.new) (result_err result) }
     ensures too_long { IsTooLong (R.remaining reader.old)
         → IsErrAnd result (λ fault. status_of fault ≡ 1) × Keeps (W.contents writer.old) (W.contents writer.new) }
 {
@@ -74,7 +81,7 @@ fn do_input<L: LineWorker, W: Write>(
     input: &[u8],
     writer: &mut W,
 ) -> Result<(), Fault>
-    ensures { Ends L.does L.takes (lines_of input.now) worker.old (W.contents writer.old) (W.contents writer.new) (result_err result) }
+    ensures { Ends L.does L.takes L.closes (lines_of input.now) worker.old (W.contents writer.old) (W.contents writer.new) (result_err result) }
 {
     let mut output = Output::new(alloc);
     for (index, line) in Lines::of(input).enumerate() {
@@ -82,7 +89,23 @@ fn do_input<L: LineWorker, W: Write>(
             return Err(fault);
         }
     }
-    write(&mut output, writer)
+    finish(worker, &mut output, writer)
+}
+
+/// Prints what stands behind the last line, and writes all that is held.
+fn finish<L: LineWorker, W: Write>(
+    worker: &mut L,
+    output: &mut Output,
+    writer: &mut W,
+) -> Result<(), Fault>
+    ensures { EndEnds L.closes worker.old output.old (W.contents writer.old) (W.contents writer.new) (result_err result) }
+{
+    let ended = worker.end(output);
+    write(output, writer)?;
+    match ended {
+        Ok(()) => Ok(()),
+        Err(_) => Err(Fault::NoMemory),
+    }
 }
 
 /// Does the line of this number. What is printed so far is written where there is enough of it, and before the run

@@ -4,7 +4,7 @@ ghost use Rattle.scenario_cli.specs.declared.frames.Reporter.{Reporter};
 ghost use Rattle.scenario_cli.specs.Reporters.{new_reporter};
 ghost use Rattle.scenario_cli.specs.Reports.{DoesFrameLine, PrintsReport};
 ghost use Rattle.scenario_cli.specs.FrameLines.{SpellsBytes};
-ghost use Rattle.scenario_cli.specs.Runs.{Prints, RunsLines};
+ghost use Rattle.scenario_cli.specs.Runs.{Prints, PrintsNothing, RunsLines};
 
 use crate::driver::{self, LineWorker};
 use crate::fault::LineFault;
@@ -12,7 +12,7 @@ use crate::output::Output;
 use crate::page::Page;
 use crate::report::put_report;
 use crate::words;
-use std::alloc::Global;
+use std::alloc::{AllocError, Global};
 use std::io::{Read, Write};
 
 /// Does the lines of the reader in order: each is the hex of one frame of a request (Kafka protocol guide, "Protocol"), and
@@ -54,7 +54,9 @@ impl Reporter {
 impl LineWorker for Reporter {
     ghost does = { DoesFrameLine };
 
-    ghost takes = { SpellsBytes };
+    ghost takes = { λ _. SpellsBytes };
+
+    ghost closes = { PrintsNothing };
 
     /// Prints the report of the frame that the line spells in hex. A line that isn't one word of hex is a bad line.
     fn line(&mut self, line: &[u8], output: &mut Output) -> Result<(), LineFault>
@@ -67,6 +69,11 @@ impl LineWorker for Reporter {
         self.page.clear();
         put_report(self.alloc, &mut self.page, bytes.as_slice())?;
         output.text(self.page.as_str())?;
+        Ok(())
+    }
+
+    /// Nothing stands behind the last line.
+    fn end(&mut self, _output: &mut Output) -> Result<(), AllocError> {
         Ok(())
     }
 }

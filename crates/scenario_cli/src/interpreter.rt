@@ -1,24 +1,23 @@
 //! The lines of `coord reply`, each as one method.
-ghost use Rattle.std.specs.Prelude.{◌≡◌, ◌≢◌, List, [], ◌∷◌, ◌++◌, map, codes, IfErr, IfOk, OnOk, OnErr};
-ghost use Rattle.topic_meta.specs.Images.{Entry, entry_of, entries_of};
+ghost use Rattle.std.specs.Prelude.{◌≡◌, [], ◌∷◌, ◌++◌, map, codes, IfErr, IfOk, OnOk, OnErr};
 ghost use Rattle.coord_node.specs.Coordinator.{Done};
 ghost use Rattle.scenario_cli.specs.Lines.{fed};
 ghost use Rattle.scenario_cli.specs.Printing.{line_of};
 ghost use Rattle.scenario_cli.specs.Requests.{text_of};
-ghost use Rattle.scenario_cli.specs.Commands.{DoesReplyLine, IsReplyLine, SpellTopics};
+ghost use Rattle.scenario_cli.specs.Commands.{DoesReplyLine, IsReplyLine};
+ghost use Rattle.scenario_cli.specs.Runs.{PrintsNothing};
 
 use crate::driver::LineWorker;
 use crate::fault::LineFault;
 use crate::output::Output;
 use crate::page::Page;
 use crate::stamps::Stamps;
+use crate::topics::image_of;
 use crate::{frame, words};
 use coord_node::{Answered, Node};
 use group_types::{Moment, Stamp};
 use std::alloc::{AllocError, Global};
 use std::collections::hash_map::RandomState;
-use topic_meta::{Image, ImageFault, TopicEntry};
-use uuid::Uuid;
 
 /// What is printed for a frame that is not answered.
 const CLOSE: &str = "close";
@@ -82,14 +81,9 @@ impl Interpreter {
         ensures done { OnOk result (DoesCommand (codes "image" ∷ map (λ word. word.now) arguments.now) self.old self.new []) }
         ensures refused { result ≡ Err LineFault.BadLine → ¬ IsCommand (codes "image" ∷ map (λ word. word.now) arguments.now) }
     {
-        let list = topics_of(self.alloc, arguments)?;
-        match Image::of(self.alloc, list) {
-            Ok(image) => {
-                self.node.set_image(image);
-                Ok(())
-            }
-            Err(fault) => Err(line_fault(fault)),
-        }
+        let image = image_of(self.alloc, arguments)?;
+        self.node.set_image(image);
+        Ok(())
     }
 
     /// `now MS` sets the moment.
@@ -186,7 +180,9 @@ impl Interpreter {
 impl LineWorker for Interpreter {
     ghost does = { DoesReplyLine };
 
-    ghost takes = { IsReplyLine };
+    ghost takes = { λ _. IsReplyLine };
+
+    ghost closes = { PrintsNothing };
 
     fn line(&mut self, line: &[u8], output: &mut Output) -> Result<(), LineFault> {
         let words = words::words_of(self.alloc, line)?;
@@ -194,6 +190,11 @@ impl LineWorker for Interpreter {
             return Err(LineFault::BadLine);
         };
         self.command(name, arguments, output)
+    }
+
+    /// Nothing stands behind the last line.
+    fn end(&mut self, _output: &mut Output) -> Result<(), AllocError> {
+        Ok(())
     }
 }
 
@@ -223,47 +224,4 @@ fn print_removed(alloc: Global, removed: usize, output: &mut Output) -> Result<(
     let mut page = Page::new(alloc);
     page.number("removed", removed)?;
     output.text(page.as_str())
-}
-
-/// The fault of a line whose topics make no image.
-fn line_fault(fault: ImageFault) -> LineFault
-    ensures bad_line { result ≡ LineFault.BadLine → fault ≢ ImageFault.NoMemory }
-    ensures no_memory { result ≡ LineFault.NoMemory → fault ≡ ImageFault.NoMemory }
-{
-    match fault {
-        ImageFault::NoMemory => LineFault::NoMemory,
-        ImageFault::DuplicateName
-        | ImageFault::DuplicateId
-        | ImageFault::TooMany
-        | ImageFault::BadCount => LineFault::BadLine,
-    }
-}
-
-/// The topics of words, three words each.
-fn topics_of(alloc: Global, words: &[&str]) -> Result<Vec<TopicEntry>, LineFault>
-    ensures topics { IfOk result (λ list. SpellTopics (map (λ word. word.now) words.now) (entries_of list.items)) }
-    ensures refused { result ≡ Err LineFault.BadLine → (list : List Entry) → ¬ SpellTopics (map (λ word. word.now) words.now) list }
-{
-    let mut list = Vec::new(alloc);
-    for topic in words.chunks(3) {
-        list.push(topic_of(alloc, topic)?)?;
-    }
-    Ok(list)
-}
-
-/// The topic of three words: its name, its id and how many partitions it has.
-pub fn topic_of(alloc: Global, words: &[&str]) -> Result<TopicEntry, LineFault>
-    ensures topic { IfOk result (λ entry. SpellTopics (map (λ word. word.now) words.now) (entry_of entry ∷ [])) }
-    ensures refused { result ≡ Err LineFault.BadLine → (entry : Entry) → ¬ SpellTopics (map (λ word. word.now) words.now) (entry ∷ []) }
-{
-    let [name, id, count] = words else {
-        return Err(LineFault::BadLine);
-    };
-    if !words::is_name(name) {
-        return Err(LineFault::BadLine);
-    }
-    let id = Uuid::parse_str(id).map_err(|_| LineFault::BadLine)?;
-    let count = words::count_of(count).ok_or(LineFault::BadLine)?;
-    let name = String::from_str(alloc, name)?;
-    Ok(TopicEntry { name, id, count })
 }

@@ -95,6 +95,14 @@ impl Page {
         self.put("\n")
     }
 
+    /// Puts a line as it is.
+    pub fn put_line(&mut self, text: &str) -> Result<(), AllocError>
+        ensures { OnOk result (self.new ≡ self.old ++ fed text.now) }
+    {
+        self.put(text)?;
+        self.put("\n")
+    }
+
     /// Puts text as it is.
     pub fn put(&mut self, text: &str) -> Result<(), AllocError>
         ensures { OnOk result (self.new ≡ self.old ++ text.now) }
@@ -144,6 +152,13 @@ impl Page {
         ensures { OnOk result (self.new ≡ self.old ++ codes " " ++ I.text number) }
     {
         self.word(Buffer::new().format(number))
+    }
+
+    /// Puts a number.
+    pub fn put_number<I: Integer>(&mut self, number: I) -> Result<(), AllocError>
+        ensures { OnOk result (self.new ≡ self.old ++ I.text number) }
+    {
+        self.put(Buffer::new().format(number))
     }
 
     /// Puts indexes with a comma between each two.

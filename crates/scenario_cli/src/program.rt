@@ -4,6 +4,7 @@ ghost use Rattle.scenario_cli.specs.Statuses.{HasStatus};
 use crate::command_line::{Subcommand, asked};
 use crate::frames::frame_lines;
 use crate::reply::reply_lines;
+use crate::run::run_lines;
 use crate::service::Service;
 use std::alloc::Global;
 use std::collections::hash_map::RandomState;
@@ -35,18 +36,30 @@ pub fn run<R: Read, W: Write, E: Write>(
     ensures { HasStatus result }
 {
     match asked(alloc, words) {
-        Ok(Subcommand::Frame) => Ran::Ended(frame_lines(alloc, reader, writer, faults)),
-        Ok(Subcommand::Reply) => match keys {
-            Ok(keys) => Ran::Ended(reply_lines(alloc, keys, reader, writer, faults)),
-            Err(error) => {
-                let _ = writeln!(faults, "drawing random keys: {error}");
-                Ran::Ended(1)
-            }
-        },
         Ok(Subcommand::Serve(service)) => Ran::Serves(service),
+        Ok(Subcommand::Frame) => Ran::Ended(frame_lines(alloc, reader, writer, faults)),
+        Ok(Subcommand::Reply) => Ran::Ended(match drawn(keys, faults) {
+            Some(keys) => reply_lines(alloc, keys, reader, writer, faults),
+            None => 1,
+        }),
+        Ok(Subcommand::Run) => Ran::Ended(match drawn(keys, faults) {
+            Some(keys) => run_lines(alloc, keys, reader, writer, faults),
+            None => 1,
+        }),
         Err(fault) => {
             let _ = write!(faults, "{fault}");
             Ran::Ended(fault.status())
+        }
+    }
+}
+
+/// The keys, where there are any. Why there are none is told.
+fn drawn<E: Write>(keys: io::Result<RandomState>, faults: &mut E) -> Option<RandomState> {
+    match keys {
+        Ok(keys) => Some(keys),
+        Err(error) => {
+            let _ = writeln!(faults, "drawing random keys: {error}");
+            None
         }
     }
 }

@@ -3,7 +3,7 @@ ghost use Rattle.std.specs.Prelude.{◌≡◌, ◌≤◌, ◌<◌, IfOk};
 
 use crate::command_line::CommandLineFault;
 use crate::fault::LineFault;
-use crate::interpreter::topic_of;
+use crate::topics::topic_of;
 use clap::{Arg, ArgAction, ArgMatches, Command};
 use std::alloc::{AllocError, Global};
 use topic_meta::{Image, TopicEntry};

@@ -4,6 +4,7 @@ mod command_lines;
 mod commits_and_ticks;
 mod frames;
 mod replies;
+mod runs;
 mod sink;
 mod streams;
 mod table;
@@ -33,6 +34,9 @@ struct Ran {
     printed: Vec<u8>,
     told: Vec<u8>,
 }
+
+/// The line of an act that is refused for want of memory.
+const REFUSED: &[u8] = b"refused 4\n";
 
 /// How much a run may print and tell, where a test doesn't say otherwise.
 const ROOM: usize = 8_192;
@@ -103,6 +107,19 @@ impl Ran {
     /// Whether the run ended for want of memory.
     fn is_out_of_memory(&self) -> bool {
         self.status == 1 && self.told.ends_with(b"out of memory\n")
+    }
+
+    /// What was printed before memory was short, where it was: before the run ended for it, or an act was refused for it.
+    fn before_want(&self) -> Option<&[u8]> {
+        let printed = self.printed.as_slice();
+        match printed
+            .windows(REFUSED.len())
+            .position(|part| part == REFUSED)
+        {
+            Some(place) => Some(&printed[..place]),
+            None if self.is_out_of_memory() => Some(printed),
+            None => None,
+        }
     }
 
     /// Whether the run ended so.

@@ -2,6 +2,8 @@
 ghost use Rattle.std.specs.Prelude.{◌≡◌, ◌≢◌, ℕ, [], pos, All, ◌^◌, ◌*◌, ◌<◌, ◌↔◌, length, map, decimal, IsTrue, IfOk, OnOk, IsErr, IfSome, IfNone, MatchBool};
 ghost use Rattle.hex.specs.Hex.{decode_of, decode_pairs};
 ghost use Rattle.scenario_cli.specs.Words.{words_of, IsLine, IsName, digit_value};
+ghost use Rattle.std.specs.Prelude.{ℤ, MatchOption, neg_ℤ, ◌≤◌};
+ghost use Rattle.scenario_cli.specs.Scripts.{SpellsOffset};
 ghost use Rattle.scenario_cli.specs.FrameLines.{IsFrameLine, SpellsBytes};
 
 use crate::fault::LineFault;
@@ -59,6 +61,28 @@ pub fn count_of(word: &str) -> Option<i32>
     ensures none { IfNone result ((number : ℕ) → number < 2 ^ 31 → word.now ≢ decimal number) }
 {
     i32::try_from(number_of(word)?).ok()
+}
+
+/// The offset that a word spells, which is an INT64: a number, or a minus and a number.
+pub fn offset_of(word: &str) -> Option<i64>
+    ensures some { IfSome result (SpellsOffset word.now) }
+    ensures none { IfNone result ((offset : ℤ) → ¬ SpellsOffset word.now offset) }
+{
+    match word.strip_prefix('-') {
+        Some(digits) => below_nought(number_of(digits)?),
+        None => i64::try_from(number_of(word)?).ok(),
+    }
+}
+
+/// The number below 0 by so much, where it is an INT64.
+fn below_nought(number: u64) -> Option<i64>
+    ensures { MatchOption result (2 ^ 63 < number) (λ offset. (number ≤ 2 ^ 63) × (offset ≡ neg_ℤ (pos number))) }
+{
+    match i64::try_from(number) {
+        Ok(number) => Some(-number),
+        Err(_) if number == 1 << 63 => Some(i64::MIN),
+        Err(_) => None,
+    }
 }
 
 /// Whether a word may be the name of a topic. A single `-` stands for no name, and commas and colons part names from

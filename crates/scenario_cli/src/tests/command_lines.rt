@@ -38,7 +38,7 @@ $ frame
 # a subcommand is wanted
 < 00000000
 ! error: 'coord' requires a subcommand but one was not provided
-!   [subcommands: reply, frame, serve, help]
+!   [subcommands: reply, frame, run, serve, help]
 !
 ! Usage: coord <COMMAND>
 !
@@ -96,6 +96,7 @@ $ --help
 ! Commands:
 !   reply  Answers the request frames on standard input
 !   frame  Prints the fields of the request frames on standard input
+!   run    Plays the script on standard input
 !   serve  Serves connections on 127.0.0.1 until so many have ended
 !   help   Print this message or the help of the given subcommand(s)
 !
@@ -112,6 +113,7 @@ $ help
 ! Commands:
 !   reply  Answers the request frames on standard input
 !   frame  Prints the fields of the request frames on standard input
+!   run    Plays the script on standard input
 !   serve  Serves connections on 127.0.0.1 until so many have ended
 !   help   Print this message or the help of the given subcommand(s)
 !

@@ -73,12 +73,12 @@ fn take(
     Ok(())
 }
 
-/// Runs a row, and tells where it comes to something else than it says. A run that is out of memory is to have printed
-/// all that comes of the first lines, and is made once more.
+/// Runs a row, and tells where it comes to something else than it says. A run that is out of memory, or refuses an act
+/// for want of it, is to have printed until then all that comes of the first lines, and is made once more.
 fn look(subject: &Subject, row: &Row, status: u8, wrong: &mut String) -> Result<(), AllocError> {
     let mut ran = subject.run(row)?;
-    if ran.is_out_of_memory() {
-        if !row.has_begun(ran.printed.as_slice()) {
+    if let Some(printed) = ran.before_want() {
+        if !row.has_begun(printed) {
             row.tell(&ran, wrong)?;
         }
         ran = subject.run(row)?;

@@ -1,10 +1,11 @@
 use Rattle.std.proofs.Common.{◌≡◌, ◌+◌, Some, inl, ap, ◌∙◌, arith, sym, subst}
 use Rattle.std.specs.declared.iter.Enumerate.{Enumerate}
+use Rattle.std.specs.Result.{result_err}
 use Rattle.scenario_cli.specs.declared.lines.Lines.{Lines}
 use Rattle.scenario_cli.specs.Lines.{lines_of}
 use Rattle.scenario_cli.specs.Runs.{LineEnds}
 use Rattle.scenario_cli.proofs.CutLines.{length-lines_of-le}
-use Rattle.scenario_cli.proofs.Running.{HasDone, HasDone-more, Ends-at_line, Ends-by_write}
+use Rattle.scenario_cli.proofs.Running.{HasDone, HasDone-more, Ends-at_line, Ends-behind_lines}
 use Rattle.scenario_cli.proofs.driver.do_input.Goals as goal
 
 pub loop-index-init-derived : goal.loop-index-init-derived
@@ -40,7 +41,7 @@ returns-in-Err g c =
     (g.W.Write.contents c.args.writer.now) (g.W.Write.contents c.loop-index.writer)) step.0 c.loop-index.invariant in
     let ends = subst (λ n. LineEnds does takes c.loop-index.worker c.in-Some.line.now (n + 1) c.do_line.new.worker c.loop-index.output c.do_line.new.output
     (g.W.Write.contents c.loop-index.writer) (g.W.Write.contents c.do_line.new.writer) (Some c.in-Err.fault)) step.1 c.in-Err.ensures in
-    Ends-at_line does takes lines (lines_of c.next.new.self.iter.rest.now) c.in-Some.line.now c.loop-index.index-iterator.count
+    Ends-at_line does takes g.L.LineWorker.closes lines (lines_of c.next.new.self.iter.rest.now) c.in-Some.line.now c.loop-index.index-iterator.count
     c.args.worker.now c.loop-index.worker c.do_line.new.worker c.loop-index.output c.do_line.new.output
     (g.W.Write.contents c.args.writer.now) (g.W.Write.contents c.loop-index.writer) (g.W.Write.contents c.do_line.new.writer) c.in-Err.fault h ends
 
@@ -51,6 +52,6 @@ returns g c =
     let lines = lines_of c.args.input.now in
     let before = g.W.Write.contents c.args.writer.now in
     let between = g.W.Write.contents c.loop-index.writer in
-    let after = g.W.Write.contents c.write.new.writer in
-    Ends-by_write does takes lines (lines_of c.loop-index.index-iterator.iter.rest.now) c.loop-index.index-iterator.count c.args.worker.now c.loop-index.worker
-    c.loop-index.output before between after c.write.result c.loop-index.invariant c.in-None.ensures.steps.0.0 c.write.ensures.written c.write.ensures.failed c.write.ensures.part
+    let after = g.W.Write.contents c.finish.new.writer in
+    Ends-behind_lines does takes g.L.LineWorker.closes lines (lines_of c.loop-index.index-iterator.iter.rest.now) c.loop-index.index-iterator.count c.args.worker.now c.loop-index.worker
+    c.loop-index.output before between after (result_err c.finish.result) c.loop-index.invariant c.in-None.ensures.steps.0.0 c.finish.ensures

@@ -9,5 +9,5 @@ returns-in-Err-clause-ends g c =
     record {
       input = unwrap_or known [];
       is_input = known_input known;
-      ends = Ends-before g.L.LineWorker.does g.L.LineWorker.takes (lines_of (unwrap_or known [])) c.args.worker.now (g.W.Write.contents c.args.writer.now) c.in-Err.fault c.in-Err.ensures.failed;
+      ends = Ends-before g.L.LineWorker.does g.L.LineWorker.takes g.L.LineWorker.closes (lines_of (unwrap_or known [])) c.args.worker.now (g.W.Write.contents c.args.writer.now) c.in-Err.fault c.in-Err.ensures.failed;
     }

@@ -1,0 +1,15 @@
+use Rattle.std.proofs.Common.{rules, ◌≡◌, Err, sym, subst}
+use Rattle.scenario_cli.specs.declared.fault.LineFault.TheVariants.{BadLine}
+use Rattle.scenario_cli.specs.Plays.{MayStand}
+use Rattle.scenario_cli.specs.Stages.{world_at, has_begun}
+use Rattle.scenario_cli.proofs.Commanded.{texts}
+use Rattle.scenario_cli.proofs.Played.{play, may_act}
+use Rattle.scenario_cli.proofs.player.Player.act_line.Goals as goal
+
+pub returns-in_err-act-clause-refused : goal.returns-in_err-act-clause-refused
+returns-in_err-act-clause-refused c = λ bad may.
+    let is_bad : c.act_of.result ≡ Err BadLine = search rules in
+    let old = play c.self.inside.cast (world_at c.self.inside.stage) (has_begun c.self.inside.stage) in
+    let words = texts c.args.arguments.now in
+    let asked = may_act c.args.verb words old c.requires (subst (MayStand c.args.verb words) (sym c.self.view_is) may) in
+    c.act_of.ensures.refused is_bad asked.0 asked.1
