@@ -5,6 +5,7 @@ pub mod Apart
 pub mod Spreads
 pub mod IdOrder
 pub mod Turns
+pub mod Marked
 pub mod Dealt
 pub mod Lawful
 pub mod Changes

@@ -6,12 +6,14 @@
 
 mod assignor;
 mod laws;
+mod marks;
 mod range;
 mod spread;
 mod subs;
 
 pub use assignor::Assignor;
 pub use laws::{range_is_lawful, subscribed_partitions_have_an_owner};
+pub use marks::marks_of;
 pub use range::Range;
 pub use spread::{Share, Spread};
 pub use subs::{Subs, Subscriber};

@@ -1,15 +1,16 @@
 //! The assignor `range`.
 
-ghost use Rattle.std.specs.Prelude.{◌≡◌, ◌<◌, ◌≤◌, ◌+◌, ◌^◌, ◌↔◌, ℕ, length, take, All, IfOk, OnOk};
+ghost use Rattle.std.specs.Prelude.{◌≡◌, ◌<◌, ◌≤◌, ◌+◌, ◌^◌, ◌↔◌, ℕ, false, if◌then◌else◌, length, slice_index, slice_index_or, take, All, IfOk, OnOk};
 ghost use Rattle.group_types.specs.declared.partition.Partition.{Partition as Key};
-ghost use Rattle.group_types.specs.Assignors.{subscribers_of};
 ghost use Rattle.group_types.specs.Owners.{IsLawful, IsRange, range_place};
 ghost use Rattle.group_types.specs.Sets.{of_list};
+ghost use Rattle.range_assign.specs.Marks.{NamesRise};
 ghost use Rattle.range_assign.specs.Members.{subscribers_in};
 ghost use Rattle.range_assign.specs.Shares.{share_in};
 ghost use Rattle.range_assign.specs.Turns.{AddsRun, IsDealt, IsRangeShare, counts_of};
 
 use crate::assignor::Assignor;
+use crate::marks::marks_of;
 use crate::spread::{Share, Spread};
 use crate::subs::{Subs, Subscriber};
 use group_types::{PartSet, Partition};
@@ -45,28 +46,36 @@ impl Assignor for Range {
     }
 }
 
-/// How many members subscribe each topic.
+/// How many members subscribe each topic. The topics are in the order of their names.
 fn subscriber_counts(
     alloc: Global,
     topics: &[ViewTopic],
     members: &[Subscriber<'_>],
 ) -> Result<Vec<usize>, AllocError>
+    requires { NamesRise topics.now }
     ensures { IfOk result (λ counts. counts.items ≡ counts_of topics.now (subscribers_in members.now)) }
 {
-    topics
-        .iter()
-        .map(|topic| count_subscribers(members, topic.name.as_str()))
-        .collect(alloc)
+    let mut counts = vec![in alloc; 0; topics.len()]?;
+    for member in members {
+        let marks = marks_of(alloc, topics, member.names)?;
+        count_marks(&mut counts, &marks, members.len());
+    }
+    Ok(counts)
 }
 
-/// How many members subscribe the topic with this name.
-fn count_subscribers(members: &[Subscriber<'_>], name: &str) -> usize
-    ensures { result ≡ length (subscribers_of (subscribers_in members.now) name.now) }
+/// Counts one more for each topic that is marked, of which there are fewer than `most` so far.
+fn count_marks(counts: &mut Vec<usize>, marks: &[bool], most: usize)
+    requires as_many { length marks.now ≡ length counts.old.items }
+    requires fewer { All (λ n. n < most) counts.old.items }
+    ensures as_many { length counts.new.items ≡ length counts.old.items }
+    ensures counted { (t : ℕ) → t < length counts.old.items
+        → slice_index counts.new.items t ≡ slice_index counts.old.items t + (if slice_index_or marks.now t false then 1 else 0) }
 {
-    members
-        .iter()
-        .filter(|member| member.names.contains(name))
-        .count()
+    for (t, marked) in marks.iter().enumerate() {
+        if *marked {
+            counts[t] += 1;
+        }
+    }
 }
 
 /// The share of the member at a place among the members. The topics' places go on as in [`take_turns`].
@@ -79,6 +88,7 @@ fn share_for(
     places: &mut [usize],
 ) -> Result<Share, AllocError>
     requires within { at < length members.now }
+    requires rise { NamesRise topics.now }
     requires few { All (λ t. t.count ≤ 2 ^ 31) topics.now }
     requires counted { counts.now ≡ counts_of topics.now (subscribers_in members.now) }
     requires placed { places.old ≡ counts_of topics.now (take at (subscribers_in members.now)) }
@@ -102,6 +112,7 @@ fn take_turns(
     places: &mut [usize],
 ) -> Result<PartSet, AllocError>
     requires within { at < length members.now }
+    requires rise { NamesRise topics.now }
     requires few { All (λ t. t.count ≤ 2 ^ 31) topics.now }
     requires counted { counts.now ≡ counts_of topics.now (subscribers_in members.now) }
     requires placed { places.old ≡ counts_of topics.now (take at (subscribers_in members.now)) }
@@ -109,9 +120,10 @@ fn take_turns(
     ensures share { IfOk result (IsRangeShare topics.now (subscribers_in members.now) at) }
 {
     let member = &members[at];
+    let marks = marks_of(alloc, topics, member.names)?;
     let mut parts = Vec::new(alloc);
     for (t, topic) in topics.iter().enumerate() {
-        if member.names.contains(topic.name.as_str()) {
+        if marks[t] {
             let (first, end) = run_of(topic.count as usize, counts[t], places[t]);
             add_run(&mut parts, topic.id, first, end)?;
             places[t] += 1;

@@ -9,6 +9,7 @@ use Rattle.range_assign.specs.Members.{subscriber_of, subscribers_in}
 use Rattle.range_assign.specs.Shares.{share_in, shares_in, spread_of}
 use Rattle.range_assign.specs.Turns.{counts_of}
 use Rattle.range_assign.proofs.Dealt.{IsDealing, IsDealing-more, IsDealing-none, dealt-AreShares, dealt-IsRange, written_over}
+use Rattle.range_assign.proofs.Marked.{NamesRise-view}
 use Rattle.range_assign.proofs.Lawful.{range_is_lawful}
 use Rattle.range_assign.proofs.range.RangeAssignor.assign.Goals as goal
 
@@ -21,6 +22,12 @@ pub share_for-requires-clause-few : goal.share_for-requires-clause-few
 share_for-requires-clause-few c = λ k d within.
     let count = (topic_at-count c.args.view.now c.topics-topics.result.now c.topics-topics.ensures.all c.topics-topics.ensures.sound k d within).1 in
     omega arith
+
+pub subscriber_counts-requires : goal.subscriber_counts-requires
+subscriber_counts-requires c = NamesRise-view c.args.view.now c.topics-topics.result.now c.topics-topics.ensures.all
+
+pub share_for-requires-clause-rise : goal.share_for-requires-clause-rise
+share_for-requires-clause-rise c = NamesRise-view c.args.view.now c.topics-topics.result.now c.topics-topics.ensures.all
 
 pub loop-at-preserved : goal.loop-at-preserved
 loop-at-preserved c =
