@@ -11,6 +11,7 @@ pub mod Counts
 pub mod Shown
 pub mod Moves
 pub mod Made
+pub mod Taken
 pub mod FormerOwners
 pub mod LastOwner
 pub mod Kept

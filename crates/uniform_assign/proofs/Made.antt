@@ -1,12 +1,10 @@
 -- How the places and the takers of a board are made, topic by topic and member by member.
-use Rattle.std.proofs.Common.{◌≡◌, ℕ, ◌<◌, ◌+◌, true, false, cond, List, [], ◌∷◌, ◌++◌, length, map, take, pos, refl, sym, ap, subst, ◌∙◌, arith, inl, inr, Some}
-use Rattle.std.specs.Global.{Vec}
+use Rattle.std.proofs.Common.{◌≡◌, ℕ, ◌+◌, true, false, cond, List, [], ◌∷◌, ◌++◌, map, take, pos, refl, sym, ap, ◌∙◌, Some}
 use Rattle.std.specs.List.{flat_map, range_with_len, slice_get}
 use Rattle.std.specs.Option.{option_map}
-use Rattle.std.proofs.lemmas.Bool.{cases_lt}
 use Rattle.std.proofs.lemmas.Grind.{flat_map-append}
-use Rattle.std.proofs.lemmas.List.{append-nil, length_push, map-append, take_more}
-use Rattle.std.proofs.lemmas.Option.{get_or_from_slice_get, same_Some, slice_get_within}
+use Rattle.std.proofs.lemmas.List.{append-nil, map-append, take_more}
+use Rattle.std.proofs.lemmas.Option.{get_or_from_slice_get, slice_get_within}
 use Rattle.group_types.specs.declared.partition.Partition.{Partition}
 use Rattle.group_types.specs.Text.{Text}
 use Rattle.group_types.specs.Topics.{Topic}
@@ -15,8 +13,7 @@ use Rattle.group_types.specs.Assignors.{Subscriber, subscribers_of}
 use Rattle.group_types.specs.Uniform.{partitions_of}
 use Rattle.range_assign.proofs.Turns.{subscribers_of-next}
 use Rattle.uniform_assign.specs.declared.board.Place.{Place}
-use Rattle.uniform_assign.specs.Boards.{AreTakers, AreTakersOf, place_at, shown_place}
-use Rattle.uniform_assign.proofs.Lists.{pushed_at, slice_get-append_left}
+use Rattle.uniform_assign.specs.Boards.{place_at, shown_place}
 
 -- ---- places
 
@@ -61,33 +58,3 @@ pub AreTakersOf-skip : (subs : List Subscriber) (at : ℕ) (m : Subscriber) (nam
     → map (slice_get subs) takers ≡ map Some (subscribers_of (take at subs) name) → map (slice_get subs) takers ≡ map Some (subscribers_of (take (at + 1) subs) name)
 AreTakersOf-skip subs at m name takers here away before =
     before ∙ ap (map Some) (sym (subscribers_of-next subs at m here name ∙ ap (λ b. subscribers_of (take at subs) name ++ cond b (m ∷ []) []) away ∙ append-nil (subscribers_of (take at subs) name)))
-
--- the takers of the first n topics are at their places
-pub record AreTakersTo (topics : List (Text × Topic)) (subs : List Subscriber) (n : ℕ) (takers : List (Vec ℕ)) : Type 0 where
-  pub as_many : length takers ≡ n
-  pub there : (t : ℕ) (topic : Text × Topic) → t < n → slice_get topics t ≡ Some topic → (v : Vec ℕ) × (slice_get takers t ≡ Some v) × AreTakersOf subs topic.0 v.items
-
-pub AreTakersTo-none : (topics : List (Text × Topic)) (subs : List Subscriber) (takers : List (Vec ℕ)) → takers ≡ [] → AreTakersTo topics subs 0 takers
-AreTakersTo-none topics subs takers none = record { as_many = ap length none; there = λ t topic low is. absurd (omega arith) }
-
-pub AreTakersTo-more : (topics : List (Text × Topic)) (subs : List Subscriber) (n : ℕ) (takers : List (Vec ℕ)) (topic : Text × Topic) (v : Vec ℕ) → AreTakersTo topics subs n takers → slice_get topics n ≡ Some topic
-    → AreTakersOf subs topic.0 v.items → AreTakersTo topics subs (n + 1) (takers ++ v ∷ [])
-AreTakersTo-more topics subs n takers topic v before here are = record {
-  as_many = length_push takers v ∙ ap (λ k. k + 1) before.as_many;
-  there = λ t other low is. elim (cases_lt t n) [
-    | inl below ↦ let (w, at, of) = before.there t other below is in (w, slice_get-append_left takers (v ∷ []) t w at, of)
-    | inr above ↦
-        let last : n ≡ t = omega arith in
-        let same : topic ≡ other = same_Some topic other (sym here ∙ ap (slice_get topics) last ∙ is) in (
-          v,
-          ap (slice_get (takers ++ v ∷ [])) (sym (before.as_many ∙ last)) ∙ pushed_at takers v,
-          subst (λ (x : Text × Topic). AreTakersOf subs x.0 v.items) same are,
-        )
-  ];
-}
-
-pub AreTakersTo-all : (topics : List (Text × Topic)) (subs : List Subscriber) (n : ℕ) (takers : List (Vec ℕ)) → AreTakersTo topics subs n takers → length topics ≡ n → AreTakers topics subs takers
-AreTakersTo-all topics subs n takers are all = record {
-  as_many = are.as_many ∙ sym all;
-  there = λ t topic is. are.there t topic (let low = slice_get_within topics t topic is in omega arith) is;
-}

@@ -1,5 +1,5 @@
 -- How the partitions of a view and their takers are held.
-use Rattle.std.specs.Prelude.{◌≡◌, ℕ, ◌<◌, pos, List, length, map, Option, Some, IsSorted}
+use Rattle.std.specs.Prelude.{◌≡◌, ℕ, ◌<◌, pos, Bool, false, if◌then◌else◌, List, [], ◌∷◌, ◌++◌, length, map, slice_index_or, Option, Some, IsSorted}
 use Rattle.std.specs.Global.{Vec}
 use Rattle.std.specs.List.{flat_map, slice_get}
 use Rattle.std.specs.Option.{option_map}
@@ -43,6 +43,12 @@ Rises xs = (i j x y : ℕ) → i < j → slice_get xs i ≡ Some x → slice_get
 -- each topic's takers are in member order
 abbrev pub AllRise : List (Vec ℕ) → Type 0
 AllRise takers = (t : ℕ) (v : Vec ℕ) → slice_get takers t ≡ Some v → Rises v.items
+
+-- the member at a place is added to the takers of each marked topic
+pub record AddsTaker (marks : List Bool) (member : ℕ) (old new : List (Vec ℕ)) : Type 0 where
+  pub as_many : length new ≡ length old
+  pub added : (t : ℕ) (v : Vec ℕ) → slice_get old t ≡ Some v
+      → (w : Vec ℕ) × (slice_get new t ≡ Some w) × (w.items ≡ v.items ++ (if slice_index_or marks t false then member ∷ [] else []))
 
 -- the members, as an assignor sees them
 abbrev pub members_on : Board → List Subscriber

@@ -1,11 +1,11 @@
 //! What the assignor goes over: the partitions of a view in partition order, and who may take them.
 
-ghost use Rattle.std.specs.Prelude.{◌≡◌, ◌++◌, ◌≤◌, ◌^◌, All, IfOk, OnOk, Some, map};
+ghost use Rattle.std.specs.Prelude.{◌≡◌, ◌++◌, ◌≤◌, ◌^◌, All, IfOk, OnOk, map};
 ghost use Rattle.std.specs.List.{range_with_len};
-ghost use Rattle.topic_meta.specs.Views.{all_named, named};
-ghost use Rattle.range_assign.specs.Members.{subscribers_in};
-ghost use Rattle.uniform_assign.specs.Boards.{AllRise, ArePlaces, AreTakers, AreTakersOf, IsBare, IsBoard, Rises, members_on, place_at};
+ghost use Rattle.topic_meta.specs.Views.{all_named};
+ghost use Rattle.uniform_assign.specs.Boards.{ArePlaces, IsBare, IsBoard, members_on, place_at};
 
+use crate::takers::takers_of;
 use group_types::Partition;
 use range_assign::{Subs, Subscriber};
 use std::alloc::{AllocError, Global};
@@ -86,38 +86,4 @@ fn add_places(places: &mut Vec<Place>, at: usize, topic: &ViewTopic) -> Result<(
         })?;
     }
     Ok(())
-}
-
-/// For each topic the places of its subscribers.
-fn takers_of(
-    alloc: Global,
-    topics: &[ViewTopic],
-    members: &[Subscriber<'_>],
-) -> Result<Vec<Vec<usize>>, AllocError>
-    ensures takers { IfOk result (λ all. AreTakers (all_named topics.now) (subscribers_in members.now) all.items) }
-    ensures rise { IfOk result (λ all. AllRise all.items) }
-{
-    let mut all = Vec::with_capacity(alloc, topics.len())?;
-    for topic in topics {
-        all.push(takers_in(alloc, members, topic.name.as_str())?)?;
-    }
-    Ok(all)
-}
-
-/// The places of the members that subscribe the topic with this name.
-fn takers_in(
-    alloc: Global,
-    members: &[Subscriber<'_>],
-    name: &str,
-) -> Result<Vec<usize>, AllocError>
-    ensures takers { IfOk result (λ takers. AreTakersOf (subscribers_in members.now) name.now takers.items) }
-    ensures rise { IfOk result (λ takers. Rises takers.items) }
-{
-    let mut takers = Vec::new(alloc);
-    for (at, member) in members.iter().enumerate() {
-        if member.names.contains(name) {
-            takers.push(at)?;
-        }
-    }
-    Ok(takers)
 }

@@ -18,6 +18,7 @@ mod ranking;
 mod rankings;
 mod settle;
 mod shares;
+mod takers;
 mod uniform;
 
 pub use laws::{
