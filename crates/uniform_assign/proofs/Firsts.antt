@@ -115,6 +115,14 @@ module _ (board : Board) (draft : Draft) (is : IsBoard board) (are : IsDraft boa
   IsNextBelow-more n (Some b) (Some m) next more before first same =
       subst (IsNextBelow board draft (n + 1)) (sym same) (IsFirstBelow-takes n m (λ i k below can. let low = before.most i k below can in omega arith) first)
 
+  -- the next member gives nothing away
+  pub IsNextBelow-poor : (n : ℕ) (best : Option Move) → ((k : ℕ) → ¬ CanGive board draft n k) → IsNextBelow board draft n best → IsNextBelow board draft (n + 1) best
+  IsNextBelow-poor n None none before = λ i k low can. elim (below_next n i low) [
+    | inl below ↦ before i k below can
+    | inr at ↦ none k (subst (λ j. CanGive board draft j k) at can)
+  ]
+  IsNextBelow-poor n (Some b) none before = IsFirstBelow-stays n b before none
+
   -- every member was looked at
   pub IsNext-all : (n : ℕ) (o : Option Move) → length draft.counts.items ≤ n → IsNextBelow board draft n o → IsNext board draft (length board.places.items) o
   IsNext-all n None all none = λ i k low can. none i k (let within = are.counts.within k i (can_give-owns board draft is.bare are i k can) in omega arith) can

@@ -15,12 +15,12 @@ use Rattle.uniform_assign.specs.declared.board.Place.{Place}
 use Rattle.uniform_assign.specs.declared.draft.Draft.{Draft}
 use Rattle.uniform_assign.specs.declared.level.Move.{Move}
 use Rattle.uniform_assign.specs.Boards.{AreTakersOf, IsBoard, members_on}
-use Rattle.uniform_assign.specs.Drafts.{AreCounts, IsDraft, IsLeast, drawn_on}
-use Rattle.uniform_assign.specs.Moves.{CanGive, IsFirst, IsMove, IsNext}
+use Rattle.uniform_assign.specs.Drafts.{AreCounts, IsDraft, IsLeast, IsLeastOf, drawn_on}
+use Rattle.uniform_assign.specs.Moves.{AreFewest, CanGive, IsFirst, IsGiversLimit, IsMove, IsNext}
 use Rattle.uniform_assign.proofs.Boards.{as_many_places, at_place, here_taker, parts_are_apart, taker_here}
 use Rattle.uniform_assign.proofs.Shown.{can_give-owns, count-shown, owner-at}
 use Rattle.uniform_assign.proofs.Drawn.{drawn-owner, drawn-set}
-use Rattle.uniform_assign.proofs.Lists.{Contains-at, at_Contains}
+use Rattle.uniform_assign.proofs.Lists.{Contains-at, at_Contains, some_at}
 
 -- a partition was given
 pub IsDraft-give : (board : Board) (old new : Draft) (k : ℕ) (o : Option ℕ) → IsDraft board old → new.owners.items ≡ set_at old.owners.items k o → length new.counts.items ≡ length old.counts.items
@@ -130,6 +130,19 @@ module _ (board : Board) (draft : Draft) (is : IsBoard board) (are : IsDraft boa
       let equal = ap (λ n. get_or draft.counts.items n 0) same in
       let fewer = can.fewer in
       omega arith
+
+  -- a member within the limit gives nothing away
+  pub poor-stays : (fewest : List (Option ℕ)) (limit from : ℕ) → AreFewest board draft fewest → IsGiversLimit draft.counts.items fewest limit → get_or draft.counts.items from 0 ≤ limit
+      → (k : ℕ) → ¬ CanGive board draft from k
+  poor-stays fewest limit from least low few k can =
+      let owns = can_give-owns board draft is.bare are from k can in
+      let (place, is_place) = some_at board.places.items k (let in_parts = slice_get_within parts k can.moved can.is_partition in let many = as_many_places board is.bare in omega arith) in
+      let at = at_place board is k place is_place in
+      let (o, is_o, of) = least place.topic at.takers at.are_there in
+      elim o as (λ o. slice_get fewest place.topic ≡ Some o → IsLeastOf draft.counts.items at.takers.items o → ⊥) [
+        | None ↦ λ is_none none. no_taker-stays k place at.takers is_place at.are_there none from can
+        | Some to ↦ λ is_to least_to. near-stays k from to place at.takers is_place at.are_there owns least_to (let below = low place.topic to is_to in omega arith) from can
+      ] is_o of
 
   -- a member can give any of its partitions of a topic away, or none
   pub give-other : (from k at : ℕ) (one other : Place) → slice_get board.places.items k ≡ Some one → slice_get board.places.items at ≡ Some other → one.topic ≡ other.topic

@@ -14,6 +14,10 @@ abbrev pub AreFewest : Board → Draft → List (Option ℕ) → Type 0
 AreFewest board draft fewest = (t : ℕ) (takers : Vec ℕ) → slice_get board.takers.items t ≡ Some takers
     → (o : Option ℕ) × (slice_get fewest t ≡ Some o) × IsLeastOf draft.counts.items takers.items o
 
+-- a member that owns no more than the limit owns at most one more than each topic's taker with the least count
+abbrev pub IsGiversLimit : List ℕ → List (Option ℕ) → ℕ → Type 0
+IsGiversLimit counts fewest limit = (t m : ℕ) → slice_get fewest t ≡ Some (Some m) → limit ≤ slice_index counts m + 1
+
 -- the member at a place can give the partition at a place away
 abbrev pub CanGive : Board → Draft → ℕ → ℕ → Type 0
 CanGive board draft from place = CanMove board.view.now (members_on board) (drawn_on board draft.owners.items) from place

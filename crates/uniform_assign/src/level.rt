@@ -10,6 +10,7 @@ ghost use Rattle.uniform_assign.specs.Rankings.{AreRankings};
 
 use crate::board::Board;
 use crate::draft::Draft;
+use crate::givers::{are_within, givers_limit};
 use crate::pile::Pile;
 use crate::piles::add;
 use crate::ranking::Ranking;
@@ -67,6 +68,9 @@ impl Board<'_> {
         requires fewest { AreFewest self.now draft.now fewest.now }
         ensures { OnTrue result (IsNext self.now draft.now (length self.now.places.items) None) }
     {
+        if are_within(&draft.counts, givers_limit(&draft.counts, fewest)) {
+            return true;
+        }
         for at in 0..self.places.len() {
             if self.move_of(draft, fewest, at).is_some() {
                 return false;
@@ -92,9 +96,12 @@ impl Board<'_> {
         ensures next { IfOk result (IsNext self.now draft.now (length self.now.places.items)) }
     {
         let fewest = self.fewest(alloc, rankings)?;
+        let limit = givers_limit(&draft.counts, &fewest);
         let mut best = None;
         for from in 0..piles.len() {
-            best = self.better_move(draft, &fewest, &mut piles[from], from, best);
+            if draft.counts[from] > limit {
+                best = self.better_move(draft, &fewest, &mut piles[from], from, best);
+            }
         }
         Ok(best)
     }

@@ -8,6 +8,7 @@ mod board;
 mod draft;
 mod fill;
 mod former;
+mod givers;
 mod keep;
 mod laws;
 mod least;

@@ -56,10 +56,14 @@ pub(crate) fn add(
     Ok(())
 }
 
-/// Where the member's pile of the topic is. The last is tried first, since the partitions come in their topics' order.
+/// Where a pile of the topic is. The last is tried first, since the partitions come in their topics' order: so no other is
+/// tried where the last is of a topic before this one. Once partitions have moved, a member may then get a second pile.
 fn pile_of(hand: &[Pile], topic: usize) -> Option<usize>
     ensures { IfSome result (IsOfTopic hand.now topic) }
 {
+    if ends_before(hand, topic) {
+        return None;
+    }
     let mut at = hand.len();
     while at > 0 {
         at -= 1;
@@ -68,4 +72,12 @@ fn pile_of(hand: &[Pile], topic: usize) -> Option<usize>
         }
     }
     None
+}
+
+/// Whether the last pile is of a topic before this one.
+fn ends_before(hand: &[Pile], topic: usize) -> bool {
+    match hand.last() {
+        Some(pile) => pile.topic < topic,
+        None => false,
+    }
 }
