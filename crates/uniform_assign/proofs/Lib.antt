@@ -15,6 +15,7 @@ pub mod Taken
 pub mod FormerOwners
 pub mod LastOwner
 pub mod Kept
+pub mod Known
 pub mod Filled
 pub mod Settled
 pub mod Fewest

@@ -1,11 +1,12 @@
 -- How the partitions of a view and their takers are held.
-use Rattle.std.specs.Prelude.{◌≡◌, ℕ, ◌<◌, pos, Bool, false, if◌then◌else◌, List, [], ◌∷◌, ◌++◌, length, map, slice_index_or, Option, Some, IsSorted}
+use Rattle.std.specs.Prelude.{◌≡◌, ℕ, ◌<◌, pos, Bool, true, false, if◌then◌else◌, List, [], ◌∷◌, ◌++◌, length, map, slice_index_or, Option, Some, IsSorted}
 use Rattle.std.specs.Global.{Vec}
 use Rattle.std.specs.List.{flat_map, slice_get}
 use Rattle.std.specs.Option.{option_map}
 use Rattle.std.specs.FinMap as finite
 use Rattle.group_types.specs.declared.partition.Partition.{Partition}
 use Rattle.group_types.specs.Text.{Text}
+use Rattle.group_types.specs.Sets.{has}
 use Rattle.group_types.specs.Topics.{Topic}
 use Rattle.group_types.specs.Assignors.{IdsAreApart, Subscriber, member_cmp, subscribers_of}
 use Rattle.group_types.specs.Uniform.{partitions_of}
@@ -66,3 +67,9 @@ pub record IsBoard (board : Board) : Type 0 where
   pub bare : IsBare board
   pub takers : AreTakers (finite.entries board.view.now) (members_on board) board.takers.items
   pub rise : AllRise board.takers.items
+
+-- each topic whose place is told of a member is one that the member subscribes
+pub record AreKnown (board : Board) (known : List (Option ℕ)) : Type 0 where
+  pub as_many : length known ≡ length (members_on board)
+  pub subscribe : (m t : ℕ) (member : Subscriber) (topic : Text × Topic) → slice_get known m ≡ Some (Some t) → slice_get (members_on board) m ≡ Some member
+      → slice_get (finite.entries board.view.now) t ≡ Some topic → has member.names topic.0 ≡ true

@@ -69,11 +69,31 @@ impl Board<'_> {
         ensures as_many { length owners.new.items ≡ length owners.old.items }
         ensures shared { IsShared self.now.places.items set.now member owners.old.items owners.new.items }
     {
+        let mut first = 0;
         for partition in set.iter() {
-            if let Some(at) = self.place_of(firsts, partition) {
+            if let Some(at) = self.place_near(firsts, partition, first) {
                 owners[at] = Some(member);
+                first = at.saturating_sub(index_of(partition));
             }
         }
+    }
+
+    /// Where the partition is in partition order. Its topic isn't looked up where the topic's first partition is at `first`.
+    fn place_near(
+        &self,
+        firsts: &BTreeMap<Uuid, usize>,
+        partition: &Partition,
+        first: usize,
+    ) -> Option<usize>
+        requires board { IsBare self.now }
+        requires firsts { AreFirsts self.now.places.items firsts.now }
+        ensures { IsPlaceOf self.now.places.items partition.now result }
+    {
+        let at = first.saturating_add(index_of(partition));
+        if at < self.places.len() && self.places[at].partition == *partition {
+            return Some(at);
+        }
+        self.place_of(firsts, partition)
     }
 
     /// Where the partition is in partition order.
@@ -91,6 +111,11 @@ impl Board<'_> {
             None
         }
     }
+}
+
+/// The partition's index, or 0 where it is none.
+fn index_of(partition: &Partition) -> usize {
+    usize::try_from(partition.index).unwrap_or(0)
 }
 
 /// A place from which on no member owned a partition. It is found without a walk over the members.

@@ -38,13 +38,13 @@ returns c = record {
       ∙ c.loop-partition.invariant.1 k place is_place;
 }
 
-pub loop-partition-preserved-in-Some-place_of : goal.loop-partition-preserved-in-Some-place_of
-loop-partition-preserved-in-Some-place_of c =
+pub loop-partition-preserved-in-Some-place_near : goal.loop-partition-preserved-in-Some-place_near
+loop-partition-preserved-in-Some-place_near c =
     let owners = c.loop-partition.owners.items in
-    let at = c.in-Some-place_of.at in
+    let at = c.in-Some-place_near.at in
     let m = c.args.member in
     let key = c.in-Some.partition.now in
-    let (spot, is_spot, is_key) = c.in-Some-place_of.ensures in
+    let (spot, is_spot, is_key) = c.in-Some-place_near.ensures in
     let long = length-set owners at (Some m) in
     let many = c.loop-partition.invariant.0 in
     let as_many = c.requires.as_many in

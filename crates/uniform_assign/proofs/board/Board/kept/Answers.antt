@@ -13,8 +13,10 @@ use Rattle.uniform_assign.proofs.Boards.{as_many_places, part_at, parts_are_apar
 use Rattle.uniform_assign.proofs.Kept.{AreCounts-none, AreKeptTo, AreKeptTo-give, AreKeptTo-none, AreKeptTo-skip, IsKept-of, Keeps, Keeps-of, Keeps-owner, Keeps-subscribes}
 use Rattle.uniform_assign.proofs.Moves.{IsDraft-give}
 use Rattle.uniform_assign.proofs.board.Board.kept.Goals as goal
-use Rattle.uniform_assign.proofs.board.Board.kept.Goals.{in-Some+then-subscribes, in-Some+else-subscribes, in_default}
-use Rattle.uniform_assign.specs.Boards.{members_on}
+use Rattle.uniform_assign.proofs.board.Board.kept.Goals.{in-Some+then-takes, in-Some+else-takes, in_default}
+use Rattle.std.specs.Global.{Vec}
+use Rattle.uniform_assign.specs.Boards.{AreKnown, members_on}
+use Rattle.uniform_assign.proofs.Known.{AreKnown-none}
 
 -- the former owner that was read
 read : (owners : List (Option ℕ)) (k : ℕ) (o : Option ℕ) (m : ℕ) → k < length owners → o ≡ get_or owners k o → o ≡ Some m → get_or owners k None ≡ Some m
@@ -34,10 +36,11 @@ loop-at-init c =
         counts = AreCounts-none draft.owners.items draft.counts.items c.len.result (length c.args.self.now.members.now) c.in_ok-draft.ensures.owners c.in_ok-draft.ensures.counts;
       },
       AreKeptTo-none c.args.former.now subs parts draft.owners.items c.len.result c.in_ok-draft.ensures.owners,
+      AreKnown-none c.args.self.now c.in_ok-known.known.items (length c.args.self.now.members.now) c.in_ok-known.ensures members,
     )
 
-pub subscribes-requires : goal.subscribes-requires
-subscribes-requires c =
+pub takes-requires : goal.takes-requires
+takes-requires c =
     let board = c.args.self.now in
     let place = c.place-item.result in
     let at = part_at board c.requires c.loop-at.at place (place_here c.deref-place-items.result.now board.places.items c.loop-at.at place c.deref-place-items.ensures.value c.loop-at-test.true c.place-item.is) in
@@ -46,6 +49,7 @@ subscribes-requires c =
     record {
       member_in = slice_get_within (members_on board) c.in-Some.member owner.member owner.is_member;
       topic_in = slice_get_within (finite.entries board.view.now) place.topic at.topic at.is_topic;
+      known = c.loop-at.invariant.2;
     }
 
 pub give-requires : goal.give-requires
@@ -71,26 +75,27 @@ loop-at-preserved c =
     let place = c.place-item.result in
     let at = part_at board c.requires n place (place_here c.deref-place-items.result.now board.places.items n place c.deref-place-items.ensures.value c.loop-at-test.true c.place-item.is) in
     let owners = c.loop-at.draft.owners.items in
-    let (draft, kept) = c.loop-at.invariant in
+    let (draft, kept, known) = c.loop-at.invariant in
     let low = c.loop-at-test.true in
     let within : n < length owners = let places = ap length c.deref-place-items.ensures.value in let many = draft.as_many_owners in omega arith in
     let here = place_here c.deref-place-items.result.now board.places.items n place c.deref-place-items.ensures.value low c.place-item.is in
     let in_owners : n < length c.in_ok-owners.owners.items = let as_many = c.in_ok-owners.ensures.as_many in let places = ap length c.deref-place-items.ensures.value in omega arith in
     let x : Text × Partition = (at.topic.0, place.partition) in
     elim c.match-index.branch [
-      | in-Some+then-subscribes w ↦
+      | in-Some+then-takes w ↦
           let m = w.in-Some.member in
           let owner = (c.in_ok-owners.ensures.owners n m place here).0 (read c.in_ok-owners.owners.items n c.index.result.now m in_owners c.index.ensures w.in-Some.is) in
-          let takes = sym (w.if-subscribes.ensures owner.member at.topic owner.is_member at.is_topic) in
+          let takes = sym (w.if-takes.ensures.takes owner.member at.topic owner.is_member at.is_topic) in
           let keeps = Keeps-of former subs parts n m x owner.member at.is_part owner.is_member owner takes in
           let given = ap (λ (d : Draft). d.owners.items) w.draft-is ∙ w.give.ensures.owners in (
             subst (IsDraft board) (sym w.draft-is) (IsDraft-give board c.loop-at.draft w.give.new.self n (Some m) draft w.give.ensures.owners w.give.ensures.as_many w.give.ensures.counts),
             subst (AreKeptTo former subs parts (n + 1)) (sym given) (AreKeptTo-give former subs parts n m owners kept within c.requires.apart keeps),
+            subst (λ (v : Vec (Option ℕ)). AreKnown board v.items) (sym w.known-is) w.takes.ensures.known,
           )
-      | in-Some+else-subscribes w ↦
+      | in-Some+else-takes w ↦
           let m = w.in-Some.member in
           let owner = (c.in_ok-owners.ensures.owners n m place here).0 (read c.in_ok-owners.owners.items n c.index.result.now m in_owners c.index.ensures w.in-Some.is) in
-          let away = sym (w.if-subscribes.ensures owner.member at.topic owner.is_member at.is_topic) in
+          let away = sym (w.if-takes.ensures.takes owner.member at.topic owner.is_member at.is_topic) in
           let nobody : (j : ℕ) → ¬ Keeps former subs parts n j = λ j keeps.
           let other = Keeps-owner former subs parts n j x at.is_part keeps in
           let ids : owner.member.id ≡ other.member.id = same_Some owner.member.id other.member.id (sym owner.owned ∙ other.owned) in
@@ -99,6 +104,7 @@ loop-at-preserved c =
           cc in (
             subst (IsDraft board) (sym w.draft-is) draft,
             subst (λ (d : Draft). AreKeptTo former subs parts (n + 1) d.owners.items) (sym w.draft-is) (AreKeptTo-skip former subs parts n owners kept within nobody),
+            subst (λ (v : Vec (Option ℕ)). AreKnown board v.items) (sym w.known-is) w.takes.ensures.known,
           )
       | in_default w ↦
           let nobody : (j : ℕ) → ¬ Keeps former subs parts n j = λ j keeps.
@@ -110,6 +116,7 @@ loop-at-preserved c =
           cc in (
             subst (IsDraft board) (sym w.draft-is) draft,
             subst (λ (d : Draft). AreKeptTo former subs parts (n + 1) d.owners.items) (sym w.draft-is) (AreKeptTo-skip former subs parts n owners kept within nobody),
+            subst (λ (v : Vec (Option ℕ)). AreKnown board v.items) (sym w.known-is) known,
           )
     ]
 
