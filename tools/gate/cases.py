@@ -23,7 +23,7 @@ from gate import commands
 # The crate whose program the cases are for.
 PROGRAM_CRATE = "scenario_cli"
 # How long a case may take, in seconds, and how much of a difference is shown, in lines.
-LIMIT = 60
+LIMIT = 300
 SHOWN = 40
 ENDINGS = (".in", ".out", ".err", ".status", ".args", ".made")
 
