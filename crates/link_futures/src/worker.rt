@@ -13,9 +13,12 @@ use futures::task::{Context, Poll};
 use futures::{Future, Stream};
 use std::alloc::Global;
 
+/// So many lines have turns and none of them rests: to give them all a turn costs less than to wake one.
+const FEW_LINES: usize = 16;
+
 /// Many lines over one desk. A poll looks once for an arrival and gives each line one turn, so no line waits for another to
-/// end; but a line that waits for its reader alone rests until it is woken. It is ready, with the number of lines that have
-/// ended, once arrivals have ended and no line is left.
+/// end; but where there are many, a line that waits for its reader alone rests until it is woken. It is ready, with the
+/// number of lines that have ended, once arrivals have ended and no line is left.
 #[derive(Drop)]
 pub struct Worker<A: Stream, D> {
     arrivals: A,
@@ -131,7 +134,8 @@ impl<R: ReadPart, W: WriteParts, A: Stream<Item = Line<R, W>>, D: Desk> Future f
     }
 }
 
-/// Lets the lines rest that wait for their readers alone. Says whether there was such a line.
+/// Lets the lines rest that wait for their readers alone, until few are left that have turns. Says whether there was such a
+/// line.
 fn rest_all<R: ReadPart, W: WriteParts>(
     lines: &mut Vec<Line<R, W>>,
     resting: &mut Resting<Line<R, W>>,
@@ -140,7 +144,7 @@ fn rest_all<R: ReadPart, W: WriteParts>(
 {
     let mut has_rested = false;
     let mut place = 0;
-    while place < lines.len() {
+    while place < lines.len() && FEW_LINES < lines.len() {
         if lines[place].is_quiet() {
             if let Err(line) = resting.rest(lines.swap_remove(place)) {
                 keep(lines, line);
