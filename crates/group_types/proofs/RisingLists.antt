@@ -1,5 +1,5 @@
 -- Lists of keys that rise strictly in an order R, and the sets of them.
-use Rattle.std.proofs.Common.{◌≡◌, ℕ, zero, suc, ◌+◌, ◌-◌, ◌<◌, Bool, true, false, cond, not, ◌&&◌, ◌||◌, List, [], ◌∷◌, ◌++◌, length, get_or, Some, Result, Ok, Err, IfOk, IfErr, is_ok, slice_get, refl, sym, ap, subst, ◌∙◌, inl, inr, arith, true≢false}
+use Rattle.std.proofs.Common.{◌≡◌, ℕ, zero, suc, ◌+◌, ◌-◌, ◌<◌, ◌≤◌, Bool, true, false, cond, not, ◌&&◌, ◌||◌, List, [], ◌∷◌, ◌++◌, length, get_or, Some, Result, Ok, Err, IfOk, IfErr, is_ok, slice_get, refl, sym, ap, subst, ◌∙◌, inl, inr, arith, true≢false}
 use Rattle.std.specs.declared.cmp.Ordering.{Ordering}
 use Rattle.std.specs.declared.cmp.Ordering.TheVariants.{Less, Greater}
 use Rattle.std.specs.Bool.{Decides}
@@ -198,3 +198,22 @@ module _ {K : Type 0} {R : K → K → Ordering} (total : IsTotalOrder R) (exact
   -- a key behind the others
   pub of_list-push : (ks : List K) (x : K) → of_list {R = R} (ks ++ x ∷ []) ≡ with_one (of_list ks) x
   of_list-push ks x = ap of_list (sym (insert_end ks x)) ∙ of_list-insert x ks (length ks)
+
+-- ---- lists whose keys come before the next ones
+
+-- of the first n keys each comes before the next
+abbrev pub RisesTo : {K : Type 0} → (K → K → Ordering) → List K → ℕ → Type 0
+RisesTo {K} R ks n = (k : ℕ) (x y : K) → suc k < n → slice_get ks k ≡ Some x → slice_get ks (suc k) ≡ Some y → R x y ≡ Less
+
+above_all : {K : Type 0} {R : K → K → Ordering} → IsTotalOrder R → (x y : K) (ks : List K) → R x y ≡ Less → AllByRecursion (λ z. R y z ≡ Less) ks → AllByRecursion (λ z. R x z ≡ Less) ks
+above_all total x y [] low all = tt
+above_all total x y (z ∷ ks) low all = (total.trans x y z low all.0, above_all total x y ks low all.1)
+
+pub sorted-RisesTo : {K : Type 0} {R : K → K → Ordering} → IsTotalOrder R → (ks : List K) (n : ℕ) → length ks ≤ n → RisesTo R ks n → IsStrictlySortedBy R ks
+unfolding IsStrictlySortedBy
+sorted-RisesTo total [] n all rises = tt
+sorted-RisesTo total (x ∷ []) n all rises = (tt, tt)
+sorted-RisesTo total (x ∷ y ∷ ks) n all rises =
+    let low = rises 0 x y (omega (arith, all)) refl refl in
+    let rest = sorted-RisesTo total (y ∷ ks) (n - 1) (omega (arith, all)) (λ k a b below here next. rises (suc k) a b (omega (arith, below)) here next) in
+    ((low, above_all total x y ks low rest.0), rest)

@@ -1,9 +1,10 @@
 //! A set of partitions.
 ghost use Rattle.std.specs.Prelude.{◌≡◌, ◌≤◌, ◌<◌, ℕ, not, length, IsTrue, ◌↔◌, IfOk, IfErr, OnOk, OnErr, Some, is_ok, slice_get};
+ghost use Rattle.std.specs.Bool.{OnTrue};
 ghost use Rattle.std.specs.Iterator.Adapters.{IterYieldsInOrder};
 ghost use Rattle.std.specs.List.{list_any};
 ghost use Rattle.std.specs.List.Sorted.{IsStrictlySortedBy};
-ghost use Rattle.std.specs.Ordering.{eq_by_cmp};
+ghost use Rattle.std.specs.Ordering.{eq_by_cmp, is_lt};
 ghost use Rattle.std.specs.Slice.Iter.{iter_rest};
 ghost use Rattle.group_types.specs.declared.partition.Partition.{Partition as Key};
 ghost use Rattle.group_types.specs.Sets.{nothing, has, with_one, without, common, in_order, of_list, size, is_nothing, are_disjoint, are_same};
@@ -53,10 +54,13 @@ impl PartSet {
         Ok(PartSet::of_vec(parts))
     }
 
-    /// The partitions of a list in any order, repeated ones once. Takes no memory.
+    /// The partitions of a list in any order, repeated ones once. Takes no memory. A list that rises is only looked at.
     pub fn of_vec(mut parts: Vec<Partition>) -> PartSet
         ensures { result ≡ of_list parts.items }
     {
+        if rises(&parts) {
+            return PartSet { parts };
+        }
         parts.sort_unstable();
         parts.dedup();
         PartSet { parts }
@@ -158,6 +162,28 @@ impl PartSet {
     {
         self.parts == other.parts
     }
+}
+
+/// Whether each partition of the list comes before the next.
+fn rises(parts: &[Partition]) -> bool
+    ensures { OnTrue result (IsStrictlySortedBy partition_cmp parts.now) }
+{
+    for at in 1..parts.len() {
+        if !comes_before(&parts[at - 1], &parts[at]) {
+            return false;
+        }
+    }
+    true
+}
+
+/// Whether a partition comes before another. Most often both are of one topic, and then two numbers tell it.
+fn comes_before(one: &Partition, other: &Partition) -> bool
+    ensures { result ≡ is_lt (partition_cmp one.now other.now) }
+{
+    if one.topic == other.topic {
+        return one.index.cmp(&other.index).is_lt();
+    }
+    one.cmp(other).is_lt()
 }
 
 /// Whether a partition of the list is in the set.

@@ -6,8 +6,8 @@ use Rattle.group_types.proofs.Orders.{partition_cmp_total, partition_cmp-IsAntis
 use Rattle.group_types.proofs.RisingLists.{of_list-dedup}
 use Rattle.group_types.proofs.part_set.PartSet.of_vec.Goals as goal
 
-pub invariant_of-result : goal.invariant_of-result
-invariant_of-result c =
+pub invariant_of-result-2 : goal.invariant_of-result-2
+invariant_of-result-2 c =
     rw (dedup_is _ _ _ c.dedup.ensures.filtered) (IsStrictlySortedBy-dedup partition_cmp_total partition_eq-ties _ c.sort_unstable.ensures.sorted)
 
 pub returns : goal.returns
