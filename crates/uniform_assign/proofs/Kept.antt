@@ -12,8 +12,11 @@ use Rattle.group_types.specs.Sets.{has}
 use Rattle.group_types.specs.Assignors.{IdsAreApart, Subscriber}
 use Rattle.group_types.specs.Owners.{IsSubscriber, Spread}
 use Rattle.group_types.specs.Uniform.{IsKept, in_partition_order}
-use Rattle.uniform_assign.specs.Drafts.{AreCounts, drawn, is_owner}
-use Rattle.uniform_assign.specs.Former.{IsFormerOwner}
+use Rattle.uniform_assign.specs.declared.board.Board.{Board}
+use Rattle.uniform_assign.specs.declared.draft.Draft.{Draft}
+use Rattle.uniform_assign.specs.Boards.{members_on}
+use Rattle.uniform_assign.specs.Drafts.{AreCounts, IsDraft, drawn, is_owner}
+use Rattle.uniform_assign.specs.Former.{IsFormerOwner, OwnNothingFrom}
 use Rattle.uniform_assign.proofs.Drawn.{AreApart, drawn-from, drawn-owner}
 use Rattle.uniform_assign.proofs.PartitionOrder.{part_from, taken_from, taker_subscribes}
 
@@ -28,6 +31,12 @@ slice_get-set_other (y ∷ xs) zero zero x apart = absurd (apart refl)
 slice_get-set_other (y ∷ xs) zero (suc j) x apart = refl
 slice_get-set_other (y ∷ xs) (suc k) zero x apart = refl
 slice_get-set_other (y ∷ xs) (suc k) (suc j) x apart = slice_get-set_other xs k j x (λ same. apart (ap suc same))
+
+-- in a list without owners nobody is one
+pub no_owner_at : (n k m : ℕ) → slice_get (replicate {A = Option ℕ} n None) k ≡ Some (Some m) → ⊥
+no_owner_at zero k m is = cc
+no_owner_at (suc n) zero m is = let none = same_Some None (Some m) is in cc
+no_owner_at (suc n) (suc k) m is = no_owner_at n k m is
 
 -- the member at a place owned the partition at a place before, and subscribes it
 pub record Keeps (former : Spread) (subs : List Subscriber) (parts : List (Text × Partition)) (k m : ℕ) : Type 0 where
@@ -51,6 +60,16 @@ module _ (former : Spread) (subs : List Subscriber) (parts : List (Text × Parti
         let long = ap length same ∙ length-replicate many None in
         ap (λ xs. get_or xs k None) same ∙ get_or-replicate many k None None (omega arith)
         );
+  }
+
+  -- where no member owned a partition, no owner stays
+  pub AreKeptTo-nobody : (owners : List (Option ℕ)) (many n : ℕ) → owners ≡ replicate many None → OwnNothingFrom former subs 0 → AreKeptTo former subs parts n owners
+  AreKeptTo-nobody owners many n same nobody = record {
+    kept = λ k m low. (
+      λ there. absurd (no_owner_at many k m (ap (λ xs. slice_get xs k) (sym same) ∙ there)),
+      λ keeps. absurd (nobody m keeps.member keeps.part.1 (omega arith) keeps.is_member keeps.owned),
+    );
+    free = λ k low. (AreKeptTo-none owners many same).free k (omega arith);
   }
 
   AreKeptTo-set : (n : ℕ) (owners : List (Option ℕ)) (o : Option ℕ) → AreKeptTo former subs parts n owners → n < length owners → ((m : ℕ) → (o ≡ Some m) ↔ Keeps former subs parts n m)
@@ -148,17 +167,19 @@ IsKept-of view subs former n owners apart all are p id = (
 
 pub AreCounts-none : (owners : List (Option ℕ)) (counts : List ℕ) (n m : ℕ) → owners ≡ replicate n None → counts ≡ replicate m 0 → AreCounts owners counts
 AreCounts-none owners counts n m same zeros = record {
-  within = λ k j is. let none = nobody n k j (ap (λ xs. slice_get xs k) (sym same) ∙ is) in absurd none;
+  within = λ k j is. absurd (no_owner_at n k j (ap (λ xs. slice_get xs k) (sym same) ∙ is));
   counted = λ j low.
       let long = ap length zeros ∙ length-replicate m 0 in
       ap (λ xs. get_or xs j 0) zeros ∙ get_or-replicate m j 0 0 (omega arith) ∙ sym (ap (count_by (is_owner j)) same ∙ nothing n j);
 }
   where
-    nobody : (n k j : ℕ) → slice_get (replicate n None) k ≡ Some (Some j) → ⊥
-    nobody zero k j is = cc
-    nobody (suc n) zero j is = cc
-    nobody (suc n) (suc k) j is = nobody n k j is
-
     nothing : (n j : ℕ) → count_by (is_owner j) (replicate n None) ≡ 0
     nothing zero j = refl
     nothing (suc n) j = nothing n j
+
+pub IsDraft-none : (board : Board) (draft : Draft) (n m : ℕ) → draft.owners.items ≡ replicate n None → draft.counts.items ≡ replicate m 0 → n ≡ length board.places.items → m ≡ length (members_on board) → IsDraft board draft
+IsDraft-none board draft n m owners counts places members = record {
+  as_many_owners = ap length owners ∙ length-replicate n None ∙ places;
+  as_many_counts = ap length counts ∙ length-replicate m 0 ∙ members;
+  counts = AreCounts-none draft.owners.items draft.counts.items n m owners counts;
+}

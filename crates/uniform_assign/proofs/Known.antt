@@ -1,5 +1,5 @@
 -- The topics that members are known to subscribe.
-use Rattle.std.proofs.Common.{◌≡◌, ℕ, zero, suc, ◌<◌, true, List, length, replicate, set as set_at, sym, ap, ◌∙◌, arith, inl, inr, Option, Some, None}
+use Rattle.std.proofs.Common.{◌≡◌, ℕ, ◌<◌, true, List, length, replicate, set as set_at, sym, ap, ◌∙◌, arith, inl, inr, Option, Some, None}
 use Rattle.std.specs.FinMap as finite
 use Rattle.std.specs.List.{slice_get}
 use Rattle.std.proofs.lemmas.List.{length-replicate, length-set}
@@ -11,18 +11,13 @@ use Rattle.group_types.specs.Topics.{Topic}
 use Rattle.uniform_assign.specs.declared.board.Board.{Board}
 use Rattle.uniform_assign.specs.Boards.{AreKnown, members_on}
 use Rattle.uniform_assign.proofs.Counts.{cases_equal}
-use Rattle.uniform_assign.proofs.Kept.{slice_get-set_other, slice_get-set_same}
-
-no_place : (n m t : ℕ) → slice_get (replicate {A = Option ℕ} n None) m ≡ Some (Some t) → ⊥
-no_place zero m t is = cc
-no_place (suc n) zero t is = let none = same_Some None (Some t) is in cc
-no_place (suc n) (suc m) t is = no_place n m t is
+use Rattle.uniform_assign.proofs.Kept.{no_owner_at, slice_get-set_other, slice_get-set_same}
 
 module _ (board : Board) where
   pub AreKnown-none : (known : List (Option ℕ)) (n : ℕ) → known ≡ replicate n None → n ≡ length (members_on board) → AreKnown board known
   AreKnown-none known n none many = record {
     as_many = ap length none ∙ length-replicate n None ∙ many;
-    subscribe = λ m t member topic is _ _. absurd (no_place n m t (ap (λ xs. slice_get xs m) (sym none) ∙ is));
+    subscribe = λ m t member topic is _ _. absurd (no_owner_at n m t (ap (λ xs. slice_get xs m) (sym none) ∙ is));
   }
 
   pub AreKnown-set : (known : List (Option ℕ)) (m t : ℕ) → AreKnown board known → m < length (members_on board)

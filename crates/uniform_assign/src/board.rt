@@ -62,11 +62,20 @@ fn places_of(alloc: Global, topics: &[ViewTopic]) -> Result<Vec<Place>, AllocErr
     requires { All (λ t. t.count ≤ 2 ^ 31) topics.now }
     ensures { IfOk result (λ places. ArePlaces (all_named topics.now) places.items) }
 {
-    let mut places = Vec::new(alloc);
+    let mut places = Vec::with_capacity(alloc, partition_count(topics))?;
     for (at, topic) in topics.iter().enumerate() {
         add_places(&mut places, at, topic)?;
     }
     Ok(places)
+}
+
+/// How many partitions the topics have together, so that room for them is taken once.
+fn partition_count(topics: &[ViewTopic]) -> usize {
+    let mut all = 0usize;
+    for topic in topics {
+        all = all.saturating_add(topic.count as usize);
+    }
+    all
 }
 
 /// Adds the partitions of a topic, which has a place among the topics.

@@ -119,7 +119,7 @@ fn index_of(partition: &Partition) -> usize {
 }
 
 /// A place from which on no member owned a partition. It is found without a walk over the members.
-fn last_owner_end(former: &Spread, members: &[Subscriber<'_>]) -> usize
+pub(crate) fn last_owner_end(former: &Spread, members: &[Subscriber<'_>]) -> usize
     requires { IsSorted member_cmp (subscribers_in members.now) }
     ensures within { result ≤ length members.now }
     ensures none { OwnNothingFrom former.now (subscribers_in members.now) result }

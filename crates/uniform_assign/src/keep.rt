@@ -12,12 +12,26 @@ ghost use Rattle.uniform_assign.specs.Drafts.{IsDraft, drawn_on};
 
 use crate::board::Board;
 use crate::draft::{Draft, no_owners};
+use crate::former::last_owner_end;
 use range_assign::Spread;
 use std::alloc::{AllocError, Global};
 
 impl Board<'_> {
-    /// The partitions whose former owners still subscribe them are theirs, and the others have no owner.
+    /// The partitions whose former owners still subscribe them are theirs, and the others have no owner. Where no member
+    /// owned any, none is looked at.
     pub fn kept(&self, alloc: Global, former: &Spread) -> Result<Draft, AllocError>
+        requires { IsBare self.now }
+        ensures draft { IfOk result (λ draft. IsDraft self.now draft) }
+        ensures kept { IfOk result (λ draft. IsKept self.now.view.now (members_on self.now) former.now (drawn_on self.now draft.owners.items)) }
+    {
+        if last_owner_end(former, self.members) == 0 {
+            return Draft::new(alloc, self.places.len(), self.members.len());
+        }
+        self.kept_of(alloc, former)
+    }
+
+    /// The same, looked for partition by partition.
+    fn kept_of(&self, alloc: Global, former: &Spread) -> Result<Draft, AllocError>
         requires { IsBare self.now }
         ensures draft { IfOk result (λ draft. IsDraft self.now draft) }
         ensures kept { IfOk result (λ draft. IsKept self.now.view.now (members_on self.now) former.now (drawn_on self.now draft.owners.items)) }

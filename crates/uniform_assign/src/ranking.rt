@@ -1,6 +1,6 @@
 //! Counts in order, so that the first is at hand.
 
-ghost use Rattle.std.specs.Prelude.{◌+◌, ◌<◌, ℕ, List, All, IfOk, length, slice_set};
+ghost use Rattle.std.specs.Prelude.{◌≡◌, ◌+◌, ◌/◌, ◌<◌, ℕ, List, All, IfOk, Some, length, slice_get, slice_set};
 ghost use Rattle.uniform_assign.specs.Rankings.{AreRanks, IsFirstOfTwo, IsLeastPlace, IsPlayed, IsRanking, counts_of};
 
 use std::alloc::{AllocError, Global};
@@ -55,12 +55,31 @@ impl Ranking {
         ensures { (counts : List ℕ) → IsRanking counts self.old.nodes.items
             → IsRanking (slice_set counts place count) self.new.nodes.items }
     {
+        let mut rank = Rank { count, place };
         let mut node = self.nodes.len() / 2 + place;
-        self.nodes[node] = Rank { count, place };
+        self.nodes[node] = rank;
         while node > 1 {
+            rank = self.carry(node, rank);
             node /= 2;
-            self.play(node);
         }
+    }
+
+    /// Writes the node above this one anew, at which the rank is, and gives what is there now. So a rank on its way up isn't
+    /// read again.
+    fn carry(&mut self, node: usize, rank: Rank) -> Rank
+        requires above { 1 < node }
+        requires below { node < length self.old.nodes.items / 2 + length self.old.nodes.items / 2 }
+        requires rank { slice_get self.old.nodes.items node ≡ Some rank }
+        ensures played { IsPlayed self.old.nodes.items (node / 2) self.new.nodes.items }
+        ensures first { slice_get self.new.nodes.items (node / 2) ≡ Some result }
+    {
+        let first = if node % 2 == 0 {
+            first_of(rank, self.nodes[node + 1])
+        } else {
+            first_of(self.nodes[node - 1], rank)
+        };
+        self.nodes[node / 2] = first;
+        first
     }
 
     /// Writes the rank at a node anew.

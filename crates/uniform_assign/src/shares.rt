@@ -1,6 +1,6 @@
 //! The members' shares of a draft.
 
-ghost use Rattle.std.specs.Prelude.{◌≡◌, IfOk, filter, map};
+ghost use Rattle.std.specs.Prelude.{◌≡◌, ◌≤◌, IfOk, filter, length, map};
 ghost use Rattle.group_types.specs.Sets.{nothing};
 ghost use Rattle.range_assign.specs.Members.{subscribers_in};
 ghost use Rattle.range_assign.specs.Shares.{AreShares, shares_in, spread_of};
@@ -29,7 +29,7 @@ impl Board<'_> {
         ensures shares { IfOk result (λ shares. AreShares (shares_in shares.items)) }
         ensures drawn { IfOk result (λ shares. spread_of (shares_in shares.items) ≡ drawn_on self.now draft.now.owners.items) }
     {
-        let mut hands = no_partitions(alloc, self.members)?;
+        let mut hands = no_partitions(alloc, self.members, &draft.counts)?;
         for (at, place) in self.places.iter().enumerate() {
             if let Some(owner) = draft.owners[at] {
                 hands[owner].parts.push(place.partition)?;
@@ -39,17 +39,23 @@ impl Board<'_> {
     }
 }
 
-/// A hand without a partition for each member.
-fn no_partitions<'a>(alloc: Global, members: &[Subscriber<'a>]) -> Result<Vec<Hand<'a>>, AllocError>
+/// A hand without a partition for each member, with room for as many as the member's count.
+fn no_partitions<'a>(
+    alloc: Global,
+    members: &[Subscriber<'a>],
+    counts: &[usize],
+) -> Result<Vec<Hand<'a>>, AllocError>
+    requires { length members.now ≤ length counts.now }
     ensures { IfOk result (λ hands. hands_in hands.items ≡ map (λ m. (m.id, nothing)) (subscribers_in members.now)) }
 {
     // rounded up, so that a growing group asks the allocator for one size again and again
     let room = (members.len() / 1024 + 1) * 1024;
     let mut hands = Vec::with_capacity(alloc, room)?;
-    for member in members {
+    for (at, member) in members.iter().enumerate() {
+        let parts = Vec::with_capacity(alloc, counts[at])?;
         hands.push(Hand {
             id: member.id,
-            parts: Vec::new(alloc),
+            parts,
         })?;
     }
     Ok(hands)

@@ -3,7 +3,14 @@ use Rattle.std.proofs.lemmas.Bool.{cases_lt}
 use Rattle.uniform_assign.specs.declared.ranking.Rank.{Rank}
 use Rattle.uniform_assign.specs.Rankings.{AreRanks}
 use Rattle.uniform_assign.proofs.Ranked.{AreMatchesBut, AreMatchesBut-played, AreMatchesBut-set, AreRanks-played, AreRanks-set}
+use Rattle.uniform_assign.proofs.Kept.{slice_get-set_same}
 use Rattle.uniform_assign.proofs.ranking.Ranking.set.Goals as goal
+
+-- the node that was written is below the last
+pub carry-rank-requires : goal.carry-rank-requires
+carry-rank-requires c =
+    let (long, positive, low, here, keeps) = c.loop-node.invariant in
+    record { above = c.loop-node-test.true; below = low; rank = here }
 
 halves : (node : ℕ) → (node / 2 + node / 2 ≡ node) ⊎ (node / 2 + node / 2 + 1 ≡ node)
 halves node = elim (cases_lt (node / 2 + node / 2) node) [ inl less ↦ inr (omega arith) | inr low ↦ inl (omega arith) ]
@@ -23,6 +30,7 @@ loop-node-init c =
       long,
       omega arith,
       omega arith,
+      slice_get-set_same nodes (half + place) rank (omega arith),
       λ counts is.
           let many = is.are_ranks.as_many in
           let at : length counts ≡ half = omega arith in (
@@ -34,17 +42,18 @@ loop-node-init c =
 pub loop-node-preserved : goal.loop-node-preserved
 loop-node-preserved c =
     let old = c.loop-node.self.nodes.items in
-    let new = c.play.new.self.nodes.items in
+    let new = c.carry-rank.new.self.nodes.items in
     let node = c.loop-node.node in
     let p = node / 2 in
-    let (long, positive, low, keeps) = c.loop-node.invariant in
+    let (long, positive, low, here, keeps) = c.loop-node.invariant in
     let more = c.loop-node-test.true in
-    let is = c.play.ensures in
+    let is = c.carry-rank.ensures.played in
     let same : length new ≡ length old = ap length is.is_new ∙ length-set old p is.first in
     let halved = ap (λ n. n / 2) same in (
       same ∙ long,
       omega arith,
       omega arith,
+      c.carry-rank.ensures.first,
       λ counts ranking.
           let (are, matches) = keeps counts ranking in
           let many = ranking.are_ranks.as_many in
@@ -58,7 +67,7 @@ loop-node-preserved c =
 
 pub returns : goal.returns
 returns c = λ counts ranking.
-    let (long, positive, low, keeps) = c.loop-node.invariant in
+    let (long, positive, low, here, keeps) = c.loop-node.invariant in
     let (are, matches) = keeps counts ranking in
     let last = c.loop-node-test.false in
     let set_long = length-set counts c.args.place c.args.count in

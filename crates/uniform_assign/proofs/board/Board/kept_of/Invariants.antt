@@ -1,7 +1,7 @@
 use Rattle.group_types.specs.Uniform.{in_partition_order}
 use Rattle.uniform_assign.specs.Drafts.{IsDraft}
 use Rattle.uniform_assign.proofs.Kept.{AreKeptTo}
-use Rattle.uniform_assign.proofs.board.Board.kept.Given as goal
+use Rattle.uniform_assign.proofs.board.Board.kept_of.Given as goal
 use Rattle.uniform_assign.specs.Boards.{AreKnown, members_on}
 
 abbrev pub invariant-loop-at : goal.invariant-loop-at
