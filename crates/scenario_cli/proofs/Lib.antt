@@ -19,3 +19,5 @@ pub mod Casting
 pub mod Described
 pub mod Played
 pub mod EmptyPages
+pub mod Answered
+pub mod Closing

@@ -54,6 +54,25 @@ five_words_put s0 s1 s2 s3 s4 s5 s6 s7 key a b c d e e1 e2 e3 e4 e5 e6 e7 =
     let p2 = word_put s1 s2 s7 a _ e2 p3 in
     line_put s0 s7 key (a ∷ b ∷ c ∷ d ∷ e ∷ []) (two_put s0 s1 s7 key _ e1 p2)
 
+-- a word behind a space that was put before it
+pub behind_space : (a b c word : List ℕ) → b ≡ a ++ codes " " → c ≡ b ++ word → c ≡ a ++ codes " " ++ word
+behind_space a b c word space put = put ∙ ap (λ l. l ++ word) space
+
+-- a key, seven words and a line feed
+pub seven_words_put : (s0 s1 s2 s3 s4 s5 s6 s7 s8 s9 key a b c d e f g : List ℕ)
+    → s1 ≡ s0 ++ key → s2 ≡ s1 ++ codes " " ++ a → s3 ≡ s2 ++ codes " " ++ b → s4 ≡ s3 ++ codes " " ++ c
+    → s5 ≡ s4 ++ codes " " ++ d → s6 ≡ s5 ++ codes " " ++ e → s7 ≡ s6 ++ codes " " ++ f → s8 ≡ s7 ++ codes " " ++ g
+    → s9 ≡ s8 ++ 10 ∷ [] → s9 ≡ s0 ++ fed (line key (a ∷ b ∷ c ∷ d ∷ e ∷ f ∷ g ∷ []))
+seven_words_put s0 s1 s2 s3 s4 s5 s6 s7 s8 s9 key a b c d e f g e1 e2 e3 e4 e5 e6 e7 e8 e9 =
+    let p8 = word_put s7 s8 s9 g (10 ∷ []) e8 e9 in
+    let p7 = word_put s6 s7 s9 f _ e7 p8 in
+    let p6 = word_put s5 s6 s9 e _ e6 p7 in
+    let p5 = word_put s4 s5 s9 d _ e5 p6 in
+    let p4 = word_put s3 s4 s9 c _ e4 p5 in
+    let p3 = word_put s2 s3 s9 b _ e3 p4 in
+    let p2 = word_put s1 s2 s9 a _ e2 p3 in
+    line_put s0 s9 key (a ∷ b ∷ c ∷ d ∷ e ∷ f ∷ g ∷ []) (two_put s0 s1 s9 key _ e1 p2)
+
 -- ---- lines
 
 -- a line and the lines behind it

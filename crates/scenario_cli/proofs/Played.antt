@@ -8,15 +8,14 @@ use Rattle.world_sim.specs.declared.fault.WorldFault.{WorldFault}
 use Rattle.world_sim.specs.World.{World}
 use Rattle.world_sim.specs.Acts.{Act}
 use Rattle.world_sim.specs.Acting.{Acted}
-use Rattle.world_sim.specs.Settling.{IsSettling}
 use Rattle.scenario_cli.specs.declared.verb.Verb.{Verb}
 use Rattle.scenario_cli.specs.declared.verb.Verb.TheVariants as verbs
 use Rattle.scenario_cli.specs.declared.player.Stage.{Stage}
 use Rattle.scenario_cli.specs.Runs.{Prints}
 use Rattle.scenario_cli.specs.Words.{IsLine, IsName, words_of}
 use Rattle.scenario_cli.specs.Scripts.{word_of, number_in, SpellSettings, SpellsAct}
-use Rattle.scenario_cli.specs.Shows.{IsAnswerText, settled_text}
-use Rattle.scenario_cli.specs.Plays.{Play, Entrance, Enters, Performs, Settles, DoesVerb, MayStand, IsOfAct, IsScriptLine, DoesScriptLine}
+use Rattle.scenario_cli.specs.Shows.{IsAnswerText, standings_text}
+use Rattle.scenario_cli.specs.Plays.{Play, Entrance, Enters, Performs, DoesVerb, MayStand, IsOfAct, IsScriptLine, DoesScriptLine, PrintsStandings}
 use Rattle.scenario_cli.specs.Stages.{world_at, has_begun}
 use Rattle.scenario_cli.proofs.Verbs.{one_verb}
 
@@ -26,18 +25,20 @@ play cast world begun = record { cast = cast; world = world; has_begun = begun }
 -- ---- acts
 
 pub performs : (cast : List Text) (stage taken : Stage) (old : Play) (w new : World) (verb : Verb) (act : Act) (answer : Result Shown WorldFault) (text : List ℕ)
-    → play cast (world_at stage) (has_begun stage) ≡ old → taken ≡ stage → w ≡ world_at taken → Acted w act answer new → IsAnswerText verb answer text
+    → play cast (world_at stage) (has_begun stage) ≡ old → taken ≡ stage → w ≡ world_at taken → Acted w act answer new → IsAnswerText verb new answer text
     → Performs verb act old (play cast new true) text
 performs cast stage taken old w new verb act answer text view same is acted shown =
     subst (λ p. Performs verb act p (play cast new true) text) view
     (record { answer = answer; acted = subst (λ v. Acted v act answer new) (is ∙ ap world_at same) acted; after = refl; shown = shown })
 
-pub settles : (cast : List Text) (stage taken : Stage) (old : Play) (w new : World) (answer : Result (Unit {0}) WorldFault) (text : List ℕ)
-    → play cast (world_at stage) (has_begun stage) ≡ old → taken ≡ stage → w ≡ world_at taken → IsSettling w answer new → text ≡ settled_text answer
-    → Settles old (play cast new true) text
-settles cast stage taken old w new answer text view same is settled shown =
-    subst (λ p. Settles p (play cast new true) text) view
-    (record { answer = answer; settled = subst (λ v. IsSettling v answer new) (is ∙ ap world_at same) settled; after = refl; shown = shown })
+-- ---- where the clients stand
+
+pub stands : (cast : List Text) (stage taken : Stage) (old : Play) (w : World) (page before after : List ℕ)
+    → play cast (world_at stage) (has_begun stage) ≡ old → taken ≡ stage → w ≡ world_at taken → page ≡ standings_text cast w.clients
+    → after ≡ before ++ page → Prints (PrintsStandings old) before after
+stands cast stage taken old w page before after view same is put printed =
+    subst (λ p. Prints (PrintsStandings p) before after) view
+    (record { text = page; is_text = put ∙ ap (λ (v : World). standings_text cast v.clients) (is ∙ ap world_at same); printed = printed })
 
 -- ---- clients
 
@@ -91,6 +92,13 @@ pub does_verb : (verb : Verb) (words : List (List ℕ)) (old new : Play) (text :
 does_verb verbs.Client words old new text of act spelled performs = absurd of
 does_verb verbs.Settle words old new text of act spelled performs = absurd of
 does_verb verb words old new text of act spelled performs = (act, spelled, performs)
+
+-- an act of the player, whose view the play is
+pub does_act : (cast : List Text) (stage : Stage) (old new : Play) (verb : Verb) (words : List (List ℕ)) (act : Act) (text : List ℕ)
+    → play cast (world_at stage) (has_begun stage) ≡ old → IsOfAct verb → SpellsAct cast verb words act → Performs verb act old new text
+    → DoesVerb verb words old new text
+does_act cast stage old new verb words act text view of spelled performs =
+    does_verb verb words old new text of act (subst (λ (p : Play). SpellsAct p.cast verb words act) view spelled) performs
 
 pub may_act : (verb : Verb) (words : List (List ℕ)) (p : Play) → IsOfAct verb → MayStand verb words p → (act : Act) × SpellsAct p.cast verb words act
 may_act verbs.Client words p of may = absurd of

@@ -15,7 +15,7 @@ use Rattle.scenario_cli.specs.declared.verb.Verb.{Verb}
 use Rattle.scenario_cli.specs.declared.verb.Verb.TheVariants as verbs
 use Rattle.scenario_cli.specs.Words.{IsLine, IsName, words_of}
 use Rattle.scenario_cli.specs.Scripts.{word_of, number_in, SpellSettings, SpellsAct}
-use Rattle.scenario_cli.specs.Shows.{IsAnswerText, settled_text}
+use Rattle.scenario_cli.specs.Shows.{IsAnswerText, settled_text, standings_text}
 
 pub record Play : Type 0 where
   pub cast : List Text  -- the clients' names, in the order of their numbers
@@ -65,7 +65,7 @@ pub record Performs (verb : Verb) (act : Act) (old new : Play) (text : List ℕ)
   pub answer : Result Shown WorldFault
   pub acted : Acted old.world act answer new.world
   pub after : new ≡ in_world old new.world
-  pub shown : IsAnswerText verb answer text
+  pub shown : IsAnswerText verb new.world answer text
 
 -- the world is settled, and how that went is printed
 pub record Settles (old new : Play) (text : List ℕ) : Type 0 where
@@ -109,3 +109,7 @@ pub record DoesScriptLine (old : Play) (line : List ℕ) (new : Play) (text : Li
   pub words : List (List ℕ)
   pub are : words_of line ≡ word_of verb ∷ words
   pub does : DoesVerb verb words old new text
+
+-- what is printed behind the last line: where the clients stand
+abbrev pub PrintsStandings : Play → List ℕ → Type 0
+PrintsStandings p text = text ≡ standings_text p.cast p.world.clients

@@ -37,7 +37,7 @@ impl Cast {
     pub fn number_of(&self, name: &str) -> usize
         ensures { result ≡ number_in self.now name.now }
     {
-        let names = self.names.as_slice();
+        let names = self.names();
         match place_of(names, name) {
             Some(place) => place + 1,
             None => 0,

@@ -8,6 +8,7 @@
 #![tactic(auto)]
 
 mod act;
+mod answers;
 mod cast;
 mod command_line;
 mod driver;

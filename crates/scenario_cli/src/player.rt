@@ -3,7 +3,7 @@ ghost use Rattle.std.specs.Prelude.{◌≡◌, true, false, map, ◌++◌, ◌�
 ghost use Rattle.member_core.specs.Client.{new_client};
 ghost use Rattle.member_core.specs.Views.{settings_value, HasShortTexts};
 ghost use Rattle.world_sim.specs.Acting.{act_value, HasShortTopics};
-ghost use Rattle.scenario_cli.specs.Plays.{DoesScriptLine, DoesVerb, Entrance, Enters, IsOfAct, IsScriptLine, MayStand, Performs, Settles, new_play};
+ghost use Rattle.scenario_cli.specs.Plays.{DoesScriptLine, DoesVerb, Entrance, Enters, IsOfAct, IsScriptLine, MayStand, Performs, PrintsStandings, Settles, new_play};
 ghost use Rattle.scenario_cli.specs.Runs.{Prints};
 ghost use Rattle.scenario_cli.specs.Stages.{IsShortStage, has_begun, world_at};
 
@@ -175,7 +175,7 @@ impl LineWorker for Player {
 
     ghost takes = { IsScriptLine };
 
-    ghost closes = { λ _ _. Unit {0} };
+    ghost closes = { PrintsStandings };
 
     fn line(&mut self, line: &[u8], output: &mut Output) -> Result<(), LineFault> {
         let words = words::words_of(self.alloc, line)?;

@@ -1,5 +1,5 @@
 //! The subcommand `coord run`.
-ghost use Rattle.scenario_cli.specs.Plays.{DoesScriptLine, IsScriptLine, new_play};
+ghost use Rattle.scenario_cli.specs.Plays.{DoesScriptLine, IsScriptLine, PrintsStandings, new_play};
 ghost use Rattle.scenario_cli.specs.Runs.{RunsScript};
 
 use crate::driver;
@@ -20,7 +20,7 @@ pub fn run_lines<R: Read, W: Write, E: Write>(
     writer: &mut W,
     faults: &mut E,
 ) -> u8
-    ensures { RunsScript DoesScriptLine IsScriptLine (λ _ _. Unit {0}) new_play (R.remaining reader.old)
+    ensures { RunsScript DoesScriptLine IsScriptLine PrintsStandings new_play (R.remaining reader.old)
         (W.contents writer.old, W.contents writer.new) (E.contents faults.old, E.contents faults.new) result }
 {
     let mut player = Player::new(alloc, hasher);

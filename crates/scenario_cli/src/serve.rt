@@ -5,7 +5,7 @@ use crate::service::Service;
 use coord_server::{
     AlwaysOpen, ClockMoments, Moments, Plan, ServerFault, Shards, ShardsDesk, serve_sockets,
 };
-use std::alloc::{AllocError, AllocGlobal};
+use std::alloc::AllocGlobal;
 use std::collections::hash_map::RandomState;
 use std::io;
 use std::io::Write;
@@ -35,8 +35,6 @@ pub enum ServeFault {
     Write(io::Error),
     #[error("serving: {0}")]
     Server(ServerFault),
-    #[error("out of memory")]
-    NoMemory,
 }
 
 /// Serves as it is asked to, over sockets of this machine. What is printed goes to the writer, and a fault is told. Gives the

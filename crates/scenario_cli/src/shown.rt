@@ -1,17 +1,16 @@
 //! What is printed for an act.
 ghost use Rattle.std.specs.Prelude.{◌≡◌, ◌++◌, [], OnOk, OnErr, IfErr};
+ghost use Rattle.world_sim.specs.Standing.{state_value};
 ghost use Rattle.scenario_cli.specs.Runs.{Prints};
 ghost use Rattle.scenario_cli.specs.Shows.{IsAnswerText, IsShownText, refusal, settled_text, state_word};
 
+use crate::answers::{put_commit_reply, put_reply};
 use crate::fault::LineFault;
 use crate::output::Output;
 use crate::page::Page;
-use crate::parts::put_set;
 use crate::verb::Verb;
-use group_types::PartSet;
-use kip_msgs::{Api, Assignment, CommitReply, HeartbeatReply, Reply, TopicPartitions, read_reply};
 use std::alloc::{AllocError, Global};
-use world_sim::{ClientState, Partition, Shown, World, WorldFault};
+use world_sim::{ClientState, Shown, World, WorldFault};
 
 /// Prints the line of an act: what it shows, or the number of the fault for which it was refused.
 pub fn print_answer(
@@ -21,7 +20,7 @@ pub fn print_answer(
     answer: &Result<Shown, WorldFault>,
     output: &mut Output,
 ) -> Result<(), LineFault>
-    ensures printed { OnOk result (Prints (IsAnswerText verb answer.now) output.old output.new) }
+    ensures printed { OnOk result (Prints (IsAnswerText verb world.now answer.now) output.old output.new) }
     ensures err { OnErr result (output.new ≡ output.old) }
     ensures fault { IfErr result (λ fault. fault ≡ LineFault.NoMemory) }
 {
@@ -40,7 +39,7 @@ fn put_answer(
     answer: &Result<Shown, WorldFault>,
 ) -> Result<(), AllocError>
     requires { page.old ≡ [] }
-    ensures { OnOk result (IsAnswerText verb answer.now page.new) }
+    ensures { OnOk result (IsAnswerText verb world.now answer.now page.new) }
 {
     match answer {
         Ok(shown) => put_shown(alloc, page, verb, world, shown),
@@ -84,7 +83,7 @@ fn put_shown(
     shown: &Shown,
 ) -> Result<(), AllocError>
     requires { page.old ≡ [] }
-    ensures { OnOk result (IsShownText verb shown.now page.new) }
+    ensures { OnOk result (IsShownText verb world.now shown.now page.new) }
 {
     match shown {
         Shown::Sent { request } => page.number("sent", *request),
@@ -109,7 +108,7 @@ fn put_refusal(page: &mut Page, fault: WorldFault) -> Result<(), AllocError>
 
 /// The word of a client's state.
 pub fn state_word(state: ClientState) -> &'static str
-    ensures { result.now ≡ state_word state }
+    ensures { result.now ≡ state_word (state_value state) }
 {
     match state {
         ClientState::Outside => "outside",
@@ -117,86 +116,4 @@ pub fn state_word(state: ClientState) -> &'static str
         ClientState::Releasing => "releasing",
         ClientState::Gone => "gone",
     }
-}
-
-/// Puts the line of the reply with a number.
-fn put_reply(
-    alloc: Global,
-    page: &mut Page,
-    world: &World,
-    number: usize,
-) -> Result<(), AllocError> {
-    let Some(body) = world.reply(number) else {
-        return Err(AllocError);
-    };
-    match read_reply(alloc, Api::Heartbeat, body) {
-        Ok(Reply::Heartbeat(_, reply)) => put_heartbeat_reply(alloc, page, number, &reply),
-        _ => Err(AllocError),
-    }
-}
-
-/// Puts the line of a reply to a heartbeat: its number, its code, the member's epoch and the assignment.
-fn put_heartbeat_reply(
-    alloc: Global,
-    page: &mut Page,
-    number: usize,
-    reply: &HeartbeatReply<'_>,
-) -> Result<(), AllocError> {
-    page.put("reply")?;
-    page.number_word(number)?;
-    page.word("code")?;
-    page.number_word(reply.error_code)?;
-    page.word("epoch")?;
-    page.number_word(reply.member_epoch)?;
-    page.word("shows ")?;
-    put_assignment(alloc, page, &reply.assignment)?;
-    page.put("\n")
-}
-
-/// Puts the word of an assignment, which is null where nothing is new.
-fn put_assignment(
-    alloc: Global,
-    page: &mut Page,
-    assignment: &Option<Assignment<'_>>,
-) -> Result<(), AllocError> {
-    match assignment {
-        Some(assignment) => {
-            let set = set_of(alloc, assignment.topic_partitions.as_slice())?;
-            put_set(page, &set)
-        }
-        None => page.put("null"),
-    }
-}
-
-/// The set of all topics' partitions.
-fn set_of(alloc: Global, topics: &[TopicPartitions<'_>]) -> Result<PartSet, AllocError> {
-    let mut partitions = Vec::new(alloc);
-    for topic in topics {
-        for index in topic.partitions.as_slice() {
-            partitions.push(Partition {
-                topic: topic.topic_id,
-                index: *index,
-            })?;
-        }
-    }
-    Ok(PartSet::of_vec(partitions))
-}
-
-/// Puts the line of the reply to a commit.
-fn put_commit_reply(alloc: Global, page: &mut Page, body: &[u8]) -> Result<(), AllocError> {
-    match read_reply(alloc, Api::Commit, body) {
-        Ok(Reply::Commit(_, reply)) => put_codes(page, &reply),
-        _ => Err(AllocError),
-    }
-}
-
-/// Puts the code of each partition of a commit.
-fn put_codes(page: &mut Page, reply: &CommitReply<'_>) -> Result<(), AllocError> {
-    page.put("code")?;
-    for topic in reply.topics.as_slice() {
-        for partition in topic.partitions.as_slice() {
-            page.number_word(partition.error_code)?;
-        }
-    }
-    page.put("\n")
 }

@@ -8,7 +8,7 @@ use Rattle.scenario_cli.proofs.player.Player.perform.Goals as goal
 pub returns-clause-printed : goal.returns-clause-printed
 returns-clause-printed c =
     OnOk-by c.print_answer-printed.result _ _
-    (λ (prints : Prints (IsAnswerText c.args.verb c.act-answer.result) c.args.output.now c.print_answer-printed.new.output).
+    (λ (prints : Prints (IsAnswerText c.args.verb c.act-answer.new.self c.act-answer.result) c.args.output.now c.print_answer-printed.new.output).
     record {
       text = prints.text;
       is_text = performs c.self.inside.cast c.self.inside.stage c.replace-stage.result c.args.self.now c.in_ok-world.world c.act-answer.new.self c.args.verb
