@@ -24,6 +24,7 @@ pub enum Part {
     Joins,
     Ticks,
     Commits,
+    Worlds,
 }
 
 /// What the program does.
@@ -68,6 +69,7 @@ fn part_of(name: &str) -> Result<Part, Fault>
         "joins" => Part::Joins,
         "ticks" => Part::Ticks,
         "commits" => Part::Commits,
+        "worlds" => Part::Worlds,
         _ => return Err(Fault::CommandLine),
     };
     Ok(part)

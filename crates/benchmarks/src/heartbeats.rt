@@ -3,14 +3,15 @@
 use crate::bodies::{Beat, beat_body};
 use crate::command_line::Mode;
 use crate::course::{Course, Runs};
+use crate::dice::Dice;
 use crate::fault::Fault;
 use crate::group::image_of;
-use crate::measured::{Measured, Prepared, id_of, name_of};
+use crate::measured::{Measured, id_of, name_of};
 use crate::pace::Pace;
 use crate::print::{print_course, print_given, print_ratio};
 use crate::table::head_line;
 use group_types::MemberId;
-use std::alloc::Global;
+use std::alloc::{AllocError, Global};
 use std::collections::hash_map::RandomState;
 use std::random::RandomSource;
 use std::rt::Clock;
@@ -28,17 +29,21 @@ struct Steady {
 }
 
 impl Course for Steady {
-    type Ground = Prepared;
+    type Ground = Settled;
 
-    fn ground(&self, alloc: Global) -> Result<Prepared, Fault> {
+    fn ground(&self, alloc: Global) -> Result<Settled, Fault> {
         let image = image_of(alloc, 1, 2)?;
         let mut node = Measured::with_group(alloc, self.hasher, image, self.members)?;
-        let bodies = settled_bodies(alloc, &mut node, self.members)?;
-        Ok(Prepared { node, bodies })
+        let group = name_of(alloc, 0)?;
+        settle(alloc, &mut node, &group, self.members)?;
+        let bodies = steady_bodies(alloc, &group, self.members)?;
+        let mut settled = Settled { node, bodies };
+        settled.answer_in_turn(alloc, u32::from(self.members))?;
+        Ok(settled)
     }
 
-    fn run(&self, alloc: Global, ground: &mut Prepared) -> Result<usize, Fault> {
-        ground.answer_at_random(alloc, self.beats)
+    fn run(&self, alloc: Global, ground: &mut Settled) -> Result<usize, Fault> {
+        ground.answer_in_turn(alloc, self.beats)
     }
 
     fn repetitions(&self) -> u64 {
@@ -46,13 +51,38 @@ impl Course for Steady {
     }
 }
 
-/// The members settle; gives the bodies of a heartbeat of each of them in which nothing is new. Each has been answered once.
-fn settled_bodies(alloc: Global, node: &mut Measured, members: u16) -> Result<Vec<Vec<u8>>, Fault> {
-    let group = name_of(alloc, 0)?;
-    settle(alloc, node, &group, members)?;
-    let bodies = steady_bodies(alloc, &group, members)?;
-    node.answer_all(alloc, bodies.as_slice())?;
-    Ok(bodies)
+/// Bodies of one size, one behind the other: to read the next costs as little as to read what a socket has just brought.
+#[derive(Drop)]
+struct Bodies {
+    bytes: Vec<u8>,
+    size: usize,
+}
+
+/// A node whose members have settled, and the bodies of a heartbeat of each of them in which nothing is new, in an order that looks
+/// random.
+#[derive(Drop)]
+struct Settled {
+    node: Measured,
+    bodies: Bodies,
+}
+
+impl Settled {
+    /// Answers so many of the bodies in turn, and gives how many bytes the replies have. Behind the last body comes the first.
+    fn answer_in_turn(&mut self, alloc: Global, times: u32) -> Result<usize, Fault> {
+        let mut bytes = 0usize;
+        let mut start = 0usize;
+        for _ in 0..times {
+            if self.bodies.bytes.len().saturating_sub(start) < self.bodies.size {
+                start = 0;
+            }
+            let end = start.saturating_add(self.bodies.size);
+            if let Some(body) = self.bodies.bytes.get(start..end) {
+                bytes = bytes.saturating_add(self.node.answer(alloc, body)?);
+            }
+            start = end;
+        }
+        Ok(bytes)
+    }
 }
 
 /// Each member says that it owns nothing, at the epoch at which it joined, and is then at its target.
@@ -70,13 +100,27 @@ fn settle(alloc: Global, node: &mut Measured, group: &MemberId, members: u16) ->
 }
 
 /// The bodies of a heartbeat of each member in which nothing is new.
-fn steady_bodies(alloc: Global, group: &MemberId, members: u16) -> Result<Vec<Vec<u8>>, Fault> {
-    let mut bodies = Vec::new(alloc);
-    for serial in 1..=members {
-        let member = id_of(alloc, u64::from(serial))?;
-        bodies.push(beat_body(alloc, &Beat::steady(group, &member, members))?)?;
+fn steady_bodies(alloc: Global, group: &MemberId, members: u16) -> Result<Bodies, Fault> {
+    let mut bytes = Vec::new(alloc);
+    let mut size = 0;
+    for (_, serial) in &at_random(alloc, members)? {
+        let member = id_of(alloc, u64::from(*serial))?;
+        let body = beat_body(alloc, &Beat::steady(group, &member, members))?;
+        bytes.extend_from_slice(body.as_slice())?;
+        size = body.len();
     }
-    Ok(bodies)
+    Ok(Bodies { bytes, size })
+}
+
+/// The numbers from 1 to so many, in an order that looks random, each behind the number by which it came there.
+fn at_random(alloc: Global, most: u16) -> Result<Vec<(u64, u16)>, AllocError> {
+    let mut dice = Dice::new(848);
+    let mut numbers = Vec::new(alloc);
+    for number in 1..=most {
+        numbers.push((dice.below(u64::MAX), number))?;
+    }
+    numbers.sort()?;
+    Ok(numbers)
 }
 
 /// Prints what steady heartbeats give, or how long one takes in groups of several sizes.

@@ -32,6 +32,7 @@ mod timing;
 mod topics;
 mod wire;
 mod work;
+mod worlds;
 
 use command_line::{Mode, Part, Task};
 use fault::Fault;
@@ -50,7 +51,7 @@ fn main(rt: HostRuntime) -> ExitCode {
 }
 
 /// The parts, in the order in which they are printed.
-const PARTS: [Part; 7] = [
+const PARTS: [Part; 8] = [
     Part::Messages,
     Part::Assignors,
     Part::Images,
@@ -58,6 +59,7 @@ const PARTS: [Part; 7] = [
     Part::Joins,
     Part::Ticks,
     Part::Commits,
+    Part::Worlds,
 ];
 
 /// Prints what the command line asks for.
@@ -97,5 +99,6 @@ fn print_part(
         Part::Joins => joins::print_joins(rt, mode),
         Part::Ticks => ticks::print_ticks(rt, mode),
         Part::Commits => commits::print_commits(rt, mode),
+        Part::Worlds => worlds::print_worlds(rt, mode),
     }
 }

@@ -16,11 +16,12 @@ const SALT: u64 = 0x6b4c_2a9e_5d1f_4c3b;
 /// The first half of the names of groups and instances.
 const NAMES: u64 = 0x1d2e_3f40_5162_7384;
 
-/// A node, the number of its last frame, and its last reply.
+/// A node, the number of its last frame, the moment at which frames come, and the last reply.
 #[derive(Drop)]
 pub struct Measured {
     node: Node,
     frame: u64,
+    now: Moment,
     out: Vec<u8>,
 }
 
@@ -32,6 +33,7 @@ impl Measured {
         Measured {
             node,
             frame: 0,
+            now: Moment::of_millis(0),
             out: Vec::new(alloc),
         }
     }
@@ -58,7 +60,7 @@ impl Measured {
         };
         self.out.clear();
         self.node
-            .answer(alloc, body, stamp, Moment::of_millis(0), &mut self.out)?;
+            .answer(alloc, body, stamp, self.now, &mut self.out)?;
         Ok(self.out.len())
     }
 
@@ -86,6 +88,11 @@ impl Measured {
     pub fn fill(&mut self, alloc: Global, group: &MemberId, members: u16) -> Result<usize, Fault> {
         let body = beat_body(alloc, &Beat::join(group))?;
         self.repeat(alloc, body.as_slice(), u32::from(members))
+    }
+
+    /// From now on frames come at this moment.
+    pub fn pass(&mut self, now: Moment) {
+        self.now = now;
     }
 
     /// The members whose deadline has come at a moment are removed. Gives how many.

@@ -52,11 +52,13 @@ impl Course for Quiet {
     }
 }
 
-/// A tick at which the deadline of each member of a group of so many has come. Gives how many members are removed.
+/// A tick at which the deadline of each member of a group of so many has come, beside others of as many whose deadlines haven't.
+/// Gives how many members are removed.
 #[derive(Clone, Copy)]
 struct Removal {
     hasher: RandomState,
     members: u16,
+    others: u16,
 }
 
 impl Course for Removal {
@@ -64,7 +66,13 @@ impl Course for Removal {
 
     fn ground(&self, alloc: Global) -> Result<Measured, Fault> {
         let image = image_of(alloc, 1, 2)?;
-        Measured::with_group(alloc, self.hasher, image, self.members)
+        let mut node = Measured::with_group(alloc, self.hasher, image, self.members)?;
+        node.pass(Moment::of_millis(LATE));
+        for number in 1..=self.others {
+            let group = name_of(alloc, u64::from(number))?;
+            node.fill(alloc, &group, self.members)?;
+        }
+        Ok(node)
     }
 
     fn run(&self, _alloc: Global, ground: &mut Measured) -> Result<usize, Fault> {
@@ -100,7 +108,13 @@ fn print_counts(rt: &(impl AllocGlobal + Print), hasher: RandomState) -> Result<
         rt,
         "tick, all deadlines, 1 group",
         1_000,
-        &removal_of(hasher, 1_000),
+        &removal_of(hasher, 1_000, 0),
+    )?;
+    print_given(
+        rt,
+        "tick, all deadlines, 1 group of 10",
+        100,
+        &removal_of(hasher, 100, 9),
     )
 }
 
@@ -109,15 +123,40 @@ fn print_times(rt: &(impl AllocGlobal + Clock + Print), hasher: RandomState) -> 
     let few = print_course(rt, name, 1, &quiet_of(hasher, 10_000, 1), Runs::Again(10))?;
     let many = print_course(rt, name, 10, &quiet_of(hasher, 10_000, 10), Runs::Again(10))?;
     print_ratio(rt, "tick, no deadline, 10 members against 1", many, few)?;
+    print_removals(rt, hasher)
+}
+
+/// Prints how long ticks take that remove members: all of a group of 1,000 that is alone, of one of ten such groups, and of a group that has
+/// as many members as those ten.
+fn print_removals(
+    rt: &(impl AllocGlobal + Clock + Print),
+    hasher: RandomState,
+) -> Result<(), Fault> {
     let name = "tick, all deadlines, 1 group";
-    let few = print_course(rt, name, 1_000, &removal_of(hasher, 1_000), Runs::Anew(10))?;
-    let many = print_course(rt, name, 10_000, &removal_of(hasher, 10_000), Runs::Anew(2))?;
-    print_ratio(
+    let alone = print_course(
         rt,
-        "tick, all deadlines, 10000 members against 1000",
-        many,
-        few,
-    )
+        name,
+        1_000,
+        &removal_of(hasher, 1_000, 0),
+        Runs::Anew(10),
+    )?;
+    let of_ten = "tick, all deadlines, 1 group of 10";
+    let one = print_course(
+        rt,
+        of_ten,
+        1_000,
+        &removal_of(hasher, 1_000, 9),
+        Runs::Anew(10),
+    )?;
+    let many = print_course(
+        rt,
+        name,
+        10_000,
+        &removal_of(hasher, 10_000, 0),
+        Runs::Anew(4),
+    )?;
+    print_ratio(rt, "tick, 10000 members against 1000", many, alone)?;
+    print_ratio(rt, "tick, 10000 members against 1000 of 10000", many, one)
 }
 
 fn quiet_of(hasher: RandomState, groups: u16, members: u16) -> Quiet {
@@ -128,6 +167,10 @@ fn quiet_of(hasher: RandomState, groups: u16, members: u16) -> Quiet {
     }
 }
 
-fn removal_of(hasher: RandomState, members: u16) -> Removal {
-    Removal { hasher, members }
+fn removal_of(hasher: RandomState, members: u16, others: u16) -> Removal {
+    Removal {
+        hasher,
+        members,
+        others,
+    }
 }
