@@ -61,7 +61,7 @@ fn partitions_of<'a>(
 }
 
 /// The codes of all partitions, in the reply's order.
-fn tell_codes(reply: &CommitReply<'_>, out: &mut String) -> Result<(), AllocError> {
+pub(super) fn tell_codes(reply: &CommitReply<'_>, out: &mut String) -> Result<(), AllocError> {
     out.push_str("codes:")?;
     for topic in reply.topics.as_slice() {
         for partition in topic.partitions.as_slice() {

@@ -112,7 +112,7 @@ fn new_told(alloc: Global, hasher: RandomState, epoch: i32) -> Result<Told, Allo
 }
 
 /// An image of the topic `t`, whose id is sixteen bytes 0x11.
-fn image_of(alloc: Global, count: i32) -> Result<Image, AllocError> {
+pub(super) fn image_of(alloc: Global, count: i32) -> Result<Image, AllocError> {
     let topic = TopicEntry {
         name: String::from_str(alloc, "t")?,
         id: topic_id(),
@@ -332,7 +332,7 @@ pub(super) fn tell_group(group: &Group, out: &mut String) -> Result<(), AllocErr
     Ok(())
 }
 
-fn tell_member(group: &Group, id: &str, out: &mut String) -> Result<(), AllocError> {
+pub(super) fn tell_member(group: &Group, id: &str, out: &mut String) -> Result<(), AllocError> {
     let Some((epoch, previous)) = group.epochs(id) else {
         return out.push_str(if group.remembers(id) { "past" } else { "-" });
     };

@@ -150,12 +150,14 @@ fn names_in(alloc: Global, words: &str) -> Result<NameSet, AllocError> {
     Ok(names)
 }
 
-fn entry_of(alloc: Global, name: &str, id: Uuid, count: i32) -> Result<TopicEntry, AllocError> {
+/// A topic of an image.
+pub fn entry_of(alloc: Global, name: &str, id: Uuid, count: i32) -> Result<TopicEntry, AllocError> {
     let name = String::from_str(alloc, name)?;
     Ok(TopicEntry { name, id, count })
 }
 
-fn image_of(alloc: Global, list: Vec<TopicEntry>) -> Result<Image, AllocError> {
+/// An image of topics that it can have.
+pub fn image_of(alloc: Global, list: Vec<TopicEntry>) -> Result<Image, AllocError> {
     Image::of(alloc, list).map_err(|_| AllocError)
 }
 

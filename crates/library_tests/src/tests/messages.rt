@@ -19,7 +19,7 @@ use std::test::Fail;
 /// A body is hex or a name; behind it may stand AT:HEX for other bytes from a place on.
 const TABLE: &str = r#"
 api_of - = Wire(Short)
-api_of 00 = Wire(Short)
+api_of one_byte = Wire(Short)
 # key 18, whatever stands behind it
 api_of 0012 = UnknownApi
 api_of 00120000 = UnknownApi
@@ -36,7 +36,7 @@ api_of 0008000900000008 = Commit before 00000008
 apis = Heartbeat 68 0 Some(Heartbeat), Commit 8 9 Some(Commit), -8 None
 
 request - = Wire(Short)
-request 00 = Wire(Short)
+request one_byte = Wire(Short)
 request 0012 = UnknownApi
 request 00120000 = UnknownApi
 request fff80009 = UnknownApi
@@ -166,6 +166,7 @@ fn text_of(name: &str) -> &str {
         "taken" => bodies::TAKEN,
         "full_commit_reply" => bodies::FULL_COMMIT_REPLY,
         "-" => "",
+        "one_byte" => "00",
         word => word,
     }
 }

@@ -160,7 +160,7 @@ fn said(alloc: Global, hasher: RandomState, row: &Row) -> Result<String, AllocEr
 }
 
 /// A node with no groups over the topic `t` of two partitions.
-fn node_over(alloc: Global, hasher: RandomState) -> Result<Node, AllocError> {
+pub(super) fn node_over(alloc: Global, hasher: RandomState) -> Result<Node, AllocError> {
     let image = image(alloc)?;
     let mut node = Node::new(alloc, 0, hasher);
     node.set_image(image);
