@@ -32,10 +32,8 @@ impl Course for Steady {
     type Ground = Settled;
 
     fn ground(&self, alloc: Global) -> Result<Settled, Fault> {
-        let image = image_of(alloc, 1, 2)?;
-        let mut node = Measured::with_group(alloc, self.hasher, image, self.members)?;
         let group = name_of(alloc, 0)?;
-        settle(alloc, &mut node, &group, self.members)?;
+        let node = settled_node(alloc, self.hasher, &group, self.members)?;
         let bodies = steady_bodies(alloc, &group, self.members)?;
         let mut settled = Settled { node, bodies };
         settled.answer_in_turn(alloc, u32::from(self.members))?;
@@ -83,6 +81,19 @@ impl Settled {
         }
         Ok(bytes)
     }
+}
+
+/// A node with one group of so many members over a topic of two partitions, each of which is at its target.
+fn settled_node(
+    alloc: Global,
+    hasher: RandomState,
+    group: &MemberId,
+    members: u16,
+) -> Result<Measured, Fault> {
+    let image = image_of(alloc, 1, 2)?;
+    let mut node = Measured::with_group(alloc, hasher, image, members)?;
+    settle(alloc, &mut node, group, members)?;
+    Ok(node)
 }
 
 /// Each member says that it owns nothing, at the epoch at which it joined, and is then at its target.

@@ -10,6 +10,7 @@ use crate::table::head_line;
 use coord_node::Moment;
 use std::alloc::Global;
 use std::collections::hash_map::RandomState;
+use std::ops::RangeInclusive;
 use std::random::RandomSource;
 use std::rt::Clock;
 
@@ -32,10 +33,7 @@ impl Course for Quiet {
 
     fn ground(&self, alloc: Global) -> Result<Measured, Fault> {
         let mut node = Measured::new(alloc, self.hasher, image_of(alloc, 1, 2)?);
-        for number in 0..self.groups {
-            let group = name_of(alloc, u64::from(number))?;
-            node.fill(alloc, &group, self.members)?;
-        }
+        fill_groups(alloc, &mut node, 1..=self.groups, self.members)?;
         Ok(node)
     }
 
@@ -68,10 +66,7 @@ impl Course for Removal {
         let image = image_of(alloc, 1, 2)?;
         let mut node = Measured::with_group(alloc, self.hasher, image, self.members)?;
         node.pass(Moment::of_millis(LATE));
-        for number in 1..=self.others {
-            let group = name_of(alloc, u64::from(number))?;
-            node.fill(alloc, &group, self.members)?;
-        }
+        fill_groups(alloc, &mut node, 1..=self.others, self.members)?;
         Ok(node)
     }
 
@@ -82,6 +77,20 @@ impl Course for Removal {
     fn repetitions(&self) -> u64 {
         1
     }
+}
+
+/// Puts groups of so many members into a node, under the names of these numbers.
+fn fill_groups(
+    alloc: Global,
+    node: &mut Measured,
+    numbers: RangeInclusive<u16>,
+    members: u16,
+) -> Result<(), Fault> {
+    for number in numbers {
+        let group = name_of(alloc, u64::from(number))?;
+        node.fill(alloc, &group, members)?;
+    }
+    Ok(())
 }
 
 /// Prints what ticks give, or how long they take.
