@@ -120,7 +120,7 @@ pub fn take_out_at(members: &mut Table, by_id: &mut VecDeque<usize>, rank: usize
     entry
 }
 
-/// The last place, found by the text of the member there, gets another number.
+/// The last place gets another number.
 fn renumber(members: &Table, places: &mut VecDeque<usize>, to: usize)
     requires some { 0 < index_map_len members.now }
     requires distinct { IsUnique string_eq members.now }
@@ -128,13 +128,32 @@ fn renumber(members: &Table, places: &mut VecDeque<usize>, to: usize)
     ensures numbered { places.new.items ≡ map (renumbered (index_map_len members.now - 1) to) places.old.items }
     ensures room { deque_capacity places.new ≡ deque_capacity places.old }
 {
+    let rank = last_rank(members, places);
+    places[rank] = to;
+}
+
+/// The rank of the last place: where members that joined in the order of their ids leave in that order, it is as far behind the
+/// first rank as its number is above the first number. Where it isn't there, it is found by the text of the member.
+fn last_rank(members: &Table, places: &VecDeque<usize>) -> usize
+    requires some { 0 < index_map_len members.now }
+    requires order { IsIdOrder (texts_in members.now.entries) places.now.items }
+    ensures { IsRank (texts_in members.now.entries) places.now.items (text_at (texts_in members.now.entries) (index_map_len members.now - 1)) (Ok result) }
+{
+    let last = members.len() - 1;
+    let guess = match places.front() {
+        Some(first) => last.saturating_sub(*first),
+        None => last,
+    };
+    if guess < places.len() && places[guess] == last {
+        return guess;
+    }
     let Some((text, _)) = members.last() else {
         unreachable!()
     };
     let Ok(rank) = rank_of(members, places, text.as_str()) else {
         unreachable!()
     };
-    places[rank] = to;
+    rank
 }
 
 /// The places of the members before an id, and those of the members behind it, in the order of ids.
