@@ -1,6 +1,6 @@
 //! Who owns which partition.
 
-ghost use Rattle.std.specs.Prelude.{◌≡◌, ◌<◌, ◌∷◌, Err, IfSome, IsPermutation, MatchOption, Some, false, vec_capacity, vec_len};
+ghost use Rattle.std.specs.Prelude.{◌≡◌, ◌<◌, ◌∷◌, Err, IfOk, IfSome, IsPermutation, MatchOption, Some, false, vec_capacity, vec_len};
 ghost use Rattle.std.specs.Bool.{OnTrue};
 ghost use Rattle.std.specs.Ordering.{is_lt};
 ghost use Rattle.std.specs.FinMap as finite;
@@ -10,7 +10,7 @@ ghost use Rattle.group_types.specs.Text.{Text, text_cmp};
 ghost use Rattle.range_assign.specs.Shares.{AreInIdOrder, AreShares, HasNoShare, IdsRise, IsPlace, TakesShare, share_in, shares_in, spread_of};
 
 use group_types::{MemberId, PartSet};
-use std::alloc::Global;
+use std::alloc::{AllocError, Global};
 use std::marker::Model;
 
 /// The partitions of one member.
@@ -18,6 +18,18 @@ use std::marker::Model;
 pub struct Share {
     pub id: MemberId,
     pub set: PartSet,
+}
+
+impl Share {
+    /// A copy of the share. Fails where memory is short.
+    pub fn copy(&self, alloc: Global) -> Result<Share, AllocError>
+        ensures { IfOk result (λ copy. share_in copy ≡ share_in self.now) }
+    {
+        Ok(Share {
+            id: self.id.copy(alloc)?,
+            set: self.set.copy(alloc)?,
+        })
+    }
 }
 
 /// Who owns which partition: each partition has at most one owner.
@@ -59,6 +71,22 @@ impl Spread {
         let mut shares = shares;
         shares.sort_unstable_by(|a, b| a.id.compare(b.id.as_str()));
         Spread { shares }
+    }
+
+    /// The members' shares, in the order of their ids.
+    pub fn shares(&self) -> &[Share]
+        ensures spread { spread_of (shares_in result.now) ≡ self.now }
+        ensures apart { AreShares (shares_in result.now) }
+    {
+        self.shares.as_slice()
+    }
+
+    /// An equal spread, each set of which is copied as it stands. Fails where memory is short.
+    pub fn copy(&self, alloc: Global) -> Result<Spread, AllocError>
+        ensures { IfOk result (λ copy. copy ≡ self.now) }
+    {
+        let shares = copies(alloc, &self.shares)?;
+        Ok(Spread { shares })
     }
 
     /// The partitions of the member with this id. A member that owns none has no set or an empty one. Takes no memory.
@@ -113,6 +141,17 @@ impl Spread {
             put_share(&mut self.shares, Share { id: new, set });
         }
     }
+}
+
+/// A copy of each share, in their order.
+fn copies(alloc: Global, shares: &[Share]) -> Result<Vec<Share>, AllocError>
+    ensures { IfOk result (λ copies. shares_in copies.items ≡ shares_in shares.now) }
+{
+    let mut copies = Vec::with_capacity(alloc, shares.len())?;
+    for share in shares {
+        copies.push(share.copy(alloc)?)?;
+    }
+    Ok(copies)
 }
 
 /// Takes the share with this id out, if there is one.

@@ -1,4 +1,5 @@
 pub mod Lists
+pub mod Owned
 pub mod Owners
 pub mod PartitionOrder
 pub mod Soundness
@@ -27,3 +28,5 @@ pub mod Firsts
 pub mod Ranked
 pub mod Queued
 pub mod Located
+pub mod Staying
+pub mod Turned

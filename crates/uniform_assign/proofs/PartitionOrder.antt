@@ -37,7 +37,7 @@ topic_from view t e is =
     let same = get_or_from_slice_get (finite.entries view) t e e is in
     ap (λ x. finite.get view x.0) (sym same) ∙ get-at view t e (slice_get_within (finite.entries view) t e is) ∙ ap (λ x. Some x.1) same
 
-index_of : (z : ℤ) (count : ℕ) → IsIndex z count → (i : ℕ) × (z ≡ pos i) × (i < count)
+pub index_of : (z : ℤ) (count : ℕ) → IsIndex z count → (i : ℕ) × (z ≡ pos i) × (i < count)
 index_of (pos i) count is = (i, refl, is)
 index_of (negsuc i) count is = absurd is
 

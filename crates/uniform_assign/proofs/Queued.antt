@@ -14,7 +14,9 @@ use Rattle.uniform_assign.specs.declared.ranking.Rank.{Rank}
 use Rattle.uniform_assign.specs.declared.ranking.Ranking.{Ranking}
 use Rattle.uniform_assign.specs.Boards.{AreTakersOf, IsBoard, Rises, members_on}
 use Rattle.uniform_assign.specs.Drafts.{AreCounts, IsDraft, IsLeast}
-use Rattle.uniform_assign.specs.Rankings.{AreRankings, IsLeastAt, IsOfTopic, IsRanking, IsRankingOf, counts_of}
+use Rattle.uniform_assign.specs.declared.wheel.Wheel.{Wheel}
+use Rattle.uniform_assign.specs.Wheels.{IsWheel, IsWheelOf}
+use Rattle.uniform_assign.specs.Rankings.{AreRankings, IsLeastAt, IsOfTopic, IsRanking, counts_of}
 use Rattle.uniform_assign.proofs.Boards.{IsAt, at_place, least-within, taker_here}
 use Rattle.uniform_assign.proofs.Counts.{AreCounts-given, cases_equal}
 use Rattle.uniform_assign.proofs.Kept.{slice_get-set_other, slice_get-set_same}
@@ -51,6 +53,20 @@ IsRanking-same old new nodes long same is = record {
   matches = λ i positive within. is.matches i positive (omega arith);
 }
 
+-- two lists that have the same are one
+same_lists : (old new : List ℕ) → length new ≡ length old → ((k n : ℕ) → slice_get new k ≡ Some n → slice_get old k ≡ Some n) → old ≡ new
+same_lists [] [] long same = refl
+same_lists [] (y ∷ ys) long same = absurd (omega arith)
+same_lists (x ∷ xs) [] long same = absurd (omega arith)
+same_lists (x ∷ xs) (y ∷ ys) long same =
+    let head : x ≡ y = same_Some x y (same 0 y refl) in
+    let tail = same_lists xs ys (omega arith) (λ k. same (suc k)) in
+    λ i. head i ∷ tail i
+
+-- a wheel is one of counts that are the same
+IsWheel-same : (old new : List ℕ) (wheel : Wheel) → length new ≡ length old → ((k n : ℕ) → slice_get new k ≡ Some n → slice_get old k ≡ Some n) → IsWheel old wheel → IsWheel new wheel
+IsWheel-same old new wheel long same is = subst (λ counts. IsWheel counts wheel) (same_lists old new long same) is
+
 -- the counts of the same owners are the same
 same_counts : (owners : List (Option ℕ)) (one other : List ℕ) (m : ℕ) → AreCounts owners one → AreCounts owners other → m < length one → m < length other → get_or one m 0 ≡ get_or other m 0
 same_counts owners one other m a b low high = a.counted m low ∙ sym (b.counted m high)
@@ -64,14 +80,14 @@ module _ (owners : List (Option ℕ)) (counts new takers : List ℕ) (at k m : �
       same_counts (set_at owners at (Some m)) new (set_at counts m (get_or counts m 0 + 1)) t after (AreCounts-given owners counts at m are free low) (omega arith) (omega arith)
       ∙ get_or-set_other counts m t (get_or counts m 0 + 1) 0 apart
 
-  pub IsRanking-given : (nodes : List Rank) → AreOnce takers → ((j t : ℕ) → slice_get takers j ≡ Some t → t < length counts) → slice_get takers k ≡ Some m
-      → IsRanking (set_at (counts_of counts takers) k (get_or new m 0)) nodes → IsRanking (counts_of new takers) nodes
-  IsRanking-given nodes once within is_m is =
+  pub IsWheel-given : (wheel : Wheel) → AreOnce takers → ((j t : ℕ) → slice_get takers j ≡ Some t → t < length counts) → slice_get takers k ≡ Some m
+      → IsWheel (set_at (counts_of counts takers) k (get_or new m 0)) wheel → IsWheel (counts_of new takers) wheel
+  IsWheel-given wheel once within is_m is =
       let long = length-map takers (λ t. get_or new t 0) in
       let old_long = length-map takers (λ t. get_or counts t 0) in
       let set_long = length-set (counts_of counts takers) k (get_or new m 0) in
       let here = slice_get_within takers k m is_m in
-      IsRanking-same (set_at (counts_of counts takers) k (get_or new m 0)) (counts_of new takers) nodes (omega arith) (λ j n is_n.
+      IsWheel-same (set_at (counts_of counts takers) k (get_or new m 0)) (counts_of new takers) wheel (omega arith) (λ j n is_n.
       let (t, is_t, same) = slice_get-map_from (λ t. get_or new t 0) takers j n is_n in
       elim (cases_equal j k) [
         | inl equal ↦
@@ -87,44 +103,51 @@ module _ (owners : List (Option ℕ)) (counts new takers : List ℕ) (at k m : �
       ])
       is
 
+  -- the taker has one more
+  pub more_given : get_or new m 0 ≡ get_or counts m 0 + 1
+  more_given =
+      let long = length-set counts m (get_or counts m 0 + 1) in
+      same_counts (set_at owners at (Some m)) new (set_at counts m (get_or counts m 0 + 1)) m after (AreCounts-given owners counts at m are free low) (omega arith) (omega arith)
+      ∙ get_or-set_same counts m (get_or counts m 0 + 1) 0 low
+
 -- ---- the queue of a partition's topic
 
 -- the takers of the partition's topic, whose queue it is
-pub record IsQueued (board : Board) (draft : Draft) (at topic : ℕ) (nodes : List Rank) : Type 0 where
+pub record IsQueued (board : Board) (draft : Draft) (at topic : ℕ) (wheel : Wheel) : Type 0 where
   pub place : Place
   pub is_at : IsAt board at place
   pub are_takers : slice_get board.takers.items topic ≡ Some is_at.takers
-  pub ranking : IsRanking (counts_of draft.counts.items is_at.takers.items) nodes
+  pub wheel_of : IsWheel (counts_of draft.counts.items is_at.takers.items) wheel
 
-pub IsQueued-of : (board : Board) (draft : Draft) (at topic : ℕ) (ranking : Ranking) → IsBoard board → IsOfTopic board at topic → IsRankingOf board draft topic ranking → IsQueued board draft at topic ranking.nodes.items
-IsQueued-of board draft at topic ranking is (place, is_place, same) of =
+pub IsQueued-of : (board : Board) (draft : Draft) (at topic : ℕ) (wheel : Wheel) → IsBoard board → IsOfTopic board at topic → IsWheelOf board draft topic wheel → IsQueued board draft at topic wheel
+IsQueued-of board draft at topic wheel is (place, is_place, same) of =
     let here = at_place board is at place is_place in
     let are = ap (slice_get board.takers.items) (sym same) ∙ here.are_there in
-    record { place = place; is_at = here; are_takers = are; ranking = of here.takers are }
+    record { place = place; is_at = here; are_takers = are; wheel_of = of here.takers are }
 
 -- the first in the queue
-pub record IsFirstIn (board : Board) (draft : Draft) (at topic : ℕ) (nodes : List Rank) (k m : ℕ) : Type 0 where
-  pub queued : IsQueued board draft at topic nodes
+pub record IsFirstIn (board : Board) (draft : Draft) (at topic : ℕ) (wheel : Wheel) (k m : ℕ) : Type 0 where
+  pub queued : IsQueued board draft at topic wheel
   pub is_taker : slice_get queued.is_at.takers.items k ≡ Some m
   pub least : IsLeast draft.counts.items queued.is_at.takers.items m
   pub member : Subscriber
   pub is_member : slice_get (members_on board) m ≡ Some member
   pub within : m < length draft.counts.items
-  pub room : k + k + 1 < length nodes
+  pub room : k < length wheel.counts.items
 
-pub first-within : (board : Board) (draft : Draft) (at topic k : ℕ) (nodes : List Rank) → (queued : IsQueued board draft at topic nodes) → IsLeastAt (counts_of draft.counts.items queued.is_at.takers.items) k → k < length queued.is_at.takers.items
-first-within board draft at topic k nodes queued least =
+pub first-within : (board : Board) (draft : Draft) (at topic k : ℕ) (wheel : Wheel) → (queued : IsQueued board draft at topic wheel) → IsLeastAt (counts_of draft.counts.items queued.is_at.takers.items) k → k < length queued.is_at.takers.items
+first-within board draft at topic k wheel queued least =
     let long = length-map queued.is_at.takers.items (λ u. get_or draft.counts.items u 0) in let low = least.within in omega arith
 
-pub IsFirstIn-of : (board : Board) (draft : Draft) (at topic k m : ℕ) (nodes : List Rank) → IsDraft board draft → (queued : IsQueued board draft at topic nodes) → IsLeastAt (counts_of draft.counts.items queued.is_at.takers.items) k
-    → slice_get queued.is_at.takers.items k ≡ Some m → IsFirstIn board draft at topic nodes k m
-IsFirstIn-of board draft at topic k m nodes are queued least is_m =
+pub IsFirstIn-of : (board : Board) (draft : Draft) (at topic k m : ℕ) (wheel : Wheel) → IsDraft board draft → (queued : IsQueued board draft at topic wheel) → IsLeastAt (counts_of draft.counts.items queued.is_at.takers.items) k
+    → slice_get queued.is_at.takers.items k ≡ Some m → IsFirstIn board draft at topic wheel k m
+IsFirstIn-of board draft at topic k m wheel are queued least is_m =
     let takers = queued.is_at.takers.items in
     let is_least = IsLeast-ranked draft.counts.items takers k m least is_m in
     let (s, is_s) = least-within (members_on board) queued.is_at.topic.0 draft.counts.items takers m queued.is_at.are_takers is_least in
     let low = slice_get_within (members_on board) m s is_s in
     let many = are.as_many_counts in
-    let twice = queued.ranking.are_ranks.as_many in
+    let many_counts = ap length queued.wheel_of.same in
     let inside = least.within in
     record { queued = queued; is_taker = is_m; least = is_least; member = s; is_member = is_s; within = omega arith; room = omega arith }
 

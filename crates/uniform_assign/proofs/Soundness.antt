@@ -129,17 +129,17 @@ module _ (view : Topics) (subs : List Subscriber) where
       AreMoves-keeps uniform.filled spread uniform.steps p uniform.are_moves
       (AreFilled-owned uniform.kept uniform.filled (in_partition_order view) taken.place j (taken.name, p) taken.member uniform.are_filled taken.is_there takes)
 
-  lawful_of : (spread : Spread) → OwnersSubscribe view subs spread → ((p : Partition) (id : Text) → IsSubscriber view subs p id → IsOwned spread p) → IsLawful view subs spread
+  pub lawful_of : (spread : Spread) → OwnersSubscribe view subs spread → ((p : Partition) (id : Text) → IsSubscriber view subs p id → IsOwned spread p) → IsLawful view subs spread
   lawful_of spread all owned p =
       elim (finite.get spread p) as (λ o. finite.get spread p ≡ o → MatchOption o ((id : Text) → ¬ IsSubscriber view subs p id) (IsSubscriber view subs p)) [
         | None ↦ λ none id subscribes. let owner = owned p id subscribes in let is = owner.1 in cc
         | Some id ↦ λ is. all p id is
       ] refl
 
-  lawful_subscribe : (spread : Spread) → IsLawful view subs spread → OwnersSubscribe view subs spread
+  pub lawful_subscribe : (spread : Spread) → IsLawful view subs spread → OwnersSubscribe view subs spread
   lawful_subscribe spread lawful p id is = subst (λ o. MatchOption o ((id : Text) → ¬ IsSubscriber view subs p id) (IsSubscriber view subs p)) is (lawful p)
 
-  lawful_none : (spread : Spread) (p : Partition) (id : Text) → IsLawful view subs spread → finite.get spread p ≡ None → IsSubscriber view subs p id → ⊥
+  pub lawful_none : (spread : Spread) (p : Partition) (id : Text) → IsLawful view subs spread → finite.get spread p ≡ None → IsSubscriber view subs p id → ⊥
   lawful_none spread p id lawful none = subst (λ o. MatchOption o ((id : Text) → ¬ IsSubscriber view subs p id) (IsSubscriber view subs p)) none (lawful p) id
 
   -- where the owners subscribe, a subscriber with two fewer could take the partition

@@ -1,4 +1,5 @@
 pub mod Laws
+pub mod Marks
 pub mod Boards
 pub mod Drafts
 pub mod Former
@@ -6,3 +7,4 @@ pub mod Moves
 pub mod Hands
 pub mod Piles
 pub mod Rankings
+pub mod Wheels

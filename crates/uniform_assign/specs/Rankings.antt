@@ -3,7 +3,6 @@ use Rattle.std.specs.Prelude.{◌≡◌, ◌⊎◌, ℕ, ◌+◌, ◌<◌, ◌�
 use Rattle.std.specs.Global.{Vec}
 use Rattle.uniform_assign.specs.declared.board.Board.{Board}
 use Rattle.uniform_assign.specs.declared.board.Place.{Place}
-use Rattle.uniform_assign.specs.declared.draft.Draft.{Draft}
 use Rattle.uniform_assign.specs.declared.ranking.Rank.{Rank}
 use Rattle.uniform_assign.specs.declared.ranking.Ranking.{Ranking}
 
@@ -58,11 +57,6 @@ IsLeastPlace counts o = MatchOption o (counts ≡ []) (IsLeastAt counts)
 -- the takers' counts
 abbrev pub counts_of : List ℕ → List ℕ → List ℕ
 counts_of counts takers = map (slice_index counts) takers
-
--- the ranking is of the topic's takers
-abbrev pub IsRankingOf : Board → Draft → ℕ → Ranking → Type 0
-IsRankingOf board draft topic ranking =
-    (takers : Vec ℕ) → slice_get board.takers.items topic ≡ Some takers → IsRanking (counts_of draft.counts.items takers.items) ranking.nodes.items
 
 -- the partition at a place is of the topic
 abbrev pub IsOfTopic : Board → ℕ → ℕ → Type 0

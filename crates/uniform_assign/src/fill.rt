@@ -6,18 +6,19 @@ ghost use Rattle.group_types.specs.Text.{Text};
 ghost use Rattle.group_types.specs.Uniform.{AreFilled, Fills, in_partition_order};
 ghost use Rattle.uniform_assign.specs.Boards.{IsBoard, members_on};
 ghost use Rattle.uniform_assign.specs.Drafts.{IsDraft, drawn_on};
-ghost use Rattle.uniform_assign.specs.Rankings.{IsOfTopic, IsRankingOf};
+ghost use Rattle.uniform_assign.specs.Rankings.{IsOfTopic};
+ghost use Rattle.uniform_assign.specs.Wheels.{IsWheelOf};
 
 use crate::board::Board;
 use crate::draft::Draft;
-use crate::ranking::Ranking;
+use crate::wheel::Wheel;
 use std::alloc::{AllocError, Global};
 
-/// The subscribers of a topic, by their places among its takers, in the order of their counts.
+/// The subscribers of a topic, by their places among its takers, in turn by their counts.
 #[derive(Drop)]
 struct Queue {
     topic: usize,
-    ranking: Ranking,
+    wheel: Wheel,
 }
 
 impl Board<'_> {
@@ -32,8 +33,10 @@ impl Board<'_> {
     {
         let mut queue = Queue {
             topic: self.takers.len(),
-            ranking: Ranking {
-                nodes: Vec::new(alloc),
+            wheel: Wheel {
+                counts: Vec::new(alloc),
+                turn: 0,
+                level: 0,
             },
         };
         for (at, place) in self.places.iter().enumerate() {
@@ -56,12 +59,12 @@ impl Board<'_> {
         requires board { IsBoard self.now }
         requires draft { IsDraft self.now draft.now }
         requires topic_in { topic < length self.now.takers.items }
-        requires queue { IsRankingOf self.now draft.now queue.old.topic queue.old.ranking }
+        requires queue { IsWheelOf self.now draft.now queue.old.topic queue.old.wheel }
         ensures topic { OnOk result (queue.new.topic ≡ topic) }
-        ensures queue { OnOk result (IsRankingOf self.now draft.now topic queue.new.ranking) }
+        ensures queue { OnOk result (IsWheelOf self.now draft.now topic queue.new.wheel) }
     {
         if queue.topic != topic {
-            queue.ranking = Ranking::of(alloc, &draft.counts, &self.takers[topic])?;
+            queue.wheel = Wheel::of(alloc, &draft.counts, &self.takers[topic])?;
             queue.topic = topic;
         }
         Ok(())
@@ -73,17 +76,17 @@ impl Board<'_> {
         requires draft { IsDraft self.now draft.old }
         requires free { slice_get draft.old.owners.items at ≡ Some None }
         requires topic { IsOfTopic self.now at queue.old.topic }
-        requires queue { IsRankingOf self.now draft.old queue.old.topic queue.old.ranking }
+        requires queue { IsWheelOf self.now draft.old queue.old.topic queue.old.wheel }
         ensures draft { IsDraft self.now draft.new }
         ensures topic { queue.new.topic ≡ queue.old.topic }
-        ensures queue { IsRankingOf self.now draft.new queue.old.topic queue.new.ranking }
+        ensures queue { IsWheelOf self.now draft.new queue.old.topic queue.new.wheel }
         ensures filled { (x : Text × Key) → slice_get (in_partition_order self.now.view.now) at ≡ Some x
             → Fills (members_on self.now) (drawn_on self.now draft.old.owners.items) x (drawn_on self.now draft.new.owners.items) }
     {
-        if let Some(first) = queue.ranking.first() {
+        if let Some(first) = queue.wheel.first() {
             let member = self.takers[queue.topic][first];
             draft.give(at, member);
-            queue.ranking.set(first, draft.counts[member]);
+            queue.wheel.set(first, draft.counts[member]);
         }
     }
 }

@@ -10,6 +10,7 @@ mod fill;
 mod former;
 mod givers;
 mod keep;
+mod lawful;
 mod laws;
 mod least;
 mod level;
@@ -19,8 +20,10 @@ mod ranking;
 mod rankings;
 mod settle;
 mod shares;
+mod stay;
 mod takers;
 mod uniform;
+mod wheel;
 
 pub use laws::{
     lawful_and_even_owners_stay, uniform_is_even, uniform_is_lawful, uniform_is_one_spread,

@@ -5,6 +5,7 @@ ghost use Rattle.group_types.specs.Owners.{IsLawful};
 ghost use Rattle.group_types.specs.Uniform.{IsEven, IsUniform};
 
 use crate::board::Board;
+use crate::stay::stay;
 use range_assign::{Assignor, Spread, Subs};
 use std::alloc::{AllocError, Global};
 use topic_meta::View;
@@ -30,9 +31,24 @@ impl Assignor for Uniform {
         ensures stays { IsLawful view.now subs.now former.now → IsEven view.now subs.now former.now
             → IfOk result (λ spread. spread ≡ former.now) }
     {
-        let mut board = Board::of(alloc, subs, view)?;
-        let mut draft = board.kept(alloc, former)?;
-        board.settle(alloc, &mut draft)?;
-        Ok(Spread::of(board.shares(alloc, &draft)?))
+        if stay(alloc, former, subs, view)? {
+            return former.copy(alloc);
+        }
+        assigned(alloc, former, subs, view)
     }
+}
+
+/// The owners under the rule, worked out on a board.
+fn assigned(
+    alloc: Global,
+    former: &Spread,
+    subs: &Subs<'_>,
+    view: &View,
+) -> Result<Spread, AllocError>
+    ensures { IfOk result (λ spread. IsUniform view.now subs.now former.now spread) }
+{
+    let mut board = Board::of(alloc, subs, view)?;
+    let mut draft = board.kept(alloc, former)?;
+    board.settle(alloc, &mut draft)?;
+    Ok(Spread::of(board.shares(alloc, &draft)?))
 }

@@ -8,7 +8,7 @@ use Rattle.group_types.specs.Uniform.{AreFilled, in_partition_order}
 use Rattle.uniform_assign.specs.declared.draft.Draft.{Draft}
 use Rattle.uniform_assign.specs.declared.fill.Queue.{Queue}
 use Rattle.uniform_assign.specs.Drafts.{IsDraft, drawn_on}
-use Rattle.uniform_assign.specs.Rankings.{IsRankingOf}
+use Rattle.uniform_assign.specs.Wheels.{IsWheelOf}
 use Rattle.uniform_assign.proofs.Boards.{as_many_places, at_place, place_here}
 use Rattle.uniform_assign.proofs.Filled.{AreFilled-next, Fills-owned}
 use Rattle.uniform_assign.proofs.board.Board.fill.Goals as goal
@@ -77,18 +77,18 @@ loop-at-preserved c =
           let given = w.give_first.ensures in
           let new = w.give_first.new.draft in
           let turned = w.give_first.new.queue in
-          let ranked = subst (λ t. IsRankingOf board new t turned.ranking) (sym given.topic) given.queue in (
+          let ranked = subst (λ t. IsWheelOf board new t turned.wheel) (sym given.topic) given.queue in (
             subst (IsDraft board) (sym w.draft-is) given.draft,
             subst (λ (d : Draft). AreFilled subs first (take (n + 1) parts) (drawn_on board d.owners.items)) (sym w.draft-is)
                 (AreFilled-next subs first spread (drawn_on board new.owners.items) parts n x at.is_part filled (given.filled x at.is_part)),
-            subst (λ (q : Queue). IsRankingOf board c.if-is_none.draft q.topic q.ranking) (sym w.queue-is) (subst (λ (d : Draft). IsRankingOf board d turned.topic turned.ranking) (sym w.draft-is) ranked),
+            subst (λ (q : Queue). IsWheelOf board c.if-is_none.draft q.topic q.wheel) (sym w.queue-is) (subst (λ (d : Draft). IsWheelOf board d turned.topic turned.wheel) (sym w.draft-is) ranked),
           )
       | else-is_none w ↦
           let (m, is_m) = some_owner c.index.result.now c.is_none.result c.is_none.ensures w.if-is_none.false in
           let fills = Fills-owned board draft c.requires.board.bare is_draft n x at.is_part m (owner ∙ ap Some is_m) in (
             subst (IsDraft board) (sym w.draft-is) is_draft,
             subst (λ (d : Draft). AreFilled subs first (take (n + 1) parts) (drawn_on board d.owners.items)) (sym w.draft-is) (AreFilled-next subs first spread spread parts n x at.is_part filled fills),
-            subst (λ (q : Queue). IsRankingOf board c.if-is_none.draft q.topic q.ranking) (sym w.queue-is) (subst (λ (d : Draft). IsRankingOf board d c.loop-at.queue.topic c.loop-at.queue.ranking) (sym w.draft-is) queue),
+            subst (λ (q : Queue). IsWheelOf board c.if-is_none.draft q.topic q.wheel) (sym w.queue-is) (subst (λ (d : Draft). IsWheelOf board d c.loop-at.queue.topic c.loop-at.queue.wheel) (sym w.draft-is) queue),
           )
     ]
 

@@ -1,37 +1,26 @@
-use Rattle.std.proofs.Common.{◌≡◌, sym, ap, subst, ◌∙◌}
-use Rattle.group_types.specs.Uniform.{IsUniform}
-use Rattle.uniform_assign.specs.declared.board.Board.{Board}
-use Rattle.uniform_assign.specs.Drafts.{drawn_on}
+use Rattle.std.proofs.Common.{sym, subst}
+use Rattle.std.specs.Bool.{OnTrue}
+use Rattle.group_types.specs.Owners.{IsLawful}
+use Rattle.group_types.specs.Uniform.{IsEven, IsUniform}
 use Rattle.uniform_assign.proofs.Soundness.{lawful_and_even_owners_stay, uniform_is_even, uniform_is_lawful}
+use Rattle.uniform_assign.proofs.Staying.{IsUniform-stay, if_ok_also}
 use Rattle.uniform_assign.proofs.uniform.UniformAssignor.assign.Goals as goal
-use Rattle.uniform_assign.specs.Boards.{members_on}
-
-pub returns-clause-uniform : goal.returns-clause-uniform
-returns-clause-uniform c =
-    let board = c.in_ok-board.board in
-    let former = c.args.former.now in
-    let owners = c.settle.new.draft.owners.items in
-    let spread = drawn_on board owners in
-    let settled = c.in_ok-settle.ensures.settled in
-    let shown : c.of-2.result ≡ spread = c.of-2.ensures ∙ c.in_ok-shares.ensures.drawn ∙ ap (λ (b : Board). drawn_on b owners) c.in_ok-settle.ensures.same in
-    let uniform : IsUniform board.view.now (members_on board) former spread = record {
-      kept = drawn_on board c.in_ok-draft.draft.owners.items;
-      is_kept = c.in_ok-draft.ensures.kept;
-      filled = settled.filled;
-      are_filled = settled.are_filled;
-      steps = settled.levelled.steps;
-      are_moves = settled.levelled.are_moves;
-      is_level = settled.levelled.is_level;
-    } in
-    subst (λ view. IsUniform view c.args.subs.now former c.of-2.result) c.in_ok-board.ensures.view
-    (subst (λ subs. IsUniform board.view.now subs former c.of-2.result) c.in_ok-board.ensures.members
-    (subst (IsUniform board.view.now (members_on board) former) (sym shown) uniform))
 
 pub returns-clause-lawful : goal.returns-clause-lawful
-returns-clause-lawful c = uniform_is_lawful c.args.view.now c.args.subs.now c.args.former.now c.of-2.result (returns-clause-uniform c)
+returns-clause-lawful c = if_ok_also c.assigned.result (uniform_is_lawful c.args.view.now c.args.subs.now c.args.former.now) c.assigned.ensures
 
 pub returns-clause-even : goal.returns-clause-even
-returns-clause-even c = uniform_is_even c.args.view.now c.args.subs.now c.args.former.now c.of-2.result (returns-clause-uniform c)
+returns-clause-even c = if_ok_also c.assigned.result (uniform_is_even c.args.view.now c.args.subs.now c.args.former.now) c.assigned.ensures
 
 pub returns-clause-stays : goal.returns-clause-stays
-returns-clause-stays c = λ lawful even. lawful_and_even_owners_stay c.args.view.now c.args.subs.now c.args.former.now c.of-2.result lawful even (returns-clause-uniform c)
+returns-clause-stays c = λ lawful even.
+    if_ok_also c.assigned.result (λ spread. lawful_and_even_owners_stay c.args.view.now c.args.subs.now c.args.former.now spread lawful even) c.assigned.ensures
+
+pub returns-then-branch-clause-uniform : goal.returns-then-branch-clause-uniform
+returns-then-branch-clause-uniform c =
+    let view = c.args.view.now in
+    let subs = c.args.subs.now in
+    let former = c.args.former.now in
+    let lawful = subst (λ b. OnTrue b (IsLawful view subs former)) c.if-branch.true c.in_ok-stay.ensures.lawful in
+    let even = subst (λ b. OnTrue b (IsEven view subs former)) c.if-branch.true c.in_ok-stay.ensures.even in
+    if_ok_also c.copy.result (λ spread same. subst (IsUniform view subs former) (sym same) (IsUniform-stay view subs former lawful even)) c.copy.ensures
