@@ -33,7 +33,7 @@ use Rattle.group_epochs.proofs.Others.{absent_later, insert_moves, insert_over, 
 use Rattle.group_epochs.specs.Past.{PastState}
 use Rattle.group_epochs.specs.Table.{IsTable, Rewrites, records_in, rows_at, with_row}
 use Rattle.group_epochs.specs.declared.entry.Entry.{Entry}
-use Rattle.group_epochs.proofs.Ranked.{ordered_distinct, records_alike}
+use Rattle.group_epochs.proofs.Ranked.{all_by_id, ordered_distinct, records_alike}
 use Rattle.group_epochs.proofs.Tabled.{record_rewritten, the_some}
 use Rattle.group_epochs.proofs.Rows.{get-records_in, kept_in, stays, tied_bytes, tied_bytes_turned}
 
@@ -249,8 +249,8 @@ few_counted m by_id past counts table are small q =
     let few : subscribers records q ≤ length (finite.values records) = count_by-le-length (λ r. has r.names q) (finite.values records) in
     let long : length (finite.values records) ≡ length (finite.entries records) = length-map (finite.entries records) (λ (e : Text × Record). e.1) in
     let entries = finite.len-entries records in
-    let stand = ap finite.len (records_alike rows by_id table.order table.distinct) in
-    let all = len-records_in (rows_at rows by_id) (ordered_distinct rows by_id table.order table.distinct) in
+    let stand = ap finite.len (records_alike rows by_id (all_by_id rows by_id table.distinct table.order) table.distinct) in
+    let all = len-records_in (rows_at rows by_id) (ordered_distinct rows by_id (all_by_id rows by_id table.distinct table.order) table.distinct) in
     let most = few_rows rows by_id in
     omega (arith, is, few, long, entries, stand, all, most, small)
 

@@ -4,8 +4,10 @@ pub mod Rows
 pub mod Tabled
 pub mod Others
 pub mod Ordered
+pub mod Keys
 pub mod Ranked
 pub mod Earliest
 pub mod Counted
 pub mod Listed
 pub mod Around
+pub mod Halves

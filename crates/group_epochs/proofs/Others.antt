@@ -1,5 +1,5 @@
 -- The rows of others than a member: what their records are beside it, in which order the records stand, and who is apart.
-use Rattle.std.proofs.Common.{◌≡◌, ◌+◌, Bool, true, false, cond, not, Option, Some, None, is_some, List, [], ◌∷◌, length, map, get_or, String, refl, sym, ap, subst, ◌∙◌, true≢false, inl, inr, arith}
+use Rattle.std.proofs.Common.{◌≡◌, ◌+◌, Bool, true, false, cond, not, Some, None, is_some, List, [], ◌∷◌, length, map, get_or, String, refl, sym, ap, subst, ◌∙◌, true≢false, inl, inr, arith}
 use Rattle.std.specs.Prelude.{string_bytes, IsPermutation}
 use Rattle.std.specs.List.{AllByRecursion, IsDistinct}
 use Rattle.std.specs.Map.{keys_of, lookup}
@@ -24,10 +24,10 @@ use Rattle.group_types.specs.Text.{Text, text_cmp}
 use Rattle.group_types.specs.Assignors.{IdsAreApart, Subscriber}
 use Rattle.group_types.specs.Group.{Record, Records}
 use Rattle.group_types.specs.Renewal.{subscriber_of}
-use Rattle.group_types.proofs.Lookups.{Tie, ties, differs, tie, not_none, some_is, text_ties}
+use Rattle.group_types.proofs.Lookups.{Tie, ties, differs, tie, not_none, text_ties}
 use Rattle.group_types.proofs.Orders.{text_cmp_total}
-use Rattle.group_epochs.specs.Seen.{is_instance, seen_as}
-use Rattle.group_epochs.specs.Table.{first_with, others, records_in, seen_of, texts_in}
+use Rattle.group_epochs.specs.Seen.{seen_as}
+use Rattle.group_epochs.specs.Table.{others, records_in, seen_of, texts_in}
 use Rattle.group_epochs.specs.declared.entry.Entry.{Entry}
 use Rattle.group_epochs.proofs.Rows.{get-records_in, inserted, kept_in, removed, tied_bytes, tied_bytes_turned}
 
@@ -84,10 +84,6 @@ apart_of_distinct subs distinct = λ i j m n is_m is_n same.
         | inr above ↦ absurd (true≢false (sym (text_ties m.id) ∙ ap (λ t. eq_by_cmp text_cmp t m.id) same ∙ (λ k. eq_by_cmp text_cmp (sym at_j k) (sym at_i k)) ∙ apart_from_distinct (eq_by_cmp text_cmp) (map (λ s. s.id) subs) j i m.id distinct above (omega arith)))
       ]
     ]
-
-the_instance : (i : Text) (o : Option Text) → is_instance i o ≡ true → o ≡ Some i
-the_instance i None so = absurd (true≢false (sym so))
-the_instance i (Some own) so = ap Some ((bytes_eq-Decides own i).0 so)
 
 module _ {Y : Type 0} where
   abbrev pub pair : String Y × Entry → Text × Record
@@ -228,9 +224,10 @@ module _ {Y : Type 0} where
   seen_others rows id apart named =
       seen_alike (others id rows) (IsDistinct-keys_filter string_eq (λ (row : String Y × Entry). not (bytes_eq (string_bytes row.0) id)) rows apart) (named_others rows id named)
 
-  pub members_apart : (rows : List (String Y × Entry)) (id : Text) (r : Record) → IsDistinct string_eq (keys_of rows) → AreNamed rows → IdsAreApart (seen_as id r ∷ map seen_of (others id rows))
+  pub members_apart : (rows : List (String Y × Entry)) (id : Text) (r : Record) → IsDistinct string_eq (keys_of rows) → AreNamed rows
+      → IsDistinct (eq_by_cmp text_cmp) (map (λ (s : Subscriber). s.id) (seen_as id r ∷ map seen_of (others id rows)))
   members_apart rows id r apart named =
-      subst (λ l. IdsAreApart (seen_as id r ∷ l)) (sym (seen_others rows id apart named)) (apart_of_distinct (seen_as id r ∷ map seen_by_text (others id rows)) (distinct_ids rows id r apart))
+      subst (λ l. IsDistinct (eq_by_cmp text_cmp) (map (λ (s : Subscriber). s.id) (seen_as id r ∷ l))) (sym (seen_others rows id apart named)) (distinct_ids rows id r apart)
 
   subscribers_alike : (rows : List (String Y × Entry)) → map subscriber_of (map pair rows) ≡ map seen_by_text rows
   subscribers_alike [] = refl
@@ -245,34 +242,3 @@ module _ {Y : Type 0} where
       IsPermutation-trans (map subscriber_of stored) (map subscriber_of given) subs
       (IsPermutation-sym (map subscriber_of given) (map subscriber_of stored) (IsPermutation-map subscriber_of given stored (entries_with rows id r apart)))
       (subst (λ l. IsPermutation l subs) (sym alike) moves)
-
-  -- ---- who has an instance id
-
-  pub found_with : (i : Text) (rows : List (String Y × Entry)) (e : Entry) → IsDistinct string_eq (keys_of rows) → first_with i rows ≡ Some e
-      → (q : Text) × (lookup (λ k. bytes_eq q (string_bytes k)) rows ≡ Some e) × (e.kept.instance ≡ Some i)
-  found_with i [] e apart is = absurd (not_none e is)
-  found_with i (row ∷ rows) e apart is =
-      by (is_instance i row.1.kept.instance) (λ later. found_with i rows e (IsDistinct-tail string_eq row.0 (keys_of rows) apart) later) refl is
-    where
-      by : (b : Bool) → (first_with i rows ≡ Some e → (q : Text) × (lookup (λ k. bytes_eq q (string_bytes k)) rows ≡ Some e) × (e.kept.instance ≡ Some i))
-          → is_instance i row.1.kept.instance ≡ b → cond b (Some row.1) (first_with i rows) ≡ Some e
-          → (q : Text) × (lookup (λ k. bytes_eq q (string_bytes k)) (row ∷ rows) ≡ Some e) × (e.kept.instance ≡ Some i)
-      by true _ so is =
-          (string_bytes row.0, found_first row rows ∙ is, ap (λ (e : Entry). e.kept.instance) (sym (some_is row.1 e is)) ∙ the_instance i row.1.kept.instance so)
-      by false behind _ is =
-          let rest = behind is in
-          (rest.0, found_behind row rows apart rest.0 e rest.1, rest.2)
-
-  pub none_with : (i : Text) (rows : List (String Y × Entry)) (test : String Y → Bool) (e : Entry) → first_with i rows ≡ None → lookup test rows ≡ Some e → is_instance i e.kept.instance ≡ false
-  none_with i [] test e none found = absurd (not_none e found)
-  none_with i (row ∷ rows) test e none found =
-      let first = by (is_instance i row.1.kept.instance) refl none in
-      here (test row.0) first.0 (λ later. none_with i rows test e first.1 later) found
-    where
-      by : (b : Bool) → is_instance i row.1.kept.instance ≡ b → cond b (Some row.1) (first_with i rows) ≡ None → (is_instance i row.1.kept.instance ≡ false) × (first_with i rows ≡ None)
-      by true _ is = absurd (not_none row.1 (sym is))
-      by false hasnt is = (hasnt, is)
-
-      here : (b : Bool) → is_instance i row.1.kept.instance ≡ false → (lookup test rows ≡ Some e → is_instance i e.kept.instance ≡ false) → cond b (Some row.1) (lookup test rows) ≡ Some e → is_instance i e.kept.instance ≡ false
-      here true hasnt _ is = ap (λ (e : Entry). is_instance i e.kept.instance) (sym (some_is row.1 e is)) ∙ hasnt
-      here false _ behind is = behind is

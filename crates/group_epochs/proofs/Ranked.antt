@@ -1,7 +1,7 @@
 -- The rows in the order of ids: they have the records of all rows, and are the records' entries.
-use Rattle.std.proofs.Common.{◌≡◌, ℕ, zero, suc, ◌<◌, ◌≤◌, Bool, true, false, cond, ◌&&◌, Option, Some, None, is_some, List, [], ◌∷◌, length, map, get_or, slice_get, String, T, refl, sym, ap, subst, ◌∙◌, true≢false, arith, inl, inr, Ok}
+use Rattle.std.proofs.Common.{◌≡◌, ◌≢◌, ℕ, zero, suc, ◌<◌, ◌≤◌, Bool, true, false, cond, ◌&&◌, Option, Some, None, List, [], ◌∷◌, length, map, get_or, slice_get, String, T, refl, sym, ap, subst, ◌∙◌, true≢false, arith, inl, inr, Ok}
 use Rattle.std.specs.Prelude.{string_bytes, option_map, option_and_then, MatchOption}
-use Rattle.std.specs.List.{AllByRecursion, IsDistinct, list_any}
+use Rattle.std.specs.List.{AllByRecursion, IsDistinct}
 use Rattle.std.specs.List.Sorted.{IsStrictlySortedBy}
 use Rattle.std.specs.Map.{keys_of, lookup}
 use Rattle.std.specs.Ordering.{eq_by_cmp, is_lt, ordering_reverse}
@@ -13,7 +13,7 @@ use Rattle.std.specs.FinMap.{find, is_sorted}
 use Rattle.std.specs.FinMap.Entries.{below_all}
 use Rattle.std.proofs.lemmas.Bool.{cases_lt, cases_order}
 use Rattle.std.proofs.lemmas.Map.Entries.{lookup_from_place, place_from_lookup}
-use Rattle.std.proofs.lemmas.Map.Keys.{IsDistinct-from_sorted, Less-from_sorted}
+use Rattle.std.proofs.lemmas.Map.Keys.{Less-from_sorted}
 use Rattle.std.proofs.lemmas.Slice.Eq.{bytes_eq-Decides}
 use Rattle.std.specs.Cmp.{tied_itself}
 use Rattle.std.proofs.Math.ListN.{length-map}
@@ -24,10 +24,12 @@ use Rattle.group_types.specs.Group.{Record}
 use Rattle.group_types.specs.Tick.{NoneIsDue, is_due}
 use Rattle.group_types.proofs.Lookups.{not_none, same_text, some_is}
 use Rattle.group_types.proofs.Orders.{text_cmp_total, text_cmp-IsAntisymmetric}
-use Rattle.group_epochs.specs.Table.{IsFirstRank, IsIdOrder, IsRank, NoneIsDueBefore, is_due_at, is_row_due, member_at, records_in, rows_at, text_at, texts_at, texts_in, with_row}
+use Rattle.group_epochs.specs.Table.{IsFirstRank, IsIdOrder, IsMemberOrder, IsRank, NoneIsDueBefore, is_due_at, key_cmp, keys_in, no_key, is_row_due, member_at, records_in, rows_at, text_at, texts_at, texts_in, with_row}
 use Rattle.group_epochs.specs.declared.entry.Entry.{Entry}
-use Rattle.group_epochs.proofs.Others.{pair}
-use Rattle.group_epochs.proofs.Rows.{get-records_in, kept_in, length-texts_in, text_found, texts_hold, tied_bytes}
+use Rattle.group_epochs.proofs.Keys.{distinct_keys_in, key_cmp_total, key_cmp-IsAntisymmetric, length-keys_in}
+use Rattle.group_epochs.proofs.Ordered.{AreApart, place_listed, places_apart, same_place, slice_get_of_map}
+use Rattle.group_epochs.proofs.Others.{distinct_in, pair}
+use Rattle.group_epochs.proofs.Rows.{get-records_in, kept_in, length-texts_in, text_found, tied_bytes}
 
 both_hold : (a b : Bool) → T a → T b → T (a && b)
 both_hold true b p q = q
@@ -77,11 +79,6 @@ module _ {Y : Type 0} where
   is_sorted_rows [] rise = tt
   is_sorted_rows (row ∷ rows) rise = both_hold _ _ (is_sorted_below (string_bytes row.0) rows rise.0) (is_sorted_rows rows rise.1)
 
-pub slice_get_of_map : {A B : Type 0} (f : A → B) (xs : List A) (i : ℕ) → slice_get (map f xs) i ≡ option_map f (slice_get xs i)
-slice_get_of_map f [] i = refl
-slice_get_of_map f (x ∷ xs) zero = refl
-slice_get_of_map f (x ∷ xs) (suc i) = slice_get_of_map f xs i
-
 nothing_past : {X : Type 0} (xs : List X) (i : ℕ) → length xs ≤ i → slice_get xs i ≡ None
 nothing_past [] i past = refl
 nothing_past (x ∷ xs) zero past = absurd (omega (arith, past))
@@ -101,19 +98,49 @@ entry_there [] P j m all is = absurd (not_none m is)
 entry_there (e ∷ es) P zero m all is = subst P (some_is e m is) all.0
 entry_there (e ∷ es) P (suc j) m all is = entry_there es P j m all.1 is
 
-module _ {Y : Type 0} (rows : List (String Y × Entry)) (places : List ℕ) (order : IsIdOrder (texts_in rows) places) (distinct : IsDistinct string_eq (keys_of rows)) where
-  within : AllByRecursion (λ k. k < length rows) places
-  within = subst (λ n. AllByRecursion (λ k. k < n) places) (length-texts_in rows) order.within
+-- ---- the rows at the places of all rows
 
-  rise : IsStrictlySortedBy text_cmp (texts_in (rows_at rows places))
-  rise = subst (IsStrictlySortedBy text_cmp) (sym (texts_of_rows rows places within)) order.rise
+-- the places of all rows, each once
+pub record AreAll {Y : Type 0} (rows : List (String Y × Entry)) (places : List ℕ) : Type 0 where
+  pub within : AllByRecursion (λ k. k < length rows) places
+  pub apart : AreApart places
+  pub listed : (j : ℕ) → j < length rows → (r : ℕ) × (slice_get places r ≡ Some j)
 
+module _ {Y : Type 0} (rows : List (String Y × Entry)) (distinct : IsDistinct string_eq (keys_of rows)) where
+  -- two places of one text are one
+  pub one_place : (i j : ℕ) (a b : String Y × Entry) → slice_get rows i ≡ Some a → slice_get rows j ≡ Some b → bytes_eq (string_bytes a.0) (string_bytes b.0) ≡ true → i ≡ j
+  one_place i j a b is_a is_b same =
+      let long = length-texts_in rows in
+      let in_i = slice_get_within rows i a is_a in
+      let in_j = slice_get_within rows j b is_b in
+      same_place text_cmp text_cmp_total text_cmp-IsAntisymmetric [] (texts_in rows) (distinct_in rows distinct) i j (omega (arith, long, in_i)) (omega (arith, long, in_j))
+      (text_found rows i a is_a ∙ (bytes_eq-Decides (string_bytes a.0) (string_bytes b.0)).0 same ∙ sym (text_found rows j b is_b))
+
+  keys_differ : (i j : ℕ) (a b : String Y × Entry) → slice_get rows i ≡ Some a → slice_get rows j ≡ Some b → i ≢ j → string_eq a.0 b.0 ≡ false
+  keys_differ i j a b is_a is_b other =
+      elim (string_eq a.0 b.0) as (λ t. string_eq a.0 b.0 ≡ t → t ≡ false) [
+        | true ↦ λ same. absurd (other (one_place i j a b is_a is_b same))
+        | false ↦ λ _. refl
+      ] refl
+
+  differ_behind : (p : ℕ) (row : String Y × Entry) → slice_get rows p ≡ Some row → (ps : List ℕ) → AllByRecursion (λ k. k < length rows) ps → AllByRecursion (λ k. p ≢ k) ps
+      → AllByRecursion (λ l. string_eq row.0 l ≡ false) (keys_of (rows_at rows ps))
+  differ_behind p row is [] within apart = tt
+  differ_behind p row is (k ∷ ks) within apart =
+      let other = row_there rows k within.0 in
+      subst (λ o. AllByRecursion (λ l. string_eq row.0 l ≡ false) (keys_of (with_row o (rows_at rows ks)))) (sym other.1)
+      (keys_differ p k row other.0 is other.1 apart.0, differ_behind p row is ks within.1 apart.1)
+
+  distinct_at : (ps : List ℕ) → AllByRecursion (λ k. k < length rows) ps → AreApart ps → IsDistinct string_eq (keys_of (rows_at rows ps))
+  unfolding IsDistinct
+  distinct_at [] within apart = tt
+  distinct_at (p ∷ ps) within apart =
+      let row = row_there rows p within.0 in
+      subst (λ o. IsDistinct string_eq (keys_of (with_row o (rows_at rows ps)))) (sym row.1) (differ_behind p row.0 row.1 ps within.1 apart.0, distinct_at ps within.1 apart.1)
+
+module _ {Y : Type 0} (rows : List (String Y × Entry)) (places : List ℕ) (all : AreAll rows places) (distinct : IsDistinct string_eq (keys_of rows)) where
   pub ordered_distinct : IsDistinct string_eq (keys_of (rows_at rows places))
-  ordered_distinct = distinct_keys (keys_of (rows_at rows places)) (IsDistinct-from_sorted text_cmp (texts_in (rows_at rows places)) rise)
-
-  there_alike : (q : Text) → is_some (lookup (λ k. bytes_eq q (string_bytes k)) (rows_at rows places)) ≡ is_some (lookup (λ k. bytes_eq q (string_bytes k)) rows)
-  there_alike q =
-      sym (texts_hold (rows_at rows places) q) ∙ ap (list_any (eq_by_cmp text_cmp q)) (texts_of_rows rows places within) ∙ order.all q ∙ texts_hold rows q
+  ordered_distinct = distinct_at rows distinct places all.within all.apart
 
   at_its_place : (o : Option ℕ) (row : String Y × Entry) → option_and_then (slice_get rows) o ≡ Some row → (p : ℕ) × (slice_get rows p ≡ Some row)
   at_its_place None row is = absurd (not_none row is)
@@ -122,9 +149,17 @@ module _ {Y : Type 0} (rows : List (String Y × Entry)) (places : List ℕ) (ord
   found_alike : (q : Text) (e : Entry) → lookup (λ k. bytes_eq q (string_bytes k)) (rows_at rows places) ≡ Some e → lookup (λ k. bytes_eq q (string_bytes k)) rows ≡ Some e
   found_alike q e is =
       let at = place_from_lookup (λ (k : String Y). bytes_eq q (string_bytes k)) (rows_at rows places) e is in
-      let here = at_its_place (slice_get places at.0) (at.1, e) (sym (row_at rows places at.0 within) ∙ at.2) in
+      let here = at_its_place (slice_get places at.0) (at.1, e) (sym (row_at rows places at.0 all.within) ∙ at.2) in
       let found = lookup_from_place string_eq_equiv rows here.0 at.1 e distinct here.1 in
       ap (λ t. lookup (λ k. bytes_eq t (string_bytes k)) rows) ((bytes_eq-Decides q (string_bytes at.1)).0 at.3) ∙ found
+
+  found_back : (q : Text) (e : Entry) → lookup (λ k. bytes_eq q (string_bytes k)) rows ≡ Some e → lookup (λ k. bytes_eq q (string_bytes k)) (rows_at rows places) ≡ Some e
+  found_back q e is =
+      let at = place_from_lookup (λ (k : String Y). bytes_eq q (string_bytes k)) rows e is in
+      let rank = all.listed at.0 (slice_get_within rows at.0 (at.1, e) at.2) in
+      let here = row_at rows places rank.0 all.within ∙ ap (option_and_then (slice_get rows)) rank.1 ∙ at.2 in
+      ap (λ t. lookup (λ k. bytes_eq t (string_bytes k)) (rows_at rows places)) ((bytes_eq-Decides q (string_bytes at.1)).0 at.3)
+      ∙ lookup_from_place string_eq_equiv (rows_at rows places) rank.0 at.1 e ordered_distinct here
 
   pub lookup_alike : (q : Text) → lookup (λ k. bytes_eq q (string_bytes k)) (rows_at rows places) ≡ lookup (λ k. bytes_eq q (string_bytes k)) rows
   lookup_alike q = by (lookup (λ k. bytes_eq q (string_bytes k)) (rows_at rows places)) refl (lookup (λ k. bytes_eq q (string_bytes k)) rows) refl
@@ -132,7 +167,7 @@ module _ {Y : Type 0} (rows : List (String Y × Entry)) (places : List ℕ) (ord
       by : (o : Option Entry) → lookup (λ k. bytes_eq q (string_bytes k)) (rows_at rows places) ≡ o → (u : Option Entry) → lookup (λ k. bytes_eq q (string_bytes k)) rows ≡ u → o ≡ u
       by (Some e) is u other = sym (found_alike q e is) ∙ other
       by None is None other = refl
-      by None is (Some e) other = absurd (true≢false (sym (sym (ap is_some is) ∙ there_alike q ∙ ap is_some other)))
+      by None is (Some e) other = absurd (not_none e (sym is ∙ found_back q e other))
 
   pub ordered_named : ((m : Text) (e : Entry) → lookup (λ k. bytes_eq m (string_bytes k)) rows ≡ Some e → e.id ≡ m)
       → (m : Text) (e : Entry) → lookup (λ k. bytes_eq m (string_bytes k)) (rows_at rows places) ≡ Some e → e.id ≡ m
@@ -143,13 +178,41 @@ module _ {Y : Type 0} (rows : List (String Y × Entry)) (places : List ℕ) (ord
       finite.same_map text_cmp_total text_cmp-IsAntisymmetric (records_in (rows_at rows places)) (records_in rows)
       (λ q. get-records_in (rows_at rows places) q ∙ ap kept_in (lookup_alike q) ∙ sym (get-records_in rows q))
 
+-- each place is in the order of ids, and in member order
+
+module _ {Y : Type 0} (rows : List (String Y × Entry)) (places : List ℕ) (distinct : IsDistinct string_eq (keys_of rows)) where
+  pub all_by_id : IsIdOrder (texts_in rows) places → AreAll rows places
+  all_by_id order =
+      let long = length-texts_in rows in
+      record {
+        within = subst (λ n. AllByRecursion (λ k. k < n) places) long order.within;
+        apart = places_apart text_cmp text_cmp_total text_cmp-IsAntisymmetric [] (texts_in rows) places order.rise;
+        listed = λ j inside. place_listed text_cmp text_cmp_total text_cmp-IsAntisymmetric [] (texts_in rows) places order (distinct_in rows distinct) j (omega (arith, long, inside));
+      }
+
+  pub all_in_member_order : IsMemberOrder rows places → AreAll rows places
+  all_in_member_order order =
+      let long = length-keys_in rows in
+      record {
+        within = subst (λ n. AllByRecursion (λ k. k < n) places) long order.within;
+        apart = places_apart key_cmp key_cmp_total key_cmp-IsAntisymmetric no_key (keys_in rows) places order.rise;
+        listed = λ j inside. place_listed key_cmp key_cmp_total key_cmp-IsAntisymmetric no_key (keys_in rows) places order (distinct_keys_in rows (distinct_in rows distinct)) j (omega (arith, long, inside));
+      }
+
+module _ {Y : Type 0} (rows : List (String Y × Entry)) (places : List ℕ) (order : IsIdOrder (texts_in rows) places) (distinct : IsDistinct string_eq (keys_of rows)) where
+  within : AllByRecursion (λ k. k < length rows) places
+  within = subst (λ n. AllByRecursion (λ k. k < n) places) (length-texts_in rows) order.within
+
+  rise : IsStrictlySortedBy text_cmp (texts_in (rows_at rows places))
+  rise = subst (IsStrictlySortedBy text_cmp) (sym (texts_of_rows rows places within)) order.rise
+
   pub entries_are : finite.entries (records_in rows) ≡ map pair (rows_at rows places)
   entries_are =
       let es = map pair (rows_at rows places) in
       let sorted = is_sorted_rows (rows_at rows places) rise in
       let same : finite.from_sorted es ≡ records_in rows =
       finite.same_map text_cmp_total text_cmp-IsAntisymmetric (finite.from_sorted es) (records_in rows)
-      (λ q. finite.get-from_sorted text_cmp es q sorted ∙ sym (finite.get-from_entries text_cmp_total es q) ∙ ap (λ s. finite.get s q) records_alike) in
+      (λ q. finite.get-from_sorted text_cmp es q sorted ∙ sym (finite.get-from_entries text_cmp_total es q) ∙ ap (λ s. finite.get s q) (records_alike rows places (all_by_id rows places distinct order) distinct)) in
       ap finite.entries (sym same) ∙ finite.entries-from_sorted text_cmp es sorted
 
   pub member_at_is : (r : ℕ) → member_at (records_in rows) r ≡ option_map pair (option_and_then (slice_get rows) (slice_get places r))

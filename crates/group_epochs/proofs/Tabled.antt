@@ -9,7 +9,6 @@ use Rattle.std.specs.FinMap as finite
 use Rattle.std.specs.List.Sorted.{IsStrictlySortedBy}
 use Rattle.std.specs.Map.{lookup}
 use Rattle.std.specs.String.{string_eq}
-use Rattle.std.proofs.lemmas.Slice.Eq.{bytes_eq-Decides}
 use Rattle.std.proofs.lemmas.List.{length-append, length-drop}
 use Rattle.indexmap.specs.IndexMap.{IndexMap, index_map_len, spare, get_by_text, IsUnique}
 use Rattle.group_types.specs.declared.stamp.Stamp.{Stamp}
@@ -21,10 +20,9 @@ use Rattle.group_types.proofs.Lookups.{Tie, ties, differs, tie, not_none, some_i
 use Rattle.group_types.proofs.PastLemmas.{few_without, stamp_without}
 use Rattle.group_epochs.specs.Past.{PastState, HasRoomFor, places}
 use Rattle.group_epochs.specs.Records.{RecordsState, IsMember}
-use Rattle.group_epochs.specs.Table.{Adds, ChangesAt, IsIdOrder, IsTable, Rewrites, TakesOut, first_with, ids, marks_in, records_in, room_in, texts_in}
+use Rattle.group_epochs.specs.Table.{Adds, ChangesAt, IsIdOrder, IsMemberOrder, IsNobodys, IsOfMemberWith, IsOrder, IsTable, Rewrites, TakesOut, ids, key_cmp, keys_in, marks_in, no_key, records_in, room_in, texts_in}
 use Rattle.group_epochs.specs.declared.entry.Entry.{Entry}
-use Rattle.group_epochs.specs.Seen.{is_instance}
-use Rattle.group_epochs.proofs.Others.{found_with, none_with}
+use Rattle.group_epochs.proofs.Keys.{keys_stay}
 use Rattle.group_epochs.proofs.Remembered.{absent_behind, absent_drop, without_absent}
 use Rattle.group_epochs.proofs.Rows.{found_after, get-marks_in, get-records_in, inserted, kept_in, mark_in, marks_after, records_after, removed, stays}
 
@@ -118,6 +116,13 @@ module _ {Y S : Type 0} {by_id : List ℕ} (m n : IndexMap (String Y) Entry S) (
       by : (q : Text) → IsSome (get_by_text n q) → Tie q id → past_stamp past.past q ≡ None
       by q found (ties same) = ap (past_stamp past.past) same ∙ table.apart id there
       by q found (differs other apart) = table.apart q (there_before m n id (Some (change was.0)) changed q apart found)
+
+  -- its instance stays, and so does its place in member order
+  pub member_order_stays : {places : List ℕ} → ((e : Entry) → (change e).kept.instance ≡ e.kept.instance) → IsMemberOrder m.entries places → IsMemberOrder n.entries places
+  member_order_stays {places} keeps order =
+      let same : keys_in n.entries ≡ keys_in m.entries =
+      ap keys_in (rewrites.rows was.0 was.1) ∙ keys_stay (λ k. bytes_eq id (string_bytes k)) m.entries was.0 (change was.0) was.1 (keeps was.0) in
+      subst (λ keys. IsOrder key_cmp no_key keys places) (sym same) order
 
   -- its record becomes that of the new entry
   pub record_rewritten : (r : Record) → ((e : Entry) → get_by_text m id ≡ Some e → (change e).kept ≡ r) → records_in n.entries ≡ finite.insert (records_in m.entries) id r
@@ -247,17 +252,15 @@ module _ {Y S : Type 0} {by_id : List ℕ} (m n : IndexMap (String Y) Entry S) (
 
 -- ---- who has an instance id
 
-module _ {Y S : Type 0} {by_id : List ℕ} (m : IndexMap (String Y) Entry S) (past : PastState) (table : IsTable m by_id past) where
-  pub instance_found : (i : Text) (e : Entry) → first_with i m.entries ≡ Some e → (finite.get (records_in m.entries) e.id ≡ Some e.kept) × (e.kept.instance ≡ Some i)
-  instance_found i e is =
-      let found = found_with i m.entries e table.distinct is in
-      (ap (finite.get (records_in m.entries)) (table.named found.0 e found.1) ∙ get-records_in m.entries found.0 ∙ ap kept_in found.1, found.2)
+module _ {Y S : Type 0} {by_id : List ℕ} (m : IndexMap (String Y) Entry S) (past : PastState) (table : IsTable m by_id past) (i : Text) where
+  pub instance_found : (e : Entry) → IsOfMemberWith i m e → (finite.get (records_in m.entries) e.id ≡ Some e.kept) × (e.kept.instance ≡ Some i)
+  instance_found e found =
+      (ap (finite.get (records_in m.entries)) (table.named found.id e found.there) ∙ get-records_in m.entries found.id ∙ ap kept_in found.there, found.same)
 
-  pub instance_absent : (i : Text) → first_with i m.entries ≡ None → (q : Text) → ¬ HasInstance (records_in m.entries) q i
-  instance_absent i none q has =
+  pub instance_absent : IsNobodys i m → (q : Text) → ¬ HasInstance (records_in m.entries) q i
+  instance_absent nobodys q has =
       let found = the_some (get_by_text m q) (entry_there m q (ap is_some has.is_kept)) in
-      let same = kept_of_found m q found.0 has.kept found.1 has.is_kept in
-      true≢false (sym ((bytes_eq-Decides i i).1 refl) ∙ ap (is_instance i) (sym has.same ∙ ap (λ (r : Record). r.instance) (sym same)) ∙ none_with i m.entries (λ k. bytes_eq q (string_bytes k)) found.0 none found.1)
+      nobodys q found.0 found.1 (ap (λ (r : Record). r.instance) (kept_of_found m q found.0 has.kept found.1 has.is_kept) ∙ has.same)
 
 -- the table with no member
 pub empty_table : {Y S : Type 0} (m : IndexMap (String Y) Entry S) (ranks : List ℕ) (past : PastState) → m.entries ≡ [] → ranks ≡ [] → IsUnique string_eq m → past.past ≡ [] → IsTable m ranks past
@@ -272,6 +275,12 @@ empty_table m ranks past none no_ranks distinct no_past =
       distinct = distinct;
       order = subst (λ rows. IsIdOrder (texts_in rows) ranks) (sym none) (subst (IsIdOrder []) (sym no_ranks) order);
     }
+
+pub nobody_in_order : {Y S : Type 0} (m : IndexMap (String Y) Entry S) (places : List ℕ) → m.entries ≡ [] → places ≡ [] → IsMemberOrder m.entries places
+unfolding IsStrictlySortedBy
+nobody_in_order {Y} m places none no_places =
+    let order : IsMemberOrder {Y = Y} [] [] = record { rise = tt; all = λ q. refl; within = tt } in
+    subst (λ rows. IsMemberOrder rows places) (sym none) (subst (IsMemberOrder {Y = Y} []) (sym no_places) order)
 
 -- ---- an heir takes a member's place
 

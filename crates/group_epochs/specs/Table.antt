@@ -1,25 +1,26 @@
 -- The members of a group as a table by their ids' texts, and what callers see of it.
 use Rattle.group_types.specs.Tick.{IsFirstDue, is_due}
 use Rattle.group_types.specs.Leave.{away}
-use Rattle.std.specs.Prelude.{◌≡◌, ℕ, ◌+◌, nat_le, min, not, if◌then◌else◌, List, [], ◌∷◌, length, map, filter, Option, Some, None, IsSome, String, string_bytes, ◌<◌, ◌≤◌, ◌==◌, Result, MatchResult, slice_get, slice_index_or, false, Bool, Ok, Err, suc, take, drop, ◌⊎◌}
+use Rattle.std.specs.Prelude.{◌≡◌, ℕ, ◌+◌, nat_le, min, not, if◌then◌else◌, List, [], ◌∷◌, length, map, filter, Option, Some, None, IsSome, String, string_bytes, ◌<◌, ◌≤◌, ◌==◌, Result, MatchResult, slice_get, slice_index_or, false, Bool, ◌++◌, ◌≢◌}
 use Rattle.std.specs.FinMap as finite
-use Rattle.std.specs.Ordering.{eq_by_cmp}
+use Rattle.std.specs.Ordering.{eq_by_cmp, is_lt}
+use Rattle.std.specs.declared.cmp.Ordering.{Ordering}
 use Rattle.std.specs.declared.cmp.Ordering.TheVariants.{Less, Greater}
 use Rattle.std.specs.List.{AllByRecursion, list_any}
 use Rattle.std.specs.List.Sorted.{IsPartitionPoint, IsStrictlySortedBy}
-use Rattle.std.specs.Map.{keys_of}
+use Rattle.std.specs.Map.{keys_of, set_value}
 use Rattle.std.specs.Str.{bytes_eq}
 use Rattle.std.specs.String.{string_eq}
 use Rattle.indexmap.specs.IndexMap.{IndexMap, IsUnique, UpdatesBy, index_map_len, spare, get_by_text}
 use Rattle.group_types.specs.declared.stamp.Stamp.{Stamp}
 use Rattle.group_types.specs.Limits.{MOST_PAST_MEMBERS}
 use Rattle.group_types.specs.Text.{Text, text_cmp}
-use Rattle.group_types.specs.Assignors.{Subscriber}
+use Rattle.group_types.specs.Assignors.{Subscriber, instance_cmp}
 use Rattle.group_types.specs.Group.{Record, Records}
 use Rattle.group_types.specs.Members.{past_stamp}
 use Rattle.group_epochs.specs.Past.{PastState, HasRoomFor, places}
 use Rattle.group_epochs.specs.Records.{Marks, RecordsState, beaten}
-use Rattle.group_epochs.specs.Seen.{is_instance, seen_as}
+use Rattle.group_epochs.specs.Seen.{seen_as}
 use Rattle.group_epochs.specs.declared.entry.Entry.{Entry}
 
 abbrev pub with_mark : Marks → Text → Option ℕ → Marks
@@ -45,33 +46,94 @@ module _ {Y : Type 0} where
   abbrev pub texts_in : List (String Y × Entry) → List Text
   texts_in rows = map string_bytes (keys_of rows)
 
+-- ---- keys in an order
+
+module _ {K : Type 0} (default : K) where
+  -- the key at a place
+  abbrev pub key_at : List K → ℕ → K
+  key_at keys place = slice_index_or keys place default
+
+  -- the keys at places
+  abbrev pub keys_at : List K → List ℕ → List K
+  keys_at keys places = map (key_at keys) places
+
+module _ {K : Type 0} (R : K → K → Ordering) (default : K) where
+  -- the places of all keys, in their order
+  pub record IsOrder (keys : List K) (places : List ℕ) : Type 0 where
+    pub rise : IsStrictlySortedBy R (keys_at default keys places)
+    pub all : (k : K) → list_any (eq_by_cmp R k) (keys_at default keys places) ≡ list_any (eq_by_cmp R k) keys
+    pub within : AllByRecursion (λ place. place < length keys) places
+
+  -- the rank of a key among places in that order, or else where its place would go
+  abbrev pub IsRankIn : List K → List ℕ → K → Result ℕ ℕ → Type 0
+  IsRankIn keys places k rank =
+      MatchResult rank (λ r. (r < length places) × (slice_get (keys_at default keys places) r ≡ Some k))
+      (λ r. (r ≤ length places) × IsPartitionPoint (λ l. R l k ≡ Less) (λ l. R l k ≡ Greater) (keys_at default keys places) r)
+
 -- the text at a place
 abbrev pub text_at : List Text → ℕ → Text
-text_at texts place = slice_index_or texts place []
+text_at = key_at []
 
 -- the texts at places
 abbrev pub texts_at : List Text → List ℕ → List Text
-texts_at texts places = map (text_at texts) places
+texts_at = keys_at []
 
 -- the places of all texts, in the order of their bytes
-pub record IsIdOrder (texts : List Text) (places : List ℕ) : Type 0 where
-  pub rise : IsStrictlySortedBy text_cmp (texts_at texts places)
-  pub all : (m : Text) → list_any (eq_by_cmp text_cmp m) (texts_at texts places) ≡ list_any (eq_by_cmp text_cmp m) texts
-  pub within : AllByRecursion (λ place. place < length texts) places
+abbrev pub IsIdOrder : List Text → List ℕ → Type 0
+IsIdOrder = IsOrder text_cmp []
 
 -- the rank of a text among places in that order, or else where its place would go
 abbrev pub IsRank : List Text → List ℕ → Text → Result ℕ ℕ → Type 0
-IsRank texts places m rank =
-    MatchResult rank (λ r. (r < length places) × (slice_get (texts_at texts places) r ≡ Some m))
-    (λ r. (r ≤ length places) × IsPartitionPoint (λ t. text_cmp t m ≡ Less) (λ t. text_cmp t m ≡ Greater) (texts_at texts places) r)
+IsRank = IsRankIn text_cmp []
 
--- the places before the text's, and those behind it; its own, if it is there, is in neither
-pub record IsAround (texts : List Text) (places : List ℕ) (m : Text) (before after : List ℕ) : Type 0 where
-  pub rank : ℕ
-  pub next : ℕ
-  pub is_rank : (IsRank texts places m (Ok rank) × (next ≡ suc rank)) ⊎ (IsRank texts places m (Err rank) × (next ≡ rank))
-  pub is_before : before ≡ take rank places
-  pub is_after : after ≡ drop next places
+-- ---- member order
+
+-- a member's id and, before it, its instance
+abbrev pub Key : Type 0
+Key = Option Text × Text
+
+abbrev pub no_key : Key
+no_key = (None, [])
+
+abbrev pub key_cmp : Key → Key → Ordering
+key_cmp a b = instance_cmp a.0 b.0 (text_cmp a.1 b.1)
+
+module _ {Y : Type 0} where
+  abbrev pub key_of : String Y × Entry → Key
+  key_of row = (row.1.kept.instance, string_bytes row.0)
+
+  -- the members' keys, place by place
+  abbrev pub keys_in : List (String Y × Entry) → List Key
+  keys_in rows = map key_of rows
+
+  -- the places of all members, in member order
+  abbrev pub IsMemberOrder : List (String Y × Entry) → List ℕ → Type 0
+  IsMemberOrder rows = IsOrder key_cmp no_key (keys_in rows)
+
+-- the keys, where the member's has this instance
+abbrev pub rekeyed : Text → Option Text → List Key → List Key
+rekeyed m instance [] = []
+rekeyed m instance (k ∷ ks) = if bytes_eq m k.1 then (instance, k.1) ∷ ks else k ∷ rekeyed m instance ks
+
+-- The places before a key's, and the others: the keys of the former come before it, and none of the others does.
+pub record IsSplitAt (keys : List Key) (places : List ℕ) (k : Key) (before after : List ℕ) : Type 0 where
+  pub all : before ++ after ≡ places
+  pub below : AllByRecursion (λ place. key_cmp (key_at no_key keys place) k ≡ Less) before
+  pub above : AllByRecursion (λ place. is_lt (key_cmp (key_at no_key keys place) k) ≡ false) after
+
+-- whether it is the place, if there is one
+abbrev pub is_place : Option ℕ → ℕ → Bool
+is_place None place = false
+is_place (Some own) place = own == place
+
+-- the places but one, if there is one
+abbrev pub other_places : Option ℕ → List ℕ → List ℕ
+other_places own places = filter (λ place. not (is_place own place)) places
+
+-- how an instance and the one looked for are ordered: none comes behind all
+abbrev pub instance_order : Text → Option Text → Ordering
+instance_order i None = Greater
+instance_order i (Some own) = text_cmp own i
 
 -- the last place goes to where a member went
 abbrev pub renumbered : ℕ → ℕ → ℕ → ℕ
@@ -104,10 +166,15 @@ abbrev pub state_of : {Y S : Type 0} → IndexMap (String Y) Entry S → PastSta
 state_of members past order names_room =
     record { records = records_in members.entries; past = past.past; marks = marks_in members.entries; room = room_in members past order; names_room = names_room }
 
--- the first entry of a member with the instance id
-abbrev pub first_with : {Y : Type 0} → Text → List (String Y × Entry) → Option Entry
-first_with i [] = None
-first_with i (row ∷ rows) = if is_instance i row.1.kept.instance then Some row.1 else first_with i rows
+-- nobody in the table has the instance
+abbrev pub IsNobodys : {Y S : Type 0} → Text → IndexMap (String Y) Entry S → Type 0
+IsNobodys i members = (m : Text) (e : Entry) → get_by_text members m ≡ Some e → e.kept.instance ≢ Some i
+
+-- the entry is that of a member with the instance
+pub record IsOfMemberWith {Y S : Type 0} (i : Text) (members : IndexMap (String Y) Entry S) (e : Entry) : Type 0 where
+  pub id : Text
+  pub there : get_by_text members id ≡ Some e
+  pub same : e.kept.instance ≡ Some i
 
 -- a member as an assignor sees it
 abbrev pub seen_of : {Y : Type 0} → String Y × Entry → Subscriber
@@ -127,6 +194,7 @@ module _ {Y S : Type 0} where
     pub len : index_map_len after ≡ index_map_len before
     pub room : spare after ≡ spare before
     pub texts : texts_in after.entries ≡ texts_in before.entries
+    pub rows : (e : Entry) → get_by_text before m ≡ Some e → after.entries ≡ set_value (λ k. bytes_eq m (string_bytes k)) before.entries (change e)
     pub distinct : IsUnique string_eq after
 
   -- a member comes in

@@ -8,6 +8,7 @@ mod deadlines;
 mod entry;
 mod given;
 mod names;
+mod order;
 mod past;
 mod record;
 mod records;

@@ -184,6 +184,16 @@ impl Record {
         }
     }
 
+    /// Whether the member has the instance id of another record, or neither has one. Takes no memory.
+    pub(crate) fn has_instance_of(&self, other: &Record) -> bool
+        ensures { IsTrue result → self.now.instance ≡ other.now.instance }
+    {
+        match other.instance() {
+            Some(instance) => self.has_instance(instance),
+            None => self.instance.is_none(),
+        }
+    }
+
     /// The member as an assignor sees it. Takes no memory.
     pub(crate) fn as_subscriber<'a>(&'a self, id: &'a MemberId) -> Subscriber<'a>
         ensures { subscriber_of result ≡ seen_as id.now self.now }

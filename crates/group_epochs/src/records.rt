@@ -17,12 +17,11 @@ use crate::counts::{Counts, add_counted, count_down, count_up};
 use crate::deadlines::{earlier, first_of_all};
 use crate::entry::{Entry, Table};
 use crate::names::NewNames;
+use crate::order::{around, with_instance};
 use crate::past::Past;
 use crate::record::Record;
-use crate::subscribers::{add_all, in_member_order};
-use crate::table::{
-    add, around, beat, first_due, first_with, go_away, mark, put, take_out, take_out_at,
-};
+use crate::subscribers::add_others;
+use crate::table::{add, beat, first_due, go_away, mark, put, take_out, take_out_at};
 use group_types::limits::SESSION_TIMEOUT;
 use group_types::{EpochNumber, MemberId, Moment, NameSet, Stamp};
 use indexmap::IndexMap;
@@ -61,6 +60,8 @@ pub struct Records {
     members: Table,
     /// The members' places, in the order of their ids.
     by_id: VecDeque<usize>,
+    /// The members' places, in member order: static members first, by their instances; then the others, by their ids.
+    in_member_order: VecDeque<usize>,
     past: Past,
     /// How many members subscribe each name.
     counts: Counts,
@@ -69,7 +70,7 @@ pub struct Records {
 }
 
 impl Model for Records {
-    ghost use Rattle.std.specs.Prelude.{◌-◌};
+    ghost use Rattle.std.specs.Prelude.{◌-◌, min};
     ghost use Rattle.std.specs.VecDeque.{deque_capacity, deque_len};
     ghost use Rattle.group_epochs.specs.Records.{RecordsState, records_state_code};
 
@@ -81,9 +82,9 @@ impl Model for Records {
     ghost use Rattle.group_epochs.specs.Table.{state_of};
     ghost use Rattle.group_epochs.specs.Whole.{AreWhole};
 
-    ghost view = { λ a. state_of a.members a.past (deque_capacity a.by_id - deque_len a.by_id) (spare a.counts) };
+    ghost view = { λ a. state_of a.members a.past (min (deque_capacity a.by_id - deque_len a.by_id) (deque_capacity a.in_member_order - deque_len a.in_member_order)) (spare a.counts) };
 
-    ghost invariant = { λ a. AreWhole a.members a.by_id.items a.past a.counts a.earliest };
+    ghost invariant = { λ a. AreWhole a.members a.by_id.items a.in_member_order.items a.past a.counts a.earliest };
 }
 
 impl Records {
@@ -96,6 +97,7 @@ impl Records {
         Records {
             members: IndexMap::with_hasher(alloc, hasher),
             by_id: VecDeque::new(alloc),
+            in_member_order: VecDeque::new(alloc),
             past: Past::new(alloc, hasher),
             counts: IndexMap::with_hasher(alloc, hasher),
             earliest: Moment::of_millis(u64::MAX),
@@ -136,7 +138,7 @@ impl Records {
         ensures { MatchOption result ((m : Text) → ¬ HasInstance self.now.records m instance.now)
             (λ found. (finite.get self.now.records found.0.now ≡ Some found.1.now) × (found.1.now.instance ≡ Some instance.now)) }
     {
-        match first_with(&self.members, instance) {
+        match with_instance(&self.members, &self.in_member_order, instance) {
             Some(entry) => Some((&entry.id, &entry.kept)),
             None => None,
         }
@@ -156,8 +158,8 @@ impl Records {
         self.past.stamp_of(id)
     }
 
-    /// The members in member order, with this record for the id in place of the one that is kept, if any. They are listed in the
-    /// order of ids, so that in a group without static members no two ids are compared. Fails where memory is short.
+    /// The members in member order, with this record for the id in place of the one that is kept, if any. They are listed as they stand in
+    /// that order, and no two of them are compared. Fails where memory is short.
     pub fn subs_with<'a>(
         &'a self,
         alloc: Global,
@@ -169,11 +171,17 @@ impl Records {
         // rounded up, so that a growing group asks the allocator for one size again and again
         let room = (self.members.len() / 1024 + 1) * 1024;
         let mut members = Vec::with_capacity(alloc, room)?;
-        let (before, after) = around(&self.members, &self.by_id, id.as_str());
-        add_all(&mut members, &self.members, before)?;
+        let own = self.members.get_index_of(id.as_str());
+        let (before, after) = around(
+            &self.members,
+            &self.in_member_order,
+            record.instance(),
+            id.as_str(),
+        );
+        add_others(&mut members, &self.members, before, own)?;
         members.push(record.as_subscriber(id))?;
-        add_all(&mut members, &self.members, after)?;
-        Ok(in_member_order(members))
+        add_others(&mut members, &self.members, after, own)?;
+        Ok(Subs::in_order(members))
     }
 
     /// The image's topics that some member subscribes, with this record for the id in place of the one that is kept, if any.
@@ -252,7 +260,13 @@ impl Records {
             kept: record,
             mark: None,
         };
-        add(&mut self.members, &mut self.by_id, text, entry);
+        add(
+            &mut self.members,
+            &mut self.by_id,
+            &mut self.in_member_order,
+            text,
+            entry,
+        );
     }
 
     /// Replaces the record of a member, and takes its mark away. Takes no memory.
@@ -264,7 +278,7 @@ impl Records {
         ensures marks { self.new.marks ≡ finite.remove self.old.marks id.now }
     {
         self.earliest = earlier(self.earliest, record.first_deadline());
-        let former = put(&mut self.members, id, record);
+        let former = put(&mut self.members, &mut self.in_member_order, id, record);
         if let Some(names) = names {
             count_down(&mut self.counts, former.names());
             count_up(&mut self.counts, names.into_texts());
@@ -301,7 +315,12 @@ impl Records {
         ensures members { members_in self.new ≡ without_record (members_in self.old) id.now stamp }
         ensures marks { self.new.marks ≡ finite.remove self.old.marks id.now }
     {
-        let former = take_out(&mut self.members, &mut self.by_id, id);
+        let former = take_out(
+            &mut self.members,
+            &mut self.by_id,
+            &mut self.in_member_order,
+            id,
+        );
         count_down(&mut self.counts, former.kept.names());
         self.past.remember(former.id, stamp);
     }
@@ -315,7 +334,12 @@ impl Records {
         ensures marks { (m : Text) (r : Kept) → member_at self.old.records rank ≡ Some (m, r)
             → self.new.marks ≡ finite.remove self.old.marks m }
     {
-        let former = take_out_at(&mut self.members, &mut self.by_id, rank);
+        let former = take_out_at(
+            &mut self.members,
+            &mut self.by_id,
+            &mut self.in_member_order,
+            rank,
+        );
         count_down(&mut self.counts, former.kept.names());
         let latest = former.kept.stamp();
         self.past.remember(former.id, latest);
@@ -348,7 +372,12 @@ impl Records {
     {
         let NewMember { id, text, names } = heir;
         self.past.forget(id.as_str());
-        let former = take_out(&mut self.members, &mut self.by_id, old);
+        let former = take_out(
+            &mut self.members,
+            &mut self.by_id,
+            &mut self.in_member_order,
+            old,
+        );
         count_down(&mut self.counts, former.kept.names());
         count_up(&mut self.counts, names.into_texts());
         let last = former.kept.stamp();
@@ -359,7 +388,13 @@ impl Records {
             kept: record,
             mark: None,
         };
-        add(&mut self.members, &mut self.by_id, text, entry);
+        add(
+            &mut self.members,
+            &mut self.by_id,
+            &mut self.in_member_order,
+            text,
+            entry,
+        );
     }
 
     /// The first rank, from one on, in the order of the members' ids, at which a member's deadline has come (KIP-848, "Session
@@ -399,6 +434,7 @@ impl Records {
     {
         self.members.reserve(1)?;
         self.by_id.reserve(1)?;
+        self.in_member_order.reserve(1)?;
         self.past
             .make_room(self.members.len() + self.past.len() + 1)?;
         self.counts.reserve(names.len())

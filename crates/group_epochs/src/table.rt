@@ -2,31 +2,44 @@
 
 ghost use Rattle.std.specs.Prelude.{Ok, ◌≡◌, ◌<◌, ◌≤◌, ◌-◌, ℕ, length, false, true, slice_get, MatchOption, None, Some, IsSome, map, string_bytes};
 ghost use Rattle.group_types.specs.Text.{Text, text_cmp};
-ghost use Rattle.std.specs.Option.{option_copied};
 ghost use Rattle.std.specs.String.{string_eq};
 ghost use Rattle.std.specs.VecDeque.{deque_capacity, deque_len};
-ghost use Rattle.std.specs.VecDeque.Iter.{deque_iter_rest};
 ghost use Rattle.indexmap.specs.IndexMap.{IsUnique, get, get_by_text, index_map_len, spare};
 ghost use Rattle.group_epochs.specs.declared.entry.Entry.{Entry as Stored};
-ghost use Rattle.group_epochs.specs.Table.{Adds, IsAround, IsIdOrder, IsRank, Rewrites, TakesOut, first_with, is_due_at, is_row_due, marked_at, with_away, with_beat, with_record_kept, renumbered, text_at, texts_in};
+ghost use Rattle.group_epochs.specs.Table.{Adds, IsIdOrder, IsMemberOrder, IsRank, Rewrites, TakesOut, is_due_at, is_row_due, marked_at, with_away, with_beat, with_record_kept, renumbered, text_at, texts_in};
 
 use crate::entry::{Entry, Table};
+use crate::order::{add_place, drop_place, guessed_rank, move_place};
 use crate::record::Record;
 use group_types::{EpochNumber, Moment, Stamp};
 use std::cmp::Ordering;
 use std::collections::VecDeque;
-use std::collections::vec_deque::Iter;
 use std::mem;
 
 /// A member comes in under its id, for which there is room. Takes no memory.
-pub fn add(members: &mut Table, by_id: &mut VecDeque<usize>, text: String, entry: Entry)
+pub fn add(
+    members: &mut Table,
+    by_id: &mut VecDeque<usize>,
+    in_member_order: &mut VecDeque<usize>,
+    text: String,
+    entry: Entry,
+)
     requires room { 0 < spare members.old }
     requires order_room { deque_len by_id.old < deque_capacity by_id.old }
+    requires member_room { deque_len in_member_order.old < deque_capacity in_member_order.old }
     requires absent { get string_eq members.old text ≡ None }
     requires order { IsIdOrder (texts_in members.old.entries) by_id.old.items }
+    requires member_order { IsMemberOrder members.old.entries in_member_order.old.items }
     ensures added { Adds members.old members.new (string_bytes text) entry }
     ensures order { IsIdOrder (texts_in members.new.entries) by_id.new.items }
+    ensures member_order { IsMemberOrder members.new.entries in_member_order.new.items }
 {
+    add_place(
+        members,
+        in_member_order,
+        entry.kept.instance(),
+        text.as_str(),
+    );
     let Err(rank) = rank_of(members, by_id, text.as_str()) else {
         unreachable!()
     };
@@ -39,11 +52,20 @@ pub fn add(members: &mut Table, by_id: &mut VecDeque<usize>, text: String, entry
 }
 
 /// Replaces the record of a member, takes its mark away, and gives the former record. Takes no memory.
-pub fn put(members: &mut Table, id: &str, record: Record) -> Record
-    requires { IsSome (get_by_text members.old id.now) }
+pub fn put(
+    members: &mut Table,
+    in_member_order: &mut VecDeque<usize>,
+    id: &str,
+    record: Record,
+) -> Record
+    requires there { IsSome (get_by_text members.old id.now) }
+    requires distinct { IsUnique string_eq members.old }
+    requires member_order { IsMemberOrder members.old.entries in_member_order.old.items }
     ensures given { (e : Stored) → get_by_text members.old id.now ≡ Some e → result ≡ e.kept }
     ensures rewritten { Rewrites members.old members.new id.now (with_record_kept «record») }
+    ensures member_order { IsMemberOrder members.new.entries in_member_order.new.items }
 {
+    move_place(members, in_member_order, id, &record);
     let Some(entry) = members.get_mut(id) else {
         unreachable!()
     };
@@ -86,32 +108,49 @@ pub fn go_away(members: &mut Table, id: &str, stamp: Stamp, now: Moment)
 }
 
 /// A member goes, and gives what was kept of it. Takes no memory.
-pub fn take_out(members: &mut Table, by_id: &mut VecDeque<usize>, id: &str) -> Entry
+pub fn take_out(
+    members: &mut Table,
+    by_id: &mut VecDeque<usize>,
+    in_member_order: &mut VecDeque<usize>,
+    id: &str,
+) -> Entry
     requires there { IsSome (get_by_text members.old id.now) }
     requires distinct { IsUnique string_eq members.old }
     requires order { IsIdOrder (texts_in members.old.entries) by_id.old.items }
+    requires member_order { IsMemberOrder members.old.entries in_member_order.old.items }
     ensures given { (e : Stored) → get_by_text members.old id.now ≡ Some e → result ≡ e }
     ensures taken { TakesOut members.old members.new id.now result.id }
     ensures order_room { deque_len by_id.new < deque_capacity by_id.new }
+    ensures member_room { deque_len in_member_order.new < deque_capacity in_member_order.new }
     ensures order { IsIdOrder (texts_in members.new.entries) by_id.new.items }
+    ensures member_order { IsMemberOrder members.new.entries in_member_order.new.items }
 {
     let Ok(rank) = rank_of(members, by_id, id) else {
         unreachable!()
     };
-    take_out_at(members, by_id, rank)
+    take_out_at(members, by_id, in_member_order, rank)
 }
 
 /// The member at a rank goes, and gives what was kept of it. Takes no memory.
-pub fn take_out_at(members: &mut Table, by_id: &mut VecDeque<usize>, rank: usize) -> Entry
+pub fn take_out_at(
+    members: &mut Table,
+    by_id: &mut VecDeque<usize>,
+    in_member_order: &mut VecDeque<usize>,
+    rank: usize,
+) -> Entry
     requires there { rank < length by_id.old.items }
     requires distinct { IsUnique string_eq members.old }
     requires order { IsIdOrder (texts_in members.old.entries) by_id.old.items }
+    requires member_order { IsMemberOrder members.old.entries in_member_order.old.items }
     ensures given { (m : Text) (e : Stored) → IsRank (texts_in members.old.entries) by_id.old.items m (Ok rank) → get_by_text members.old m ≡ Some e → result ≡ e }
     ensures taken { (m : Text) → IsRank (texts_in members.old.entries) by_id.old.items m (Ok rank) → TakesOut members.old members.new m result.id }
     ensures order_room { deque_len by_id.new < deque_capacity by_id.new }
+    ensures member_room { deque_len in_member_order.new < deque_capacity in_member_order.new }
     ensures order { IsIdOrder (texts_in members.new.entries) by_id.new.items }
+    ensures member_order { IsMemberOrder members.new.entries in_member_order.new.items }
 {
     let place = by_id[rank];
+    drop_place(members, in_member_order, place);
     renumber(members, by_id, place);
     by_id.remove(rank);
     let Some((_, entry)) = members.swap_remove_index(place) else {
@@ -132,20 +171,14 @@ fn renumber(members: &Table, places: &mut VecDeque<usize>, to: usize)
     places[rank] = to;
 }
 
-/// The rank of the last place: where members that joined in the order of their ids leave in that order, it is as far behind the
-/// first rank as its number is above the first number. Where it isn't there, it is found by the text of the member.
+/// The rank of the last place, in the order of ids.
 fn last_rank(members: &Table, places: &VecDeque<usize>) -> usize
     requires some { 0 < index_map_len members.now }
     requires order { IsIdOrder (texts_in members.now.entries) places.now.items }
     ensures { IsRank (texts_in members.now.entries) places.now.items (text_at (texts_in members.now.entries) (index_map_len members.now - 1)) (Ok result) }
 {
-    let last = members.len() - 1;
-    let guess = match places.front() {
-        Some(first) => last.saturating_sub(*first),
-        None => last,
-    };
-    if guess < places.len() && places[guess] == last {
-        return guess;
+    if let Some(rank) = guessed_rank(places, members.len() - 1) {
+        return rank;
     }
     let Some((text, _)) = members.last() else {
         unreachable!()
@@ -154,21 +187,6 @@ fn last_rank(members: &Table, places: &VecDeque<usize>) -> usize
         unreachable!()
     };
     rank
-}
-
-/// The places of the members before an id, and those of the members behind it, in the order of ids.
-pub fn around<'a>(
-    members: &Table,
-    by_id: &'a VecDeque<usize>,
-    id: &str,
-) -> (Iter<'a, usize>, Iter<'a, usize>)
-    requires { IsIdOrder (texts_in members.now.entries) by_id.now.items }
-    ensures { IsAround (texts_in members.now.entries) by_id.now.items id.now (deque_iter_rest result.0) (deque_iter_rest result.1) }
-{
-    match rank_of(members, by_id, id) {
-        Ok(rank) => (by_id.range(..rank), by_id.range(rank + 1..)),
-        Err(rank) => (by_id.range(..rank), by_id.range(rank..)),
-    }
 }
 
 /// The rank of an id among the places in the order of ids, or the rank at which its place goes.
@@ -187,18 +205,6 @@ fn compare(members: &Table, place: usize, id: &str) -> Ordering
         Some((text, _)) => text.as_str().cmp(id),
         None => "".cmp(id),
     }
-}
-
-/// The first entry of a member with this instance id.
-pub fn first_with<'a>(members: &'a Table, instance: &str) -> Option<&'a Entry>
-    ensures { option_copied result ≡ first_with instance.now members.now.entries }
-{
-    for (_, entry) in members {
-        if entry.kept.has_instance(instance) {
-            return Some(entry);
-        }
-    }
-    None
 }
 
 /// The first rank, from one on, at whose place a member is due.

@@ -6,7 +6,7 @@ use Rattle.std.proofs.Common.{refl, ap, ◌∙◌}
 use Rattle.std.specs.FinMap as finite
 use Rattle.group_epochs.specs.Records.{RecordsState}
 use Rattle.group_epochs.specs.Table.{with_away}
-use Rattle.group_epochs.proofs.Tabled.{kept_of_found, mark_cleared, member_there, record_rewritten, table_rewritten}
+use Rattle.group_epochs.proofs.Tabled.{kept_of_found, mark_cleared, member_order_stays, member_there, record_rewritten, table_rewritten}
 use Rattle.group_epochs.proofs.records.Records.away.Goals as goal
 
 pub go_away-requires : goal.go_away-requires
@@ -18,6 +18,9 @@ invariant_of-self c =
       table =
           table_rewritten c.self.inside.members c.go_away.new.members c.self.inside.past c.args.id.now (with_away c.args.stamp c.args.now) c.go_away.ensures c.self.invariant.table
           (member_there c.self.inside.members c.args.self.now c.args.id.now (ap (λ (s : RecordsState). s.records) c.self.view_is) c.requires) (λ e. refl);
+      member_order =
+          member_order_stays c.self.inside.members c.go_away.new.members c.self.inside.past c.args.id.now (with_away c.args.stamp c.args.now) c.go_away.ensures c.self.invariant.table
+          (member_there c.self.inside.members c.args.self.now c.args.id.now (ap (λ (s : RecordsState). s.records) c.self.view_is) c.requires) (λ e. refl) c.self.invariant.member_order;
       counted =
           rewritten_counted c.self.inside.members c.go_away.new.members c.self.inside.past c.args.id.now (with_away c.args.stamp c.args.now) c.go_away.ensures c.self.invariant.table
           (member_there c.self.inside.members c.args.self.now c.args.id.now (ap (λ (s : RecordsState). s.records) c.self.view_is) c.requires) c.self.inside.counts (λ e. refl) c.self.invariant.counted;

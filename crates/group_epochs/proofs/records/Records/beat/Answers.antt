@@ -5,7 +5,7 @@ use Rattle.std.proofs.Common.{refl, ap, ◌∙◌}
 use Rattle.std.specs.FinMap as finite
 use Rattle.group_epochs.specs.Records.{RecordsState, beaten}
 use Rattle.group_epochs.specs.Table.{with_beat}
-use Rattle.group_epochs.proofs.Tabled.{kept_of_found, mark_stays, member_there, record_rewritten, table_rewritten}
+use Rattle.group_epochs.proofs.Tabled.{kept_of_found, mark_stays, member_order_stays, member_there, record_rewritten, table_rewritten}
 use Rattle.group_epochs.proofs.records.Records.beat.Goals as goal
 
 pub beat-requires : goal.beat-requires
@@ -17,6 +17,9 @@ invariant_of-self c =
       table =
           table_rewritten c.self.inside.members c.beat.new.members c.self.inside.past c.args.id.now (with_beat c.args.stamp c.args.now) c.beat.ensures c.self.invariant.table
           (member_there c.self.inside.members c.args.self.now c.args.id.now (ap (λ (s : RecordsState). s.records) c.self.view_is) c.requires) (λ e. refl);
+      member_order =
+          member_order_stays c.self.inside.members c.beat.new.members c.self.inside.past c.args.id.now (with_beat c.args.stamp c.args.now) c.beat.ensures c.self.invariant.table
+          (member_there c.self.inside.members c.args.self.now c.args.id.now (ap (λ (s : RecordsState). s.records) c.self.view_is) c.requires) (λ e. refl) c.self.invariant.member_order;
       counted =
           rewritten_counted c.self.inside.members c.beat.new.members c.self.inside.past c.args.id.now (with_beat c.args.stamp c.args.now) c.beat.ensures c.self.invariant.table
           (member_there c.self.inside.members c.args.self.now c.args.id.now (ap (λ (s : RecordsState). s.records) c.self.view_is) c.requires) c.self.inside.counts (λ e. refl) c.self.invariant.counted;

@@ -19,6 +19,7 @@ invariant_of-self c =
     let rows = c.self.inside.members.entries in
     record {
       table = c.self.invariant.table;
+      member_order = c.self.invariant.member_order;
       counted = c.self.invariant.counted;
       some = c.self.invariant.some;
       deadlines = subst (λ (first : ℕ). IsNoLater first (records_in rows)) (sym c.first_of_all-self-inside.ensures) (first_no_later (2 ^ 64 - 1) rows);

@@ -30,11 +30,16 @@ count_up-requires-clause-fits c = few_counted c.self.inside.members c.self.insid
 
 pub add-requires-clause-room : goal.add-requires-clause-room
 add-requires-clause-room c =
-    (room_for_one c.self.inside.members c.self.inside.past (deque_capacity c.self.inside.by_id - deque_len c.self.inside.by_id) (subst (λ (s : RecordsState). 0 < s.room) (sym c.self.view_is) c.requires.room.room)).1
+    (room_for_one c.self.inside.members c.self.inside.past (min (deque_capacity c.self.inside.by_id - deque_len c.self.inside.by_id) (deque_capacity c.self.inside.in_member_order - deque_len c.self.inside.in_member_order)) (subst (λ (s : RecordsState). 0 < s.room) (sym c.self.view_is) c.requires.room.room)).1
 
 pub add-requires-clause-order_room : goal.add-requires-clause-order_room
 add-requires-clause-order_room c =
-    let some = (room_for_one c.self.inside.members c.self.inside.past (deque_capacity c.self.inside.by_id - deque_len c.self.inside.by_id) (subst (λ (s : RecordsState). 0 < s.room) (sym c.self.view_is) c.requires.room.room)).0 in
+    let some = (room_for_one c.self.inside.members c.self.inside.past (min (deque_capacity c.self.inside.by_id - deque_len c.self.inside.by_id) (deque_capacity c.self.inside.in_member_order - deque_len c.self.inside.in_member_order)) (subst (λ (s : RecordsState). 0 < s.room) (sym c.self.view_is) c.requires.room.room)).0 in
+    omega (arith, some)
+
+pub add-requires-clause-member_room : goal.add-requires-clause-member_room
+add-requires-clause-member_room c =
+    let some = (room_for_one c.self.inside.members c.self.inside.past (min (deque_capacity c.self.inside.by_id - deque_len c.self.inside.by_id) (deque_capacity c.self.inside.in_member_order - deque_len c.self.inside.in_member_order)) (subst (λ (s : RecordsState). 0 < s.room) (sym c.self.view_is) c.requires.room.room)).0 in
     omega (arith, some)
 
 pub add-requires-clause-absent : goal.add-requires-clause-absent
@@ -50,8 +55,9 @@ invariant_of-self c =
           (record { id = c.new.inside.id; kept = c.args.record; mark = None }) c.add.ensures.added c.self.invariant.table
           (c.forget.ensures.past ∙ ap (without_past c.self.inside.past.past) (c.as_str.ensures.value ∙ sym c.new.invariant)) c.forget.ensures.places
           (sym c.new.invariant)
-          (room_for_one c.self.inside.members c.self.inside.past (deque_capacity c.self.inside.by_id - deque_len c.self.inside.by_id) (subst (λ (s : RecordsState). 0 < s.room) (sym c.self.view_is) c.requires.room.room)).2
+          (room_for_one c.self.inside.members c.self.inside.past (min (deque_capacity c.self.inside.by_id - deque_len c.self.inside.by_id) (deque_capacity c.self.inside.in_member_order - deque_len c.self.inside.in_member_order)) (subst (λ (s : RecordsState). 0 < s.room) (sym c.self.view_is) c.requires.room.room)).2
           c.add.new.by_id.items c.add.ensures.order;
+      member_order = c.add.ensures.member_order;
       counted =
           let names : c.new.inside.names ≡ c.args.record.names = ap (λ (n : Newcomer). n.names) c.new.view_is ∙ c.requires.room.names.0 in
           let kept =

@@ -39,6 +39,7 @@ invariant_of-self c =
           table_without c.self.inside.members c.take_out-former.new.members c.self.inside.past c.remember.new.self c.args.id.now c.take_out-former.result.id c.args.stamp c.take_out-former.ensures.taken c.self.invariant.table
           (member_there c.self.inside.members c.args.self.now c.args.id.now (ap (λ (s : RecordsState). s.records) c.self.view_is) c.requires)
           c.remember.ensures.past c.remember.ensures.places c.take_out-former.new.by_id.items c.take_out-former.ensures.order;
+      member_order = c.take_out-former.ensures.member_order;
       counted =
           let there = member_there c.self.inside.members c.args.self.now c.args.id.now (ap (λ (s : RecordsState). s.records) c.self.view_is) c.requires in
           let was = the_some (get_by_text c.self.inside.members c.args.id.now) there in

@@ -64,6 +64,7 @@ invariant_of-self c =
     record {
       table = table_without c.self.inside.members c.take_out_at-former.new.members c.self.inside.past c.remember.new.self at.0.0 c.take_out_at-former.result.id c.stamp-latest.result taken c.self.invariant.table there
           c.remember.ensures.past c.remember.ensures.places c.take_out_at-former.new.by_id.items c.take_out_at-former.ensures.order;
+      member_order = c.take_out_at-former.ensures.member_order;
       counted =
           subst (λ (s : Records). AreCounts s c.count_down.new.counts) (sym kept)
           (counts_without c.self.inside.counts c.count_down.new.counts (records_in rows) c.self.invariant.counted at.0.0 was.0.kept

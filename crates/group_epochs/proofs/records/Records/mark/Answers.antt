@@ -5,7 +5,7 @@ use Rattle.std.proofs.Common.{refl, ap, ◌∙◌}
 use Rattle.std.specs.FinMap as finite
 use Rattle.group_epochs.specs.Records.{RecordsState, members_in}
 use Rattle.group_epochs.specs.Table.{marked_at}
-use Rattle.group_epochs.proofs.Tabled.{mark_set, member_there, record_stays, table_rewritten}
+use Rattle.group_epochs.proofs.Tabled.{mark_set, member_order_stays, member_there, record_stays, table_rewritten}
 use Rattle.group_epochs.proofs.records.Records.mark.Goals as goal
 
 pub mark-requires : goal.mark-requires
@@ -17,6 +17,9 @@ invariant_of-self c =
       table =
           table_rewritten c.self.inside.members c.mark.new.members c.self.inside.past c.args.id.now (marked_at c.args.epoch) c.mark.ensures c.self.invariant.table
           (member_there c.self.inside.members c.args.self.now c.args.id.now (ap (λ (s : RecordsState). s.records) c.self.view_is) c.requires) (λ e. refl);
+      member_order =
+          member_order_stays c.self.inside.members c.mark.new.members c.self.inside.past c.args.id.now (marked_at c.args.epoch) c.mark.ensures c.self.invariant.table
+          (member_there c.self.inside.members c.args.self.now c.args.id.now (ap (λ (s : RecordsState). s.records) c.self.view_is) c.requires) (λ e. refl) c.self.invariant.member_order;
       counted =
           rewritten_counted c.self.inside.members c.mark.new.members c.self.inside.past c.args.id.now (marked_at c.args.epoch) c.mark.ensures c.self.invariant.table
           (member_there c.self.inside.members c.args.self.now c.args.id.now (ap (λ (s : RecordsState). s.records) c.self.view_is) c.requires) c.self.inside.counts (λ e. refl) c.self.invariant.counted;

@@ -15,8 +15,8 @@ use Rattle.group_epochs.proofs.Rows.{get-records_in, kept_in}
 use Rattle.group_epochs.proofs.Tabled.{mark_cleared, member_there, record_rewritten, table_rewritten, the_some}
 use Rattle.group_epochs.proofs.records.Records.put.Goals as goal
 
-pub put-former-requires : goal.put-former-requires
-put-former-requires c = member_there c.self.inside.members c.args.self.now c.args.id.now (ap (λ (s : RecordsState). s.records) c.self.view_is) c.requires.there
+pub put-former-requires-clause-there : goal.put-former-requires-clause-there
+put-former-requires-clause-there c = member_there c.self.inside.members c.args.self.now c.args.id.now (ap (λ (s : RecordsState). s.records) c.self.view_is) c.requires.there
 
 pub count_up-requires-clause-room : goal.count_up-requires-clause-room
 count_up-requires-clause-room c =
@@ -43,6 +43,7 @@ invariant_of-self c =
     let kept = record_rewritten m c.put-former.new.members c.self.inside.past id (with_record_kept c.args.record) c.put-former.ensures.rewritten c.self.invariant.table there c.args.record (λ e at. refl) in
     record {
       table = table_rewritten m c.put-former.new.members c.self.inside.past id (with_record_kept c.args.record) c.put-former.ensures.rewritten c.self.invariant.table there (λ e. refl);
+      member_order = c.put-former.ensures.member_order;
       counted =
           let can : HasNamesRoom c.args.self.now c.args.record c.in-Some.names = subst (CanReplace c.args.self.now id c.args.record) c.in-Some.is c.requires.names in
           let former = c.put-former.ensures.given was.0 was.1 in
@@ -71,6 +72,7 @@ invariant_of-self-in_default c =
     let kept = record_rewritten m c.put-former.new.members c.self.inside.past id (with_record_kept c.args.record) c.put-former.ensures.rewritten c.self.invariant.table there c.args.record (λ e at. refl) in
     record {
       table = table_rewritten m c.put-former.new.members c.self.inside.past id (with_record_kept c.args.record) c.put-former.ensures.rewritten c.self.invariant.table there (λ e. refl);
+      member_order = c.put-former.ensures.member_order;
       counted =
           let same : KeepsNames c.args.self.now.records id c.args.record = subst (CanReplace c.args.self.now id c.args.record) c.in_default.is c.requires.names in
           subst (λ (s : Records). AreCounts s c.self.inside.counts) (sym kept)

@@ -79,7 +79,7 @@ add-requires-clause-absent c =
 
 pub add-requires-clause-room : goal.add-requires-clause-room
 add-requires-clause-room c =
-    let some = (room_for_one c.self.inside.members c.self.inside.past (deque_capacity c.self.inside.by_id - deque_len c.self.inside.by_id) (subst (λ (s : RecordsState). 0 < s.room) (sym c.self.view_is) c.requires.room.room)).1 in
+    let some = (room_for_one c.self.inside.members c.self.inside.past (min (deque_capacity c.self.inside.by_id - deque_len c.self.inside.by_id) (deque_capacity c.self.inside.in_member_order - deque_len c.self.inside.in_member_order)) (subst (λ (s : RecordsState). 0 < s.room) (sym c.self.view_is) c.requires.room.room)).1 in
     let kept = c.take_out-former.ensures.taken.room in
     omega (arith, some, kept)
 
@@ -92,7 +92,7 @@ invariant_of-self c =
     let absent = entry_absent m heir
     (ap (finite.get (records_in m.entries)) (c.heir.invariant ∙ ap (λ (n : Newcomer). n.id) c.heir.view_is) ∙ ap (λ (s : RecordsState). finite.get s.records c.args.heir.id) c.self.view_is ∙ c.requires.absent) in
     let forgets = c.forget.ensures.past ∙ ap (without_past past.past) (c.as_str.ensures.value ∙ sym c.heir.invariant) in
-    let room = (room_for_one m past (deque_capacity c.self.inside.by_id - deque_len c.self.inside.by_id) (subst (λ (s : RecordsState). 0 < s.room) (sym c.self.view_is) c.requires.room.room)).2 in
+    let room = (room_for_one m past (min (deque_capacity c.self.inside.by_id - deque_len c.self.inside.by_id) (deque_capacity c.self.inside.in_member_order - deque_len c.self.inside.in_member_order)) (subst (λ (s : RecordsState). 0 < s.room) (sym c.self.view_is) c.requires.room.room)).2 in
     let between = table_without m c.take_out-former.new.members c.forget.new.self c.remember.new.self c.args.old.now c.take_out-former.result.id c.stamp-last.result c.take_out-former.ensures.taken (table_forgotten m c.take_out-former.new.members past c.forget.new.self c.remember.new.self c.args.old.now heir c.take_out-former.result.id c.stamp-last.result c.take_out-former.ensures.taken c.self.invariant.table there absent forgets c.forget.ensures.places) there
     c.remember.ensures.past c.remember.ensures.places c.take_out-former.new.by_id.items c.take_out-former.ensures.order in
     let stays = heir_stays_forgotten m c.take_out-former.new.members past c.forget.new.self c.remember.new.self c.args.old.now heir c.take_out-former.result.id c.stamp-last.result c.take_out-former.ensures.taken c.self.invariant.table there absent forgets c.forget.ensures.places c.remember.ensures.past in
@@ -103,6 +103,7 @@ invariant_of-self c =
           table_added c.take_out-former.new.members c.add.new.members c.remember.new.self c.remember.new.self heir (record { id = c.heir.inside.id; kept = c.args.record; mark = None }) c.add.ensures.added between (heir_stays_forgotten m c.take_out-former.new.members past c.forget.new.self c.remember.new.self c.args.old.now heir c.take_out-former.result.id c.stamp-last.result c.take_out-former.ensures.taken c.self.invariant.table there absent forgets c.forget.ensures.places c.remember.ensures.past) refl
           (sym c.heir.invariant) (room_for_heir m c.take_out-former.new.members past c.forget.new.self c.remember.new.self c.args.old.now heir c.take_out-former.result.id c.stamp-last.result c.take_out-former.ensures.taken c.self.invariant.table there absent forgets c.forget.ensures.places c.remember.ensures.past c.remember.ensures.places room)
           c.add.new.by_id.items c.add.ensures.order;
+      member_order = c.add.ensures.member_order;
       counted =
           let was = the_some (get_by_text m c.args.old.now) there in
           let former = c.take_out-former.ensures.given was.0 was.1 in

@@ -1,4 +1,4 @@
-use Rattle.std.proofs.Common.{◌≡◌, Some, sym, subst}
+use Rattle.std.proofs.Common.{◌≡◌, Some, subst}
 use Rattle.std.specs.FinMap as finite
 use Rattle.group_types.specs.Text.{Text}
 use Rattle.group_types.specs.Members.{HasInstance}
@@ -8,10 +8,10 @@ use Rattle.group_epochs.proofs.records.Records.with_instance.Goals as goal
 
 pub returns-in-Some : goal.returns-in-Some
 returns-in-Some c =
-    let found = instance_found c.self.inside.members c.self.inside.past c.self.invariant.table c.args.instance.now c.in-Some.entry.now (sym c.in-Some.ensures) in
+    let found = instance_found c.self.inside.members c.self.inside.past c.self.invariant.table c.args.instance.now c.in-Some.entry.now c.in-Some.ensures in
     (subst (λ (s : RecordsState). finite.get s.records c.in-Some.entry.now.id ≡ Some c.in-Some.entry.now.kept) c.self.view_is found.0, found.1)
 
 pub returns-in-None : goal.returns-in-None
 returns-in-None c =
     subst (λ (s : RecordsState). (m : Text) → ¬ HasInstance s.records m c.args.instance.now) c.self.view_is
-    (instance_absent c.self.inside.members c.self.inside.past c.self.invariant.table c.args.instance.now (sym c.in-None.ensures))
+    (instance_absent c.self.inside.members c.self.inside.past c.self.invariant.table c.args.instance.now c.in-None.ensures)

@@ -1,0 +1,24 @@
+use Rattle.std.proofs.Common.{[], ◌∷◌, ◌++◌, subst, sym, ap, ◌∙◌}
+use Rattle.std.specs.List.{insert}
+use Rattle.std.specs.Option.{option_copied}
+use Rattle.std.proofs.Math.ListN.{length-map}
+use Rattle.group_epochs.specs.Table.{Key, IsOrder, key_cmp, key_of, keys_in, no_key}
+use Rattle.group_epochs.proofs.Keys.{key_absent, key_cmp_total, key_cmp-IsAntisymmetric}
+use Rattle.group_epochs.proofs.Ordered.{no_rank, order_with}
+use Rattle.group_epochs.proofs.order.add_place.Goals as goal
+
+pub rank_of_key-requires : goal.rank_of_key-requires
+rank_of_key-requires c = c.requires.order.rise
+
+pub unreachable-requires : goal.unreachable-requires
+unreachable-requires c =
+    let rows = c.args.members.now.entries in
+    let key : Key = (option_copied c.args.instance, c.args.id.now) in
+    no_rank key_cmp key_cmp_total key_cmp-IsAntisymmetric no_key (keys_in rows) c.args.places.now.items key c.in_default.field-0 c.requires.order (key_absent key rows c.requires.absent) c.in_default.ensures
+
+pub returns : goal.returns
+returns c =
+    let rows = c.args.members.now.entries in
+    let key : Key = (option_copied c.args.instance, c.args.id.now) in
+    subst (IsOrder key_cmp no_key (keys_in rows ++ key ∷ [])) (sym (c.in-Ok.ensures.items ∙ ap (insert c.args.places.now.items c.in-Err.rank) (c.len.ensures.len ∙ sym (length-map rows key_of))))
+    (order_with key_cmp key_cmp_total key_cmp-IsAntisymmetric no_key (keys_in rows) c.args.places.now.items key c.requires.order c.in-Err.rank c.in-Err.ensures)
