@@ -10,10 +10,10 @@ use crate::fault::ServerFault;
 use crate::job::{Job, Works};
 use crate::plan::Plan;
 use coord_shards::{Gate, Shards};
-use futures::channel::mpsc::unbounded;
+use futures::channel::mpsc::{UnboundedReceiver, UnboundedSender, unbounded};
 use futures::stream;
-use link_futures::{Moments, ReadPart, WriteParts};
-use std::alloc::{AllocGlobal, Global};
+use link_futures::{Line, Moments, ReadPart, WriteParts};
+use std::alloc::AllocGlobal;
 use std::net::{Net, TcpListener};
 use std::random::RandomSource;
 use std::sync::Wait;
@@ -81,7 +81,7 @@ where
     Ok(told.load(Ordering::SeqCst))
 }
 
-/// The tasks of a server: its workers, its acceptor, and its expiry worker where the plan has one.
+/// The tasks of a server: its workers, its expiry worker where the plan has one, and its acceptor.
 fn jobs_of<'a, A, C, G, M, R, S, I, O>(
     rt: &'a R,
     handle: &Handle,
@@ -102,22 +102,84 @@ where
     O: WriteParts,
     requires { 0 < plan.workers }
 {
-    let alloc: Global = rt.alloc();
-    let mut jobs = Vec::new(alloc);
-    let mut senders = Vec::new(alloc);
-    let (running, workers) = unbounded(alloc)?;
+    let mut jobs = Vec::new(rt.alloc());
+    let senders = add_workers(rt, handle, shards, moments, plan, &mut jobs)?;
+    let acceptor = Acceptor::new(rt.alloc(), connections, senders, plan.connections, told);
+    jobs.push(Job::Accepts(acceptor))?;
+    Ok(jobs)
+}
+
+/// Adds the tasks of the workers, and that of the expiry worker where the plan has one. Gives the senders of the workers' lines.
+fn add_workers<'a, A, C, G, M, R, S, I, O>(
+    rt: &'a R,
+    handle: &Handle,
+    shards: &'a Shards<A, C, G>,
+    moments: &M,
+    plan: Plan,
+    jobs: &mut Vec<Job<'a, A, C, G, M, R, S, I, O>>,
+) -> Result<Vec<UnboundedSender<Line<I, O>>>, ServerFault>
+where
+    A: Ledger,
+    C: Ledger,
+    G: Gate,
+    M: Moments + Clone,
+    R: Wait + Clock + AllocGlobal,
+    S: Arrivals<I, O>,
+    I: ReadPart,
+    O: WriteParts,
+    ensures { IfOk result (λ senders. vec_len senders ≡ plan.workers) }
+{
+    let (running, workers) = unbounded(rt.alloc())?;
+    let mut senders = Vec::new(rt.alloc());
     for number in 0..plan.workers {
-        let (sender, arrivals) = unbounded(alloc)?;
-        let desk = ShardsDesk::new(rt, alloc, shards, moments.clone()?)?;
-        jobs.push(Job::Works(Works::new(alloc, arrivals, desk, running.clone()?)))?;
+        let (works, sender) = works_of(rt, shards, moments, &running)?;
+        jobs.push(Job::Works(works))?;
         senders.push(sender)?;
     }
-    drop(running);
-    jobs.push(Job::Accepts(Acceptor::new(alloc, connections, senders, plan.connections, told)))?;
     if plan.expires {
-        let ticks = handle.time().interval(rt, Duration::from_millis(TICK))?;
-        let desk = ShardsDesk::new(rt, alloc, shards, moments.clone()?)?;
-        jobs.push(Job::Expires(Expiry::new(desk, ticks, workers)))?;
+        jobs.push(Job::Expires(expiry_of(rt, handle, shards, moments, workers)?))?;
     }
-    Ok(jobs)
+    Ok(senders)
+}
+
+/// The task of a worker, and the sender of its lines.
+fn works_of<'a, A, C, G, M, R, I, O>(
+    rt: &'a R,
+    shards: &'a Shards<A, C, G>,
+    moments: &M,
+    running: &UnboundedSender<()>,
+) -> Result<(Works<'a, A, C, G, M, R, I, O>, UnboundedSender<Line<I, O>>), ServerFault>
+where
+    A: Ledger,
+    C: Ledger,
+    G: Gate,
+    M: Moments + Clone,
+    R: Wait + AllocGlobal,
+    I: ReadPart,
+    O: WriteParts,
+{
+    let desk = ShardsDesk::new(rt, rt.alloc(), shards, moments.clone()?)?;
+    let running = running.clone()?;
+    let (sender, arrivals) = unbounded(rt.alloc())?;
+    Ok((Works::new(rt.alloc(), arrivals, desk, running), sender))
+}
+
+/// The task of the expiry worker, which ends once no worker is left.
+fn expiry_of<'a, A, C, G, M, R>(
+    rt: &'a R,
+    handle: &Handle,
+    shards: &'a Shards<A, C, G>,
+    moments: &M,
+    workers: UnboundedReceiver<()>,
+) -> Result<Expiry<'a, A, C, G, M, R>, ServerFault>
+where
+    A: Ledger,
+    C: Ledger,
+    G: Gate,
+    M: Moments + Clone,
+    R: Wait + Clock + AllocGlobal,
+{
+    let desk = ShardsDesk::new(rt, rt.alloc(), shards, moments.clone()?)?;
+    let ticks = handle.time().interval(rt, Duration::from_millis(TICK))?;
+    Ok(Expiry::new(desk, ticks, workers))
 }
