@@ -1,5 +1,6 @@
 //! Many lines over one desk.
 ghost use Rattle.std.specs.Prelude.{◌≡◌, ◌⊎◌, ◌<◌, true, false, [], length, All};
+ghost use Rattle.futures.specs.Poll.{OnPending};
 ghost use Rattle.futures.specs.Task.{Covers, Keeps};
 ghost use Rattle.link_futures.specs.Stream.{LineNeeds};
 ghost use Rattle.link_futures.specs.Workers.{resting_count, RestingNeed};
@@ -83,19 +84,35 @@ impl<R: ReadPart, W: WriteParts, A: Stream<Item = Line<R, W>>, D: Desk> Worker<A
         }
         let mut has_woken = false;
         for _ in 0..self.resting.len() {
-            if self.lines.reserve(1).is_err() {
-                return true;
-            }
-            match self.resting.poll_woken(cx) {
-                Poll::Ready(Some(line)) => {
-                    let _ = self.lines.push(line);
-                }
-                Poll::Ready(None) => self.ended = self.ended.saturating_add(1),
+            match self.wake_one(cx) {
+                Poll::Ready(()) => has_woken = true,
                 Poll::Pending => return has_woken,
             }
-            has_woken = true;
         }
         true
+    }
+
+    /// Gives turns to one line that has rested and was woken. It waits where no resting line was woken. Where memory is short for
+    /// the line, it stays where it rests, and is woken still.
+    fn wake_one(&mut self, cx: &mut Context<'_>) -> Poll<()>
+        ensures arrivals { (self.new.arrivals ≡ self.old.arrivals) × (self.new.is_closed ≡ self.old.is_closed) }
+        ensures waits { OnPending result (0 < resting_count self.new.resting.lines → Covers cx.new (RestingNeed self.new.resting.lines)) }
+        ensures kept { Keeps cx.old cx.new }
+    {
+        if self.lines.reserve(1).is_err() {
+            return Poll::Ready(());
+        }
+        match self.resting.poll_woken(cx) {
+            Poll::Ready(Some(line)) => {
+                let _ = self.lines.push(line);
+                Poll::Ready(())
+            }
+            Poll::Ready(None) => {
+                self.ended = self.ended.saturating_add(1);
+                Poll::Ready(())
+            }
+            Poll::Pending => Poll::Pending,
+        }
     }
 
     /// Whether arrivals have ended and no line is left.
