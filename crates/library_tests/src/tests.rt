@@ -1,5 +1,6 @@
 //! Tables of questions and the answers that are wanted: one module for each library, and what they share.
 
+mod beats;
 mod callers;
 mod commits;
 mod courses;
@@ -7,6 +8,7 @@ mod fields;
 mod frames;
 mod grants;
 mod groups;
+mod lines;
 mod members;
 mod messages;
 mod nodes;
@@ -15,6 +17,7 @@ mod range_owners;
 mod refused_growths;
 mod shards;
 mod spreads;
+mod streams;
 mod tables;
 mod targets;
 mod topics;

@@ -1,0 +1,279 @@
+//! Words for what a reader gives and for what a writer takes.
+//!
+//! Bytes are named by words: `NAME` is a frame, `NAME*N` so many of it, `NAME:N` its first so many bytes, `NAME/N` the first so
+//! many bytes of its body behind the size that fits them, and any other word hex.
+//!
+//! What each poll does is said by words that are joined by `+`: `N` moves N bytes at most, `p` is pending, `f` fails, and `X*N` does
+//! this so many times; `-` is no poll. Past them each poll moves all that it can.
+
+use super::tables::{self, part_words};
+use bytes::BytesMut;
+use futures::Future;
+use futures::task::Poll;
+use futures::test::MockTask;
+use link_futures::{Drain, Feed, PollAct};
+use std::alloc::{AllocError, AllocGlobal, Global};
+use std::collections::VecDeque;
+use std::io;
+use std::random::RandomSource;
+use tokio::io::{DuplexStream, read_to_end};
+
+/// The most bytes that a writer takes.
+const ROOM: usize = 4_096;
+
+/// A frame and its name.
+pub(super) type Named = (&'static str, &'static [u8]);
+
+/// A word, and the number behind a mark in it, or 1.
+fn times(word: &str, mark: char) -> (&str, usize) {
+    match word.split_once(mark) {
+        Some((word, count)) => (word, tables::number(count)),
+        None => (word, 1),
+    }
+}
+
+/// What the words say that each poll does.
+fn acts(alloc: Global, words: &str) -> Result<VecDeque<PollAct>, AllocError> {
+    let mut acts = VecDeque::new(alloc);
+    for word in words.split('+').filter(|word| *word != "-") {
+        let (word, count) = times(word, '*');
+        for _ in 0..count {
+            for act in word.chars() {
+                acts.push_back(act_of(act))?;
+            }
+        }
+    }
+    Ok(acts)
+}
+
+fn act_of(act: char) -> PollAct {
+    match act {
+        'p' => PollAct::Pending,
+        'f' => PollAct::Fault,
+        _ => PollAct::Bytes(act.to_digit(10).unwrap_or(0) as usize),
+    }
+}
+
+/// A reader of the bytes that the words name.
+pub(super) fn feed(
+    alloc: Global,
+    polls: &str,
+    words: &str,
+    frames: &[Named],
+) -> Result<Feed, AllocError> {
+    let mut bytes = Vec::new(alloc);
+    for word in words.split_whitespace() {
+        put_bytes(alloc, word, frames, &mut bytes)?;
+    }
+    Ok(Feed::new(bytes, acts(alloc, polls)?))
+}
+
+/// A writer.
+pub(super) fn drain(alloc: Global, polls: &str) -> Result<Drain, AllocError> {
+    Drain::new(alloc, ROOM, acts(alloc, polls)?)
+}
+
+/// A task that polls. Where a growth is refused it is made once more.
+pub(super) fn task_of<R: RandomSource + AllocGlobal>(rt: &R) -> io::Result<MockTask> {
+    MockTask::new(rt).or_else(|_| MockTask::new(rt))
+}
+
+/// What a future gives within 1,000 polls, or none where it gives nothing by then or waits for what never comes.
+pub(super) fn output_of<F: Future>(task: &MockTask, future: F) -> Option<F::Output>
+    requires { F.can_poll future }
+{
+    let mut future = future;
+    for _ in 0..1_000 {
+        match task.poll(&mut future) {
+            Poll::Ready(output) => return Some(output),
+            Poll::Pending => {
+                if !task.is_woken() {
+                    return None;
+                }
+            }
+        }
+    }
+    None
+}
+
+/// What was written into a pipe whose other end is gone.
+pub(super) fn written(
+    alloc: Global,
+    task: &MockTask,
+    far: DuplexStream,
+) -> Result<BytesMut, AllocError> {
+    let mut read = read_to_end(far, BytesMut::from_vec(Vec::new(alloc)));
+    match task.poll(&mut read) {
+        Poll::Ready(Ok((_far, bytes))) => Ok(bytes),
+        _ => Err(AllocError),
+    }
+}
+
+/// Appends the bytes that a word names.
+fn put_bytes(
+    alloc: Global,
+    word: &str,
+    frames: &[Named],
+    bytes: &mut Vec<u8>,
+) -> Result<(), AllocError> {
+    if let Some((name, most)) = word.split_once('/') {
+        return put_cut_body(name, tables::number(most), frames, bytes);
+    }
+    let (front, most) = word.split_once(':').unwrap_or((word, ""));
+    let (name, count) = times(front, '*');
+    let Some(frame) = frame_named(name, frames) else {
+        return bytes.extend_from_slice(tables::bytes_of(alloc, word)?.as_slice());
+    };
+    let most = most
+        .parse::<usize>()
+        .unwrap_or(frame.len())
+        .min(frame.len());
+    for _ in 0..count {
+        bytes.extend_from_slice(&frame[..most])?;
+    }
+    Ok(())
+}
+
+/// Appends the first so many bytes of a frame's body, behind the size that fits them.
+fn put_cut_body(
+    name: &str,
+    most: u32,
+    frames: &[Named],
+    bytes: &mut Vec<u8>,
+) -> Result<(), AllocError> {
+    let body = frame_named(name, frames)
+        .and_then(|frame| frame.get(4..))
+        .unwrap_or(&[]);
+    bytes.extend_from_slice(&most.to_be_bytes())?;
+    bytes.extend_from_slice(body.get(..most as usize).unwrap_or(body))
+}
+
+fn frame_named(name: &str, frames: &[Named]) -> Option<&'static [u8]> {
+    for (known, frame) in frames {
+        if *known == name {
+            return Some(*frame);
+        }
+    }
+    None
+}
+
+/// Puts bytes as words: frames by their names, and what is left as the front part of a frame, or in hex.
+pub(super) fn put_words(
+    bytes: &[u8],
+    frames: &[Named],
+    out: &mut String,
+) -> Result<(), AllocError> {
+    let mut left = bytes;
+    for _ in 0..bytes.len() {
+        let Some((name, frame)) = front_frame(left, frames) else {
+            break;
+        };
+        let count = repeats(left, frame);
+        left = left.get(count.saturating_mul(frame.len())..).unwrap_or(&[]);
+        put_frame(name, count, out)?;
+    }
+    put_rest(left, frames, out)
+}
+
+/// Puts a frame that stands so many times in a row.
+fn put_frame(name: &str, count: usize, out: &mut String) -> Result<(), AllocError> {
+    part_words(out)?;
+    out.push_str(name)?;
+    if count > 1 {
+        write!(out, "*{count}")?;
+    }
+    Ok(())
+}
+
+/// How many times in a row the bytes begin with a frame.
+fn repeats(bytes: &[u8], frame: &[u8]) -> usize {
+    let mut count = 0usize;
+    for part in bytes.chunks(frame.len().max(1)) {
+        if part != frame {
+            break;
+        }
+        count = count.saturating_add(1);
+    }
+    count
+}
+
+/// The frame that the bytes begin with, and its name.
+fn front_frame(bytes: &[u8], frames: &[Named]) -> Option<Named> {
+    for (name, frame) in frames {
+        if !frame.is_empty() && bytes.starts_with(*frame) {
+            return Some((*name, *frame));
+        }
+    }
+    None
+}
+
+/// Puts bytes that begin with no frame.
+fn put_rest(bytes: &[u8], frames: &[Named], out: &mut String) -> Result<(), AllocError> {
+    if bytes.is_empty() {
+        return Ok(());
+    }
+    part_words(out)?;
+    for (name, frame) in frames {
+        if frame.starts_with(bytes) {
+            return write!(out, "{name}:{}", bytes.len());
+        }
+    }
+    tables::put_hex(out, bytes)
+}
+
+/// What answers rows of a table.
+pub(super) trait Streams {
+    /// Appends the answer to a question.
+    fn answer(&self, alloc: Global, question: &str, out: &mut String) -> Result<(), AllocError>;
+}
+
+/// The rows whose answer is another than the one that is wanted, each with that answer. A row begins with the first and the last
+/// number, as `1..33`, that `#` in it stands for; it is asked for each of them.
+pub(super) fn wrong_rows<S: Streams>(
+    alloc: Global,
+    table: &str,
+    streams: &S,
+) -> Result<String, AllocError> {
+    let mut wrong = String::new(alloc);
+    for row in table.lines().filter(|row| !row.is_empty()) {
+        let (numbers, row) = tables::cut(row);
+        let (first, last) = numbers.split_once("..").unwrap_or((numbers, numbers));
+        for number in tables::number::<u32>(first)..=tables::number::<u32>(last) {
+            let row = numbered(alloc, row, number).or_else(|_| numbered(alloc, row, number))?;
+            put_wrong(alloc, row.as_str(), streams, &mut wrong)?;
+        }
+    }
+    Ok(wrong)
+}
+
+/// The row with a number in place of each `#`.
+fn numbered(alloc: Global, row: &str, number: u32) -> Result<String, AllocError> {
+    let mut text = String::new(alloc);
+    for part in row.split_inclusive('#') {
+        match part.strip_suffix('#') {
+            Some(front) => write!(text, "{front}{number}")?,
+            None => text.push_str(part)?,
+        }
+    }
+    Ok(text)
+}
+
+fn put_wrong<S: Streams>(
+    alloc: Global,
+    row: &str,
+    streams: &S,
+    wrong: &mut String,
+) -> Result<(), AllocError> {
+    let (question, wanted) = row.split_once(" = ").unwrap_or((row, ""));
+    let answer = asked(alloc, question, streams).or_else(|_| asked(alloc, question, streams))?;
+    if answer.as_str() != wanted {
+        writeln!(wrong, "{question} = {answer}")?;
+    }
+    Ok(())
+}
+
+fn asked<S: Streams>(alloc: Global, question: &str, streams: &S) -> Result<String, AllocError> {
+    let mut answer = String::new(alloc);
+    streams.answer(alloc, question, &mut answer)?;
+    Ok(answer)
+}
