@@ -25,6 +25,8 @@ pub mod Hands
 pub mod Heaps
 pub mod Piled
 pub mod Firsts
+pub mod Ordered
+pub mod Searched
 pub mod Ranked
 pub mod Queued
 pub mod Located

@@ -4,7 +4,7 @@ use Rattle.std.proofs.lemmas.Bool.{cases_lt}
 use Rattle.std.proofs.lemmas.List.{length_push, length-map}
 use Rattle.std.proofs.lemmas.Option.{get_or_from_slice_get, same_Some, slice_get-get_or, slice_get_within}
 use Rattle.uniform_assign.specs.declared.ranking.Rank.{Rank}
-use Rattle.uniform_assign.specs.Rankings.{AreRanks, IsBefore, IsLeastAt, IsMatch, IsPlayed, IsRanking, counts_of}
+use Rattle.uniform_assign.specs.Rankings.{AreRanks, IsBefore, IsFirstRank, IsLeastAt, IsMatch, IsPlayed, IsRanking, counts_of}
 use Rattle.uniform_assign.proofs.Counts.{cases_equal}
 use Rattle.uniform_assign.proofs.Kept.{slice_get-set_other, slice_get-set_same}
 use Rattle.uniform_assign.proofs.Lists.{pushed_at, slice_get-append_left, slice_get-map_from, some_at}
@@ -171,11 +171,17 @@ module _ (counts : List ℕ) (nodes : List Rank) (is : IsRanking counts nodes) w
         ap (λ (r : Rank). slice_get counts r.place) (sym same) ∙ is_n ∙ ap (λ (r : Rank). Some r.count) same
   ]
 
-  pub root-least : (root : Rank) → slice_get nodes 1 ≡ Some root → IsLeastAt counts root.place
+  root-rank : (root : Rank) → slice_get nodes 1 ≡ Some root → slice_get counts root.place ≡ Some root.count
+  root-rank root is_root =
+      let many = is.are_ranks.as_many in
+      let long = slice_get_within nodes 1 root is_root in
+      node-rank (length counts + length counts) 1 (omega arith) (omega arith) (omega arith) root is_root
+
+  root-least : (root : Rank) → slice_get nodes 1 ≡ Some root → IsLeastAt counts root.place
   root-least root is_root =
       let many = is.are_ranks.as_many in
       let long = slice_get_within nodes 1 root is_root in
-      let mine = node-rank (length counts + length counts) 1 (omega arith) (omega arith) (omega arith) root is_root in
+      let mine = root-rank root is_root in
       let value = get_or_from_slice_get counts root.place root.count 0 mine in
       let before = λ (j : ℕ) (low : j < length counts). root-before root is_root (length counts + j) (length counts + j) (omega arith) (omega arith) (omega arith) (record { count = get_or counts j 0; place = j }) (is.are_ranks.ranks j (get_or counts j 0) (slice_get-get_or counts j 0 low)) in
       record {
@@ -185,6 +191,12 @@ module _ (counts : List ℕ) (nodes : List Rank) (is : IsRanking counts nodes) w
             let inside = slice_get_within counts root.place root.count mine in
             elim (before j (omega arith)) [ inl less ↦ omega arith | inr tie ↦ let later = tie.1 in absurd (omega arith) ];
       }
+
+  pub root-first : (root : Rank) → slice_get nodes 1 ≡ Some root → IsFirstRank counts root
+  root-first root is_root = record {
+    least = root-least root is_root;
+    count = get_or_from_slice_get counts root.place root.count 0 (root-rank root is_root);
+  }
 
 -- ---- the ranks are listed
 

@@ -5,6 +5,7 @@ pub mod Drafts
 pub mod Former
 pub mod Moves
 pub mod Hands
+pub mod Orders
 pub mod Piles
 pub mod Rankings
 pub mod Wheels

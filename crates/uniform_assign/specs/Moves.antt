@@ -64,18 +64,6 @@ IsEarlier one other o =
     MatchOption one (o ≡ other) (λ m. MatchOption other (o ≡ one)
     (λ n. ((o ≡ other) × (n.partition < m.partition)) ⊎ ((o ≡ one) × (m.partition ≤ n.partition))))
 
--- the first of the moves of the first n members: from the one that owns the most, and of several such from the first
-pub record IsFirstBelow (board : Board) (draft : Draft) (n : ℕ) (m : Move) : Type 0 where
-  pub is_move : IsMove board draft m
-  pub within : m.from < n
-  pub most : (i k : ℕ) → i < n → CanGive board draft i k → slice_index draft.counts.items i ≤ slice_index draft.counts.items m.from
-  pub first_member : (i k : ℕ) → i < n → CanGive board draft i k → i < m.from → slice_index draft.counts.items i < slice_index draft.counts.items m.from
-  pub first_partition : (k : ℕ) → CanGive board draft m.from k → m.partition ≤ k
-
--- that move, if one of the first n members can give a partition away
-abbrev pub IsNextBelow : Board → Draft → ℕ → Option Move → Type 0
-IsNextBelow board draft n o = MatchOption o ((i k : ℕ) → i < n → ¬ CanGive board draft i k) (IsFirstBelow board draft n)
-
 -- the counts with one partition moved
 abbrev pub one_moved : List ℕ → ℕ → ℕ → List ℕ
 one_moved counts from to =

@@ -54,6 +54,15 @@ pub record IsLeastAt (counts : List ℕ) (k : ℕ) : Type 0 where
 abbrev pub IsLeastPlace : List ℕ → Option ℕ → Type 0
 IsLeastPlace counts o = MatchOption o (counts ≡ []) (IsLeastAt counts)
 
+-- the rank of that count
+pub record IsFirstRank (counts : List ℕ) (rank : Rank) : Type 0 where
+  pub least : IsLeastAt counts rank.place
+  pub count : slice_index counts rank.place ≡ rank.count
+
+-- it is told, if there is any
+abbrev pub IsFirstRankOf : List ℕ → Option Rank → Type 0
+IsFirstRankOf counts o = MatchOption o (counts ≡ []) (IsFirstRank counts)
+
 -- the takers' counts
 abbrev pub counts_of : List ℕ → List ℕ → List ℕ
 counts_of counts takers = map (slice_index counts) takers

@@ -1,16 +1,18 @@
 //! Moves from members that own many partitions to members that own few.
 
-ghost use Rattle.std.specs.Prelude.{◌≡◌, ◌<◌, ◌+◌, ℕ, IfOk, None, OnOk, Some, length, slice_get};
+ghost use Rattle.std.specs.Prelude.{◌≡◌, ◌<◌, ◌+◌, ℕ, [], IfOk, None, OnOk, Some, length, slice_get};
 ghost use Rattle.std.specs.Bool.{OnTrue};
 ghost use Rattle.uniform_assign.specs.Boards.{IsBoard, members_on};
 ghost use Rattle.uniform_assign.specs.Drafts.{IsDraft, IsLevelled, drawn_on};
-ghost use Rattle.uniform_assign.specs.Moves.{AreFewest, IsEarlier, IsFirstAmong, IsFirstOf, IsMoveOf, IsNext, IsNextBelow};
+ghost use Rattle.uniform_assign.specs.Moves.{AreFewest, IsEarlier, IsFirstAmong, IsFirstOf, IsMoveOf, IsNext};
+ghost use Rattle.uniform_assign.specs.Orders.{IsOrder, IsOrderBut};
 ghost use Rattle.uniform_assign.specs.Piles.{AreOfTopic, ArePiles, IsHand, IsIn};
 ghost use Rattle.uniform_assign.specs.Rankings.{AreRankings};
 
 use crate::board::Board;
 use crate::draft::Draft;
 use crate::givers::{are_within, givers_limit};
+use crate::order::Order;
 use crate::pile::Pile;
 use crate::piles::add;
 use crate::ranking::Ranking;
@@ -40,8 +42,8 @@ impl Board<'_> {
         self.move_each(alloc, draft)
     }
 
-    /// Moves one partition after the other until none can move: each is found by the orders of the topics' subscribers
-    /// and by the members' piles.
+    /// Moves one partition after the other until none can move: each is found by the order of the members, the orders of
+    /// the topics' subscribers and the members' piles.
     fn move_each(&self, alloc: Global, draft: &mut Draft) -> Result<(), AllocError>
         requires board { IsBoard self.now }
         requires draft { IsDraft self.now draft.old }
@@ -50,12 +52,15 @@ impl Board<'_> {
             (drawn_on self.now draft.old.owners.items) (drawn_on self.now draft.new.owners.items)) }
     {
         let mut rankings = self.rankings(alloc, draft)?;
+        let mut order = Order::of(alloc, &draft.counts)?;
         let mut piles = self.piles(alloc, draft)?;
-        while let Some(next) = self.next_move(alloc, draft, &rankings, &mut piles)? {
+        while let Some(next) = self.next_move(alloc, draft, &rankings, &mut order, &mut piles)? {
             let topic = self.places[next.partition].topic;
             draft.give(next.partition, next.to);
             self.renew(&mut rankings, next.from, draft.counts[next.from]);
             self.renew(&mut rankings, next.to, draft.counts[next.to]);
+            order.set(next.from, draft.counts[next.from]);
+            order.set(next.to, draft.counts[next.to]);
             add(alloc, &mut piles[next.to], topic, next.partition)?;
         }
         Ok(())
@@ -86,50 +91,54 @@ impl Board<'_> {
         alloc: Global,
         draft: &Draft,
         rankings: &[Ranking],
+        order: &mut Order,
         piles: &mut Vec<Vec<Pile>>,
     ) -> Result<Option<Move>, AllocError>
         requires board { IsBoard self.now }
         requires draft { IsDraft self.now draft.now }
         requires rankings { AreRankings self.now draft.now.counts.items rankings.now }
+        requires order { IsOrder draft.now.counts.items order.old }
         requires piles { ArePiles self.now draft.now (length self.now.places.items) piles.old.items }
+        ensures order { OnOk result (IsOrder draft.now.counts.items order.new) }
         ensures piles { ArePiles self.now draft.now (length self.now.places.items) piles.new.items }
         ensures next { IfOk result (IsNext self.now draft.now (length self.now.places.items)) }
     {
         let fewest = self.fewest(alloc, rankings)?;
-        let limit = givers_limit(&draft.counts, &fewest);
-        let mut best = None;
-        for from in 0..piles.len() {
-            if draft.counts[from] > limit {
-                best = self.better_move(draft, &fewest, &mut piles[from], from, best);
-            }
-        }
-        Ok(best)
+        let mut aside = Vec::new(alloc);
+        let next = self.move_in_order(draft, &fewest, order, piles, &mut aside)?;
+        order.put_back(&aside, &draft.counts);
+        Ok(next)
     }
 
-    /// The best of the moves of the members up to this one, of which the best of those before it is known.
-    fn better_move(
+    /// The same, looked for member by member in their order. The members before the one that gives are set aside.
+    fn move_in_order(
         &self,
         draft: &Draft,
         fewest: &[Option<usize>],
-        hand: &mut Vec<Pile>,
-        from: usize,
-        best: Option<Move>,
-    ) -> Option<Move>
+        order: &mut Order,
+        piles: &mut Vec<Vec<Pile>>,
+        aside: &mut Vec<usize>,
+    ) -> Result<Option<Move>, AllocError>
         requires board { IsBoard self.now }
         requires draft { IsDraft self.now draft.now }
         requires fewest { AreFewest self.now draft.now fewest.now }
-        requires member_in { from < length draft.now.counts.items }
-        requires hand { IsHand self.now draft.now (length self.now.places.items) from hand.old.items }
-        requires before { IsNextBelow self.now draft.now from best }
-        ensures hand { IsHand self.now draft.now (length self.now.places.items) from hand.new.items }
-        ensures next { IsNextBelow self.now draft.now (from + 1) result }
+        requires order { IsOrder draft.now.counts.items order.old }
+        requires piles { ArePiles self.now draft.now (length self.now.places.items) piles.old.items }
+        requires none { aside.old.items ≡ [] }
+        ensures order { OnOk result (IsOrderBut draft.now.counts.items aside.new.items order.new) }
+        ensures piles { ArePiles self.now draft.now (length self.now.places.items) piles.new.items }
+        ensures next { IfOk result (IsNext self.now draft.now (length self.now.places.items)) }
     {
-        if let Some(before) = best {
-            if draft.counts[from] <= draft.counts[before.from] {
-                return best;
+        let limit = givers_limit(&draft.counts, fewest);
+        while let Some(from) = order.first_above(limit) {
+            let found = self.first_move(draft, fewest, &mut piles[from], from);
+            if found.is_some() {
+                return Ok(found);
             }
+            order.set(from, 0);
+            aside.push(from)?;
         }
-        self.first_move(draft, fewest, hand, from).or(best)
+        Ok(None)
     }
 
     /// The move of the first partition that the member can give away.

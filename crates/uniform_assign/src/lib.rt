@@ -14,6 +14,7 @@ mod lawful;
 mod laws;
 mod least;
 mod level;
+mod order;
 mod pile;
 mod piles;
 mod ranking;

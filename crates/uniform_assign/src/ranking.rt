@@ -1,7 +1,7 @@
 //! Counts in order, so that the first is at hand.
 
 ghost use Rattle.std.specs.Prelude.{◌≡◌, ◌+◌, ◌/◌, ◌<◌, ℕ, List, All, IfOk, Some, length, slice_get, slice_set};
-ghost use Rattle.uniform_assign.specs.Rankings.{AreRanks, IsFirstOfTwo, IsLeastPlace, IsPlayed, IsRanking, counts_of};
+ghost use Rattle.uniform_assign.specs.Rankings.{AreRanks, IsFirstOfTwo, IsFirstRankOf, IsPlayed, IsRanking, counts_of};
 
 use std::alloc::{AllocError, Global};
 
@@ -39,14 +39,14 @@ impl Ranking {
         Ok(ranking)
     }
 
-    /// The place of the first count, if there is any.
-    pub fn first(&self) -> Option<usize>
-        ensures { (counts : List ℕ) → IsRanking counts self.now.nodes.items → IsLeastPlace counts result }
+    /// The first count and its place, if there is any.
+    pub fn first(&self) -> Option<Rank>
+        ensures { (counts : List ℕ) → IsRanking counts self.now.nodes.items → IsFirstRankOf counts result }
     {
         if self.nodes.len() < 2 {
             return None;
         }
-        Some(self.nodes[1].place)
+        Some(self.nodes[1])
     }
 
     /// Writes the count at a place.

@@ -64,7 +64,7 @@ fn first_taker(takers: &[usize], ranking: &Ranking) -> Option<usize>
         → IsLeastOf counts takers.now result }
 {
     let first = ranking.first()?;
-    takers.get(first).copied()
+    takers.get(first.place).copied()
 }
 
 /// Where the member is among the takers.

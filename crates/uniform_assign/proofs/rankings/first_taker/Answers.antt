@@ -22,8 +22,9 @@ returns-in_err-first c = λ counts ranking.
 pub returns : goal.returns
 returns c = λ counts ranking.
     let takers = c.args.takers.now in
-    let k = c.in_ok-first.first in
-    let least = c.in_ok-first.ensures (counts_of counts takers) ranking in
+    let k = c.in_ok-first.first.place in
+    let is_first = c.in_ok-first.ensures (counts_of counts takers) ranking in
+    let least = is_first.least in
     let long = length-map takers (λ t. get_or counts t 0) in
     let within = least.within in
     let low : k < length takers = omega arith in

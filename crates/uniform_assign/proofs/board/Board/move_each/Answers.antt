@@ -1,21 +1,29 @@
-use Rattle.std.proofs.Common.{◌≡◌, ◌<◌, ap, ◌∙◌, inl, inr, List, [], ◌∷◌, ◌++◌, length, slice_set, refl, sym, subst, arith, Some, get_or, length-set}
+use Rattle.std.proofs.Common.{◌≡◌, ◌<◌, ℕ, ap, ◌∙◌, inl, inr, List, [], ◌∷◌, ◌++◌, length, slice_set, refl, sym, subst, arith, Some, get_or, length-set}
 use Rattle.std.proofs.lemmas.Option.{same_Some, slice_get_read, slice_get_within}
 use Rattle.std.specs.List.{slice_get}
 use Rattle.group_types.specs.Owners.{Spread}
 use Rattle.group_types.specs.Uniform.{AreMoves}
 use Rattle.uniform_assign.specs.Drafts.{drawn_on}
 use Rattle.uniform_assign.specs.Moves.{IsFirst, IsNext}
+use Rattle.uniform_assign.specs.Orders.{IsOrder}
 use Rattle.uniform_assign.specs.Rankings.{AreRankings}
 use Rattle.std.proofs.lemmas.List.{get_or_read}
 use Rattle.uniform_assign.proofs.Counts.{cases_equal, moved-again, squares, squares_fall}
 use Rattle.uniform_assign.proofs.Kept.{slice_get-set_other, slice_get-set_same}
+use Rattle.uniform_assign.proofs.Ordered.{order-room}
 use Rattle.uniform_assign.proofs.Piled.{ArePiles-added}
 use Rattle.uniform_assign.proofs.Moves.{AreMoves-push, IsDraft-give, move-to, next_move, no_move-level}
 use Rattle.uniform_assign.proofs.board.Board.move_each.Goals as goal
 use Rattle.uniform_assign.specs.Boards.{members_on}
 
 pub loop-piles-init : goal.loop-piles-init
-loop-piles-init c = (c.requires.draft, ([], refl), c.in_ok-piles.ensures, c.in_ok-rankings.ensures)
+loop-piles-init c = (
+  c.requires.draft,
+  ([], refl),
+  c.in_ok-piles.ensures,
+  c.in_ok-rankings.ensures,
+  subst (λ (xs : List ℕ). IsOrder xs c.in_ok-order.order) c.deref.ensures.value c.in_ok-order.ensures,
+)
 
 pub give-requires : goal.give-requires
 give-requires c =
@@ -54,7 +62,7 @@ loop-piles-preserved c =
     let subs = members_on board in
     let draft = c.loop-piles.draft in
     let m = c.in-Some.next in
-    let (is_draft, (steps, moves), are, ranked) = c.loop-piles.invariant in
+    let (is_draft, (steps, moves), are, ranked, ordered) = c.loop-piles.invariant in
     let first : IsFirst board draft (length board.places.items) m = subst (IsNext board draft (length board.places.items)) c.in-Some.is c.in_ok-next.ensures.next in
     let next = next_move board draft c.requires.board is_draft m first in
     let given = slice_set draft.owners.items m.partition (Some m.to) in
@@ -100,6 +108,22 @@ loop-piles-preserved c =
           let renewed = c.renew.ensures counts from_in ranked in
           let again = c.renew-in-Some.ensures (slice_set counts m.from one) (omega arith) renewed in
           subst (λ xs. AreRankings board xs c.renew-in-Some.new.rankings.items) (moved-again counts new m.from m.to one two from_in (omega arith) apart (c.give.ensures.moved m.from first.is_move.owns) is_one is_two) again,
+      let counts = draft.counts.items in
+          let new = c.give.new.self.counts.items in
+          let (to, is_to) = move-to board draft c.requires.board is_draft m first.is_move in
+          let low = slice_get_within (members_on board) m.to to is_to in
+          let many = is_draft.as_many_counts in
+          let from_in = is_draft.counts.within m.partition m.from first.is_move.owns in
+          let as_many = c.give.ensures.as_many in
+          let fewer = first.is_move.fewer in
+          let apart : m.to ≡ m.from → ⊥ = λ same. let equal = ap (λ n. get_or counts n 0) same in omega arith in
+          let one = c.index-in-Some-3.result.now in
+          let two = c.index-in-Some-4.result.now in
+          let is_one = get_or_read new m.from one (omega arith) c.index-in-Some-3.ensures 0 in
+          let is_two = get_or_read new m.to two (omega arith) c.index-in-Some-4.ensures 0 in
+          let written = c.set.ensures counts c.in_ok-next.ensures.order in
+          let again = c.set-in-Some.ensures (slice_set counts m.from one) written in
+          subst (λ xs. IsOrder xs c.set-in-Some.new.self) (moved-again counts new m.from m.to one two from_in (omega arith) apart (c.give.ensures.moved m.from first.is_move.owns) is_one is_two) again,
     )
 
 pub loop-piles-smaller : goal.loop-piles-smaller
@@ -121,7 +145,7 @@ pub returns : goal.returns
 returns c =
     let board = c.args.self.now in
     let draft = c.loop-piles.draft in
-    let (is_draft, (steps, moves), are, ranked) = c.loop-piles.invariant in
+    let (is_draft, (steps, moves), are, ranked, ordered) = c.loop-piles.invariant in
     let none = subst (IsNext board draft (length board.places.items)) c.in_default.is c.in_ok-next.ensures.next in
     record { draft = is_draft; levelled = record { steps = steps; are_moves = moves; is_level = no_move-level board draft c.requires.board is_draft none } }
 
@@ -148,3 +172,42 @@ renew-requires-in-Some-clause-known c =
     let first : IsFirst board draft (length board.places.items) m = subst (IsNext board draft (length board.places.items)) c.in-Some.is c.in_ok-next.ensures.next in
     let from_in = is_draft.counts.within m.partition m.from first.is_move.owns in
     (slice_set draft.counts.items m.from c.index-in-Some.result.now, c.renew.ensures draft.counts.items from_in c.loop-piles.invariant.3)
+
+pub index-requires-in-Some-4 : goal.index-requires-in-Some-4
+index-requires-in-Some-4 c =
+    let board = c.args.self.now in
+    let draft = c.loop-piles.draft in
+    let m = c.in-Some.next in
+    let is_draft = c.loop-piles.invariant.0 in
+    let first : IsFirst board draft (length board.places.items) m = subst (IsNext board draft (length board.places.items)) c.in-Some.is c.in_ok-next.ensures.next in
+    let (to, is_to) = move-to board draft c.requires.board is_draft m first.is_move in
+    let low = slice_get_within (members_on board) m.to to is_to in
+    let many = is_draft.as_many_counts in
+    let as_many = c.give.ensures.as_many in
+    let ok = c.give.new.self.counts.ok in
+    omega arith
+
+pub set-requires : goal.set-requires
+set-requires c =
+    let board = c.args.self.now in
+    let draft = c.loop-piles.draft in
+    let m = c.in-Some.next in
+    let is_draft = c.loop-piles.invariant.0 in
+    let first : IsFirst board draft (length board.places.items) m = subst (IsNext board draft (length board.places.items)) c.in-Some.is c.in_ok-next.ensures.next in
+    let from_in = is_draft.counts.within m.partition m.from first.is_move.owns in
+    order-room draft.counts.items c.next_move.new.order m.from c.in_ok-next.ensures.order from_in
+
+pub set-requires-in-Some : goal.set-requires-in-Some
+set-requires-in-Some c =
+    let board = c.args.self.now in
+    let draft = c.loop-piles.draft in
+    let counts = draft.counts.items in
+    let m = c.in-Some.next in
+    let is_draft = c.loop-piles.invariant.0 in
+    let first : IsFirst board draft (length board.places.items) m = subst (IsNext board draft (length board.places.items)) c.in-Some.is c.in_ok-next.ensures.next in
+    let (to, is_to) = move-to board draft c.requires.board is_draft m first.is_move in
+    let low = slice_get_within (members_on board) m.to to is_to in
+    let many = is_draft.as_many_counts in
+    let one = c.index-in-Some-3.result.now in
+    let long = length-set counts m.from one in
+    order-room (slice_set counts m.from one) c.set.new.self m.to (c.set.ensures counts c.in_ok-next.ensures.order) (omega arith)

@@ -1,7 +1,7 @@
 use Rattle.std.proofs.Common.{length, refl, arith}
 use Rattle.std.proofs.lemmas.List.{nil_from_length}
 use Rattle.std.proofs.lemmas.Option.{slice_get_read}
-use Rattle.uniform_assign.proofs.Ranked.{root-least}
+use Rattle.uniform_assign.proofs.Ranked.{root-first}
 use Rattle.uniform_assign.proofs.ranking.Ranking.first.Goals as goal
 
 pub returns-then-len-lt2 : goal.returns-then-len-lt2
@@ -18,4 +18,4 @@ returns c = λ counts is.
     let many = c.if-len-lt2.false in
     let shown = c.len.ensures in
     let ok = c.args.self.now.nodes.ok in
-    root-least counts nodes is c.index.result.now (slice_get_read nodes (length nodes) 1 c.index.result.now refl (omega arith) c.index.ensures)
+    root-first counts nodes is c.index.result.now (slice_get_read nodes (length nodes) 1 c.index.result.now refl (omega arith) c.index.ensures)
