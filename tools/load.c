@@ -49,13 +49,13 @@ enum {
 enum { REQUEST_ID = 8, REPLY_ID = 4 };
 
 struct options {
-    int port, connections, members, groups, seconds, threads, workers, idle, pid, depths[MOST_DEPTHS], depth_count;
+    int port, connections, members, groups, seconds, threads, workers, batch, idle, pid, depths[MOST_DEPTHS], depth_count;
     const char *topic;
     bool echo;
 };
 
 static struct options options = {
-    .connections = 8, .members = 1, .seconds = 5, .threads = 2, .workers = 4, .depths = {1, 64}, .depth_count = 2, .topic = "t"};
+    .connections = 8, .members = 1, .seconds = 5, .threads = 2, .workers = 4, .batch = MOST_DEPTH, .depths = {1, 64}, .depth_count = 2, .topic = "t"};
 
 static void fail(const char *form, ...)
 {
@@ -624,7 +624,16 @@ struct echo_line {
 
 static struct bytes echo_answer;
 
-/* Answers the whole frames of one read by one write. */
+/* Writes the answers that are ready, if they are as many as a write takes. */
+static void write_batch(struct echo_line *line, struct bytes *output, size_t least)
+{
+    if (output->length < least)
+        return;
+    send_all(line->fd, output->data, output->length);
+    output->length = 0;
+}
+
+/* Answers the whole frames of one read, so many by each write. */
 static void echo(struct echo_line *line, struct bytes *output)
 {
     ssize_t found = recv(line->fd, line->input + line->filled, sizeof line->input - line->filled, 0);
@@ -636,16 +645,16 @@ static void echo(struct echo_line *line, struct bytes *output)
         return;
     }
     line->filled += (size_t)found;
-    output->length = 0;
     size_t at = 0;
     while (line->filled - at >= 4 && line->filled - at - 4 >= (size_t)get_int32(line->input + at)) {
         put(output, echo_answer.data, echo_answer.length);
         memcpy(output->data + output->length - echo_answer.length + REPLY_ID, line->input + at + REQUEST_ID, 4);
         at += 4 + (size_t)get_int32(line->input + at);
+        write_batch(line, output, (size_t)options.batch * echo_answer.length);
     }
     memmove(line->input, line->input + at, line->filled - at);
     line->filled -= at;
-    send_all(line->fd, output->data, output->length);
+    write_batch(line, output, 1);
 }
 
 static void *echo_worker(void *argument)
@@ -850,6 +859,7 @@ static const struct numbered_option numbered_options[] = {
     {"--seconds", &options.seconds, 1, MOST_SECONDS},
     {"--threads", &options.threads, 1, MOST_THREADS},
     {"--workers", &options.workers, 1, MOST_THREADS},
+    {"--batch", &options.batch, 1, MOST_DEPTH},
     {"--idle", &options.idle, 0, MOST_IDLE},
     {"--pid", &options.pid, 1, INT32_MAX},
 };
