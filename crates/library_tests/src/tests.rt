@@ -15,6 +15,7 @@ mod nodes;
 mod offsets;
 mod range_owners;
 mod refused_growths;
+mod server;
 mod shards;
 mod spreads;
 mod streams;

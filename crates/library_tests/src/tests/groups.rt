@@ -88,18 +88,35 @@ fn wrong_rows(alloc: Global, hasher: RandomState) -> Result<String, AllocError> 
 /// What the steps are answered, and what the group then is.
 fn answer(alloc: Global, hasher: RandomState, question: &str) -> Result<String, AllocError> {
     let mut out = String::new(alloc);
-    if question.is_empty() {
-        return Ok(out);
+    if !question.is_empty() {
+        put_answer(alloc, hasher, question, &mut out)?;
     }
+    Ok(out)
+}
+
+fn put_answer(
+    alloc: Global,
+    hasher: RandomState,
+    question: &str,
+    out: &mut String,
+) -> Result<(), AllocError> {
     let (epoch, steps) = question.split_once("; ").unwrap_or((question, ""));
     let mut told = new_told(alloc, hasher, tables::number(epoch))?;
+    take_steps(alloc, &mut told, steps, out)
+}
+
+fn take_steps(
+    alloc: Global,
+    told: &mut Told,
+    steps: &str,
+    out: &mut String,
+) -> Result<(), AllocError> {
     for step in steps.split("; ").filter(|step| !step.is_empty()) {
-        take_step(alloc, &mut told, step, &mut out)?;
+        take_step(alloc, told, step, out)?;
     }
-    part_words(&mut out)?;
+    part_words(out)?;
     out.push('|')?;
-    tell_group(&told.group, &mut out)?;
-    Ok(out)
+    tell_group(&told.group, out)
 }
 
 fn new_told(alloc: Global, hasher: RandomState, epoch: i32) -> Result<Told, AllocError> {

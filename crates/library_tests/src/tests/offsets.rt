@@ -64,16 +64,34 @@ fn wrong_rows(alloc: Global, hasher: RandomState) -> Result<String, AllocError> 
 /// The codes of the commits, and what is then committed.
 fn answer(alloc: Global, hasher: RandomState, question: &str) -> Result<String, AllocError> {
     let mut out = String::new(alloc);
+    put_answer(alloc, hasher, question, &mut out)?;
+    Ok(out)
+}
+
+fn put_answer(
+    alloc: Global,
+    hasher: RandomState,
+    question: &str,
+    out: &mut String,
+) -> Result<(), AllocError> {
     let mut kept = nothing_committed(alloc, hasher)?;
     for words in question.split("; ") {
-        let request = request_of(alloc, words)?;
-        let reply = commit(alloc, &mut kept, &request, &mut out)?;
-        part_words(&mut out)?;
-        tell_codes(&reply, &mut out)?;
+        put_commit(alloc, &mut kept, words, out)?;
     }
     out.push_str(" |")?;
-    tell_offsets(&kept.offsets, &mut out)?;
-    Ok(out)
+    tell_offsets(&kept.offsets, out)
+}
+
+fn put_commit(
+    alloc: Global,
+    kept: &mut Kept,
+    words: &str,
+    out: &mut String,
+) -> Result<(), AllocError> {
+    let request = request_of(alloc, words)?;
+    let reply = commit(alloc, kept, &request, out)?;
+    part_words(out)?;
+    tell_codes(&reply, out)
 }
 
 fn nothing_committed(alloc: Global, hasher: RandomState) -> Result<Kept, AllocError> {
