@@ -1,8 +1,10 @@
 //! The desk of a worker: it calls the shards from a seat.
-ghost use Rattle.std.specs.Prelude.{◌≡◌, ◌++◌, IfOk, IfErr, OnOk, OnErr};
-ghost use Rattle.coord_shards.specs.Calls.{SeatCalls};
+ghost use Rattle.std.specs.Prelude.{◌≡◌, ◌≤◌, ◌++◌, ℕ, IfOk, IfErr, OnOk, OnErr};
+ghost use Rattle.coord_node.specs.Coordinator.{Answer as GivenAnswer};
+ghost use Rattle.coord_shards.specs.Calls.{IsTaken, SeatCalls};
 ghost use Rattle.coord_shards.specs.Seat.{IsNewSeat};
 ghost use Rattle.coord_server.specs.Desks.{MayHaveCalled};
+ghost use Rattle.coord_server.specs.Rounds.{CallsEach, TellsEach};
 
 use coord_node::Answered;
 use coord_shards::{Answer, Event, Gate, Image, Moment, Octets, Seat, ShardFault, Shards, Stamp};
@@ -56,22 +58,50 @@ impl<'a, A: Ledger, C: Ledger, G: Gate, M: Moments, R: Wait> ShardsDesk<'a, A, C
     }
 
     /// Lets the time of each shard go on to the present moment. A shard that refuses, for want of memory, goes on at a later tick.
-    pub fn tick_all(&mut self) {
+    pub fn tick_all(&mut self)
+        ensures ticks { (moment : ℕ) × M.hands self.old.moments moment self.new.moments
+            × CallsEach self.old.shards.now (λ shard. Event.Tick shard moment) self.old.shards.now.shards self.old.seat self.new.seat }
+        ensures others { self.new ≡ record self.old { seat = self.new.seat; moments = self.new.moments } }
+    {
         let moment = self.moments.now();
+        self.tick_each(moment);
+    }
+
+    /// Lets the time of each shard go on to a moment, where the shard doesn't refuse.
+    fn tick_each(&mut self, moment: Moment)
+        ensures ticks { CallsEach self.old.shards.now (λ shard. Event.Tick shard moment) self.old.shards.now.shards self.old.seat self.new.seat }
+        ensures others { self.new ≡ record self.old { seat = self.new.seat } }
+    {
         for shard in 0..self.shards.shards() {
             let _ = self.call(Event::Tick { shard, moment });
         }
     }
 
-    /// Gives each shard a new image. Where memory is short, some may have it.
-    pub fn set_image(&mut self, image: &Image) -> Result<(), AllocError> {
+    /// Gives each shard a new image. Where memory is short, the first ones alone may have it.
+    pub fn set_image(&mut self, image: &Image) -> Result<(), AllocError>
+        ensures all { OnOk result (TellsEach self.old.shards.now (λ shard. Event.Image shard image.now) self.old.shards.now.shards self.old.seat self.new.seat) }
+        ensures first { (told : ℕ) × (told ≤ self.old.shards.now.shards)
+            × TellsEach self.old.shards.now (λ shard. Event.Image shard image.now) told self.old.seat self.new.seat }
+        ensures others { self.new ≡ record self.old { seat = self.new.seat } }
+    {
         for shard in 0..self.shards.shards() {
-            let image = image.copy()?;
-            if self.call(Event::Image { shard, image }).is_refused() {
-                return Err(AllocError);
-            }
+            self.tell(shard, image)?;
         }
         Ok(())
+    }
+
+    /// Gives a shard a new image.
+    fn tell(&mut self, shard: usize, image: &Image) -> Result<(), AllocError>
+        ensures told { OnOk result ((given : GivenAnswer)
+            × IsTaken self.old.shards.now self.old.seat (Event.Image shard image.now) given self.new.seat) }
+        ensures same { OnErr result (self.new ≡ self.old) }
+        ensures others { self.new ≡ record self.old { seat = self.new.seat } }
+    {
+        let image = image.copy()?;
+        match self.call(Event::Image { shard, image }) {
+            Answer::Refused => Err(AllocError),
+            Answer::Replied(_) | Answer::Closes | Answer::Done(_) => Ok(()),
+        }
     }
 }
 
