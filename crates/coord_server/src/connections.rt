@@ -1,10 +1,11 @@
 //! The connections of a listening socket.
-ghost use Rattle.std.specs.Prelude.{◌≡◌, true, false, OnOk};
+ghost use Rattle.std.specs.Prelude.{◌≡◌, ◌*◌, true, false, IfOk, OnOk};
+ghost use Rattle.std.specs.Duration.{as_nanos};
 ghost use Rattle.futures.specs.Task.{Covers, Keeps};
 ghost use Rattle.futures.specs.Poll.{OnPending, IfReady};
 ghost use Rattle.coord_server.specs.Connections.{ConnectionsNeed};
 ghost use Rattle.tokio.specs.Net.{listener_readable};
-ghost use Rattle.tokio.specs.Timers.{sleep_source, interval_delay};
+ghost use Rattle.tokio.specs.Timers.{sleep_source, interval_delay, interval_period, missed_tick_behavior as behavior_of};
 
 use crate::arrivals::Arrivals;
 use futures::ready;
@@ -36,7 +37,11 @@ impl Connections {
         clock: &impl Clock,
         socket: std::net::TcpListener,
         handle: &Handle,
-    ) -> io::Result<Connections> {
+    ) -> io::Result<Connections>
+        ensures listens { IfOk result (λ connections. connections.is_paused ≡ false) }
+        ensures pause { IfOk result (λ connections. as_nanos (interval_period connections.pauses) ≡ 50 * 1_000_000) }
+        ensures delays { IfOk result (λ connections. behavior_of connections.pauses ≡ MissedTickBehavior.Delay) }
+    {
         let listener = TcpListener::from_std(socket, handle.reactor())?;
         let mut pauses = handle.time().interval(clock, Duration::from_millis(PAUSE))?;
         pauses.set_missed_tick_behavior(MissedTickBehavior::Delay);

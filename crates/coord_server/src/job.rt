@@ -1,4 +1,5 @@
 //! What the tasks of a server do.
+ghost use Rattle.std.specs.Prelude.{◌≡◌};
 
 use crate::acceptor::Acceptor;
 use crate::arrivals::Arrivals;
@@ -47,7 +48,9 @@ impl<'a, A: Ledger, C: Ledger, G: Gate, M: Moments, R: Wait, I: ReadPart, O: Wri
         arrivals: UnboundedReceiver<Line<I, O>>,
         desk: ShardsDesk<'a, A, C, G, M, R>,
         running: UnboundedSender<()>,
-    ) -> Works<'a, A, C, G, M, R, I, O> {
+    ) -> Works<'a, A, C, G, M, R, I, O>
+        ensures { result.running ≡ running }
+    {
         Works {
             worker: Worker::new(alloc, arrivals, desk),
             running,
