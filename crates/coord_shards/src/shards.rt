@@ -127,7 +127,7 @@ impl<A: Ledger, C: Ledger, G> Shards<A, C, G> {
     pub fn call<R: Wait>(&self, rt: &R, alloc: Global, seat: &mut Seat<C>, event: Event) -> Answer
     where
         G: Gate,
-        ensures { SeatCalls self.now seat.old event result seat.new }
+        ensures call { SeatCalls self.now seat.old event result seat.new }
     {
         let Ok(number) = home(alloc, &event, self.shards.len()) else {
             return Answer::Refused;
