@@ -97,4 +97,9 @@ def put_topics(partitions):
     by_topic = {}
     for topic, index in sorted(partitions):
         by_topic.setdefault(topic, []).append(index)
-    return put_array([t + put_array([put_int(i, 4) for i in by_topic[t]]) + b"\0" for t in sorted(by_topic)])
+    return put_entries((t, by_topic[t]) for t in sorted(by_topic))
+
+
+def put_entries(entries):
+    """Entries (topic id, indexes) as they stand: a topic may have several, and an entry any indexes, or none."""
+    return put_array([topic + put_array([put_int(index, 4) for index in indexes]) + b"\0" for topic, indexes in entries])

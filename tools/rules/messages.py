@@ -1,6 +1,6 @@
 """Requests and replies of the two APIs, as values and as frames."""
 
-from rules.fields import Reader, Unreadable, put_array, put_int, put_text, put_topics
+from rules.fields import Reader, Unreadable, put_array, put_entries, put_int, put_text, put_topics
 
 TEXTS = {
     15: "coordinator not available",
@@ -14,6 +14,8 @@ TEXTS = {
 
 
 class Heartbeat:
+    """What is owned is None, a set of partitions (topic id, index), or a list of the entries (topic id, indexes) that are written."""
+
     def __init__(self, group, member="", epoch=0, instance=None, rack=None, timeout=-1, names=None, assignor=None, owned=None, correlation=7):
         self.group, self.member, self.epoch, self.instance, self.rack = group, member, epoch, instance, rack
         self.timeout, self.names, self.assignor, self.owned, self.correlation = timeout, names, assignor, owned, correlation
@@ -22,8 +24,13 @@ class Heartbeat:
         body = put_int(68, 2) + put_int(0, 2) + put_int(self.correlation, 4) + put_int(-1, 2) + b"\0"
         body += put_text(self.group) + put_text(self.member) + put_int(self.epoch, 4) + put_text(self.instance) + put_text(self.rack)
         body += put_int(self.timeout, 4) + put_array(None if self.names is None else [put_text(n) for n in self.names])
-        body += put_text(self.assignor) + (b"\0" if self.owned is None else put_topics(self.owned)) + b"\0"
+        body += put_text(self.assignor) + self.written_owned() + b"\0"
         return put_int(len(body), 4) + body
+
+    def written_owned(self):
+        if self.owned is None:
+            return b"\0"
+        return put_entries(self.owned) if isinstance(self.owned, list) else put_topics(self.owned)
 
 
 class Commit:
