@@ -28,8 +28,12 @@ use tokio::io::{DuplexStream, duplex};
 use tokio::runtime::Runtime;
 
 /// A frame of 30 bytes: "Request Header v2" with API key 68, version 0, correlation id 7 and no client id, and a join of
-/// group `a` that names topic `t`: no member id, epoch 0, no instance id, no rack, a rebalance timeout of 60,000 ms, no
-/// assignor, no partitions that it owns, no tagged fields. With two shards the group is on shard 1, since `a` is the byte 97.
+/// group `g` that names topic `t`: no member id, epoch 0, no instance id, no rack, a rebalance timeout of 60,000 ms, no
+/// assignor, no partitions that it owns, no tagged fields.
+const JOIN: &[u8] = b"\x00\x00\x00\x1e\x00\x44\x00\x00\x00\x00\x00\x07\xff\xff\x00\
+\x02g\x01\x00\x00\x00\x00\x00\x00\x00\x00\xea\x60\x02\x02t\x00\x01\x00";
+
+/// The same for group `a`. With two shards it is on shard 1, since `a` is the byte 97.
 const JOIN_A: &[u8] = b"\x00\x00\x00\x1e\x00\x44\x00\x00\x00\x00\x00\x07\xff\xff\x00\
 \x02a\x01\x00\x00\x00\x00\x00\x00\x00\x00\xea\x60\x02\x02t\x00\x01\x00";
 
@@ -37,7 +41,7 @@ const JOIN_A: &[u8] = b"\x00\x00\x00\x1e\x00\x44\x00\x00\x00\x00\x00\x07\xff\xff
 const JOIN_B: &[u8] = b"\x00\x00\x00\x1e\x00\x44\x00\x00\x00\x00\x00\x07\xff\xff\x00\
 \x02b\x01\x00\x00\x00\x00\x00\x00\x00\x00\xea\x60\x02\x02t\x00\x01\x00";
 
-/// The frame that answers either, over two partitions of a topic whose id is sixteen bytes 0x11, where the salt is 0: no error,
+/// The frame that answers each of them, over two partitions of a topic whose id is sixteen bytes 0x11, where the salt is 0: no error,
 /// member id 1, epoch 1, an interval of 5,000 ms, both partitions.
 const REPLY: &[u8] = b"\x00\x00\x00\x57\x00\x00\x00\x07\x00\x00\x00\x00\x00\x00\x00\x00\
 \x2500000000-0000-0000-0000-000000000001\x00\x00\x00\x01\x00\x00\x13\x88\x01\x02\
@@ -212,7 +216,7 @@ const BOTH: Told = (2, 2, false);
 #[test]
 fn first_join_is_answered(rt: HostRuntime) -> Result<(), Fail> {
     let client = Client {
-        frames: &[JOIN_A],
+        frames: &[JOIN],
         order: &[0],
     };
     let wanted = (1, 1, false);
