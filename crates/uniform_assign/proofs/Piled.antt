@@ -7,7 +7,8 @@ use Rattle.uniform_assign.specs.declared.pile.Pile.{Pile}
 use Rattle.uniform_assign.specs.declared.board.Board.{Board}
 use Rattle.uniform_assign.specs.declared.board.Place.{Place}
 use Rattle.uniform_assign.specs.declared.draft.Draft.{Draft}
-use Rattle.uniform_assign.specs.Piles.{AreOfTopic, ArePiles, Hand, IsHand, IsIn, IsInHand, IsInTopic}
+use Rattle.uniform_assign.specs.declared.piles.Owned.{Owned}
+use Rattle.uniform_assign.specs.Piles.{AreHeld, AreListed, AreOfTopic, Hand, IsHand, IsHeld, IsIn, IsInHand, IsInTopic, IsListedIn, Listed}
 use Rattle.uniform_assign.proofs.Counts.{cases_equal}
 use Rattle.uniform_assign.proofs.Kept.{slice_get-set_other, slice_get-set_same}
 use Rattle.uniform_assign.proofs.Lists.{pushed_at, slice_get-append_cases, slice_get-append_left}
@@ -79,11 +80,11 @@ IsInBelow hand n k = (i : ℕ) × (pile : Pile) × (i < n) × (slice_get hand i 
 
 -- the pile after the first n was searched
 module _ (board : Board) (draft : Draft) (from : ℕ) (hand : List Pile) (at : ℕ) (old new : Pile) (is_old : slice_get hand at ≡ Some old) (topic : new.topic ≡ old.topic)
-    (fewer : (k : ℕ) → IsIn k new → IsIn k old) (kept : (k : ℕ) → IsIn k old → slice_get draft.owners.items k ≡ Some (Some from) → IsIn k new) (n : ℕ) where
-  pub IsHand-searched : IsHand board draft n from hand → IsHand board draft n from (set_at hand at new)
+    (fewer : (k : ℕ) → IsIn k new → IsIn k old) (kept : (k : ℕ) → IsIn k old → slice_get draft.owners.items k ≡ Some (Some from) → IsIn k new) where
+  pub IsHand-searched : IsHand board draft from hand → IsHand board draft from (set_at hand at new)
   IsHand-searched is = record {
     of_topics = λ t k there. is.of_topics t k (InTopic-fewer hand at old new is_old topic fewer t k there);
-    all = λ k low owns. let (t, there) = is.all k low owns in (t, InTopic-kept hand at old new is_old topic t k (λ was. kept k was owns) there);
+    all = λ k owns. let (t, there) = is.all k owns in (t, InTopic-kept hand at old new is_old topic t k (λ was. kept k was owns) there);
   }
 
   pub IsInBelow-either : (k : ℕ) → IsInBelow (set_at hand at new) (at + 1) k → IsInBelow hand at k ⊎ IsIn k new
@@ -98,74 +99,205 @@ module _ (board : Board) (draft : Draft) (from : ℕ) (hand : List Pile) (at : �
   ]
 
 -- what a pile of a hand has is of the pile's topic
-pub IsHand-pile : (board : Board) (draft : Draft) (n m at : ℕ) (hand : List Pile) (pile : Pile) → IsHand board draft n m hand → slice_get hand at ≡ Some pile → AreOfTopic board.places.items pile
-IsHand-pile board draft n m at hand pile is is_pile k is_k = is.of_topics pile.topic k (at, pile, is_pile, refl, is_k)
+pub IsHand-pile : (board : Board) (draft : Draft) (m at : ℕ) (hand : List Pile) (pile : Pile) → IsHand board draft m hand → slice_get hand at ≡ Some pile → AreOfTopic board.places.items pile
+IsHand-pile board draft m at hand pile is is_pile k is_k = is.of_topics pile.topic k (at, pile, is_pile, refl, is_k)
 
--- the hand of a member was searched
-pub ArePiles-searched : (board : Board) (draft : Draft) (n m : ℕ) (piles : List Hand) (new : Hand) → m < length piles → ArePiles board draft n piles → IsHand board draft n m new.items → ArePiles board draft n (set_at piles m new)
-ArePiles-searched board draft n m piles new low are is = record {
-  as_many = length-set piles m new ∙ are.as_many;
-  hands = λ j hand is_hand. elim (cases_equal j m) [
-    | inl same ↦
-        let equal : new ≡ hand = same_Some new hand (sym (slice_get-set_same piles m new low) ∙ ap (slice_get (set_at piles m new)) (sym same) ∙ is_hand) in
-        subst (λ i. IsHand board draft n i hand.items) (sym same) (subst (λ (h : Hand). IsHand board draft n m h.items) equal is)
-    | inr apart ↦ are.hands j hand (sym (slice_get-set_other piles m j new apart) ∙ is_hand)
-  ];
+-- one of several was written
+written : {X : Type 0} (xs : List X) (m j : ℕ) (new x : X) → m < length xs → (P : ℕ → X → Type 0) → P m new → slice_get (set_at xs m new) j ≡ Some x
+    → (((j ≡ m) → ⊥) → slice_get xs j ≡ Some x → P j x) → P j x
+written xs m j new x low P here is there = elim (cases_equal j m) [
+  | inl same ↦
+      let equal : new ≡ x = same_Some new x (sym (slice_get-set_same xs m new low) ∙ ap (slice_get (set_at xs m new)) (sym same) ∙ is) in
+      subst (λ i. P i x) (sym same) (subst (P m) equal here)
+  | inr apart ↦ there apart (sym (slice_get-set_other xs m j new apart) ∙ is)
+]
+
+-- ---- lists
+
+module _ (list : List Owned) (one : Owned) where
+  IsListedIn-left : (t k : ℕ) → IsListedIn list t k → IsListedIn (list ++ one ∷ []) t k
+  IsListedIn-left t k (i, it, is_it, of_topic, at) = (i, it, slice_get-append_left list (one ∷ []) i it is_it, of_topic, at)
+
+  IsListedIn-last : IsListedIn (list ++ one ∷ []) one.topic one.place
+  IsListedIn-last = (length list, one, pushed_at list one, refl, refl)
+
+  IsListedIn-pushed : (t k : ℕ) → IsListedIn (list ++ one ∷ []) t k → IsListedIn list t k ⊎ ((one.topic ≡ t) × (one.place ≡ k))
+  IsListedIn-pushed t k (i, it, is_it, of_topic, at) = elim (slice_get-append_cases list (one ∷ []) i it is_it) [
+    | inl before ↦ inl (i, it, before, of_topic, at)
+    | inr (j, there, end) ↦ inr (last j end)
+  ]
+    where
+      last : (j : ℕ) → slice_get (one ∷ []) j ≡ Some it → (one.topic ≡ t) × (one.place ≡ k)
+      last zero end = let same : one ≡ it = same_Some one it end in (ap (λ (o : Owned). o.topic) same ∙ of_topic, ap (λ (o : Owned). o.place) same ∙ at)
+      last (suc j) end = cc
+
+nothing_listed : (list : List Owned) (t k : ℕ) → list ≡ [] → IsListedIn list t k → ⊥
+nothing_listed list t k none (i, one, is_one, of_topic, at) = let there : slice_get [] i ≡ Some one = ap (λ xs. slice_get xs i) (sym none) ∙ is_one in cc
+
+nothing_in_hand : (hand : List Pile) (t k : ℕ) → hand ≡ [] → IsInTopic hand t k → ⊥
+nothing_in_hand hand t k none (i, pile, is_pile, of_topic, is) = let there : slice_get [] i ≡ Some pile = ap (λ xs. slice_get xs i) (sym none) ∙ is_pile in cc
+
+-- one of several empty ones
+empty_at : {X : Type 0} (xs : List X) (items : X → Type 0) (m : ℕ) (x : X) → All items xs → slice_get xs m ≡ Some x → items x
+empty_at xs items m x empty is = subst items (get_or_from_slice_get xs m x x is) (empty m x (slice_get_within xs m x is))
+
+module _ (board : Board) (draft : Draft) where
+  pub AreListed-none : (lists : List Listed) → length lists ≡ length draft.counts.items → All (λ (list : Listed). list.items ≡ []) lists → AreListed board draft 0 lists
+  AreListed-none lists many empty = record {
+    as_many = many;
+    of_topics = λ m t k list is_list listed. absurd (nothing_listed list.items t k (empty_at lists (λ (l : Listed). l.items ≡ []) m list empty is_list) listed);
+    all = λ m k list low. absurd (omega arith);
+  }
+
+  module _ (n : ℕ) (lists : List Listed) (are : AreListed board draft n lists) where
+    -- nobody owns the partition that follows
+    pub AreListed-skip : ((m : ℕ) → ¬ (slice_get draft.owners.items n ≡ Some (Some m))) → AreListed board draft (n + 1) lists
+    AreListed-skip nobody = record {
+      as_many = are.as_many;
+      of_topics = are.of_topics;
+      all = λ m k list low is_list owns. elim (cases_order k n) [
+        | inl same ↦ absurd (nobody m (ap (slice_get draft.owners.items) (sym same) ∙ owns))
+        | inr apart ↦ elim apart [ inl less ↦ are.all m k list less is_list owns | inr more ↦ absurd (omega arith) ]
+      ];
+    }
+
+    -- it was added to its owner's list
+    pub AreListed-added : (m : ℕ) (place : Place) (old new : Listed) (one : Owned) → slice_get draft.owners.items n ≡ Some (Some m) → slice_get board.places.items n ≡ Some place
+        → slice_get lists m ≡ Some old → new.items ≡ old.items ++ one ∷ [] → one.topic ≡ place.topic → one.place ≡ n → AreListed board draft (n + 1) (set_at lists m new)
+    AreListed-added m place old new one owned is_place is_old pushed topic at = record {
+      as_many = length-set lists m new ∙ are.as_many;
+      of_topics = λ j t k list is_list. written lists m j new list low
+          (λ i (l : Listed). IsListedIn l.items t k → (place : Place) × (slice_get board.places.items k ≡ Some place) × (place.topic ≡ t))
+          (λ listed. elim (IsListedIn-pushed old.items one t k (subst (λ xs. IsListedIn xs t k) pushed listed)) [
+            | inl before ↦ are.of_topics m t k old is_old before
+            | inr (of_topic, there) ↦ (place, ap (slice_get board.places.items) (sym there ∙ at) ∙ is_place, sym topic ∙ of_topic)
+          ])
+          is_list
+          (λ apart was. are.of_topics j t k list was);
+      all = λ j k list within is_list owns. written lists m j new list low
+          (λ i (l : Listed). (slice_get draft.owners.items k ≡ Some (Some i)) → (t : ℕ) × IsListedIn l.items t k)
+          (λ mine. elim (cases_order k n) [
+            | inl same ↦ (one.topic, subst (λ i. IsListedIn new.items one.topic i) (at ∙ sym same) (subst (λ xs. IsListedIn xs one.topic one.place) (sym pushed) (IsListedIn-last old.items one)))
+            | inr other ↦ elim other [
+              | inl less ↦ let (t, listed) = are.all m k old less is_old mine in (t, subst (λ xs. IsListedIn xs t k) (sym pushed) (IsListedIn-left old.items one t k listed))
+              | inr more ↦ absurd (omega arith)
+            ]
+          ])
+          is_list
+          (λ apart was his. elim (cases_order k n) [
+            | inl same ↦
+                let there : slice_get draft.owners.items n ≡ Some (Some j) = ap (slice_get draft.owners.items) (sym same) ∙ his in
+                absurd (apart (sym (same_Some m j (same_Some (Some m) (Some j) (sym owned ∙ there)))))
+            | inr other ↦ elim other [ inl less ↦ are.all j k list less was his | inr more ↦ absurd (omega arith) ]
+          ])
+          owns;
+    }
+      where
+        low : m < length lists
+        low = slice_get_within lists m old is_old
+
+-- ---- all members
+
+-- no pile is made
+pub AreHeld-none : (board : Board) (draft : Draft) (hands : List Hand) (lists : List Listed) → length draft.owners.items ≡ length board.places.items → length hands ≡ length draft.counts.items
+    → All (λ (hand : Hand). hand.items ≡ []) hands → AreListed board draft (length board.places.items) lists → AreHeld board draft hands lists
+AreHeld-none board draft hands lists owners many empty are = record {
+  as_many = many;
+  as_many_lists = are.as_many;
+  held = λ m hand list is_hand is_list. record {
+    of_topics = λ t k there. absurd (nothing_in_hand hand.items t k (empty_at hands (λ (h : Hand). h.items ≡ []) m hand empty is_hand) there);
+    listed_topics = λ t k listed. are.of_topics m t k list is_list listed;
+    all = λ k owns. let low = slice_get_within draft.owners.items k (Some m) owns in inr (are.all m k list (omega arith) is_list owns);
+  };
 }
 
--- ---- all hands
+module _ (board : Board) (draft : Draft) (hands : List Hand) (lists : List Listed) (are : AreHeld board draft hands lists) (m : ℕ) (old : Hand) (is_old : slice_get hands m ≡ Some old) where
+  low_hand : m < length hands
+  low_hand = slice_get_within hands m old is_old
 
-pub ArePiles-none : (board : Board) (draft : Draft) (piles : List Hand) → length piles ≡ length draft.counts.items → All (λ (hand : Hand). hand.items ≡ []) piles → ArePiles board draft 0 piles
-ArePiles-none board draft piles many empty = record {
-  as_many = many;
-  hands = λ m hand is_hand.
-      let none : hand.items ≡ [] = ap (λ (h : Hand). h.items) (sym (get_or_from_slice_get piles m hand hand is_hand)) ∙ empty m hand (slice_get_within piles m hand is_hand) in
+  -- the hand of a member was searched
+  pub AreHeld-searched : (new : Hand) → IsHand board draft m new.items → AreHeld board draft (set_at hands m new) lists
+  AreHeld-searched new is = record {
+    as_many = length-set hands m new ∙ are.as_many;
+    as_many_lists = are.as_many_lists;
+    held = λ j hand list is_hand is_list. written hands m j new hand low_hand (λ i (h : Hand). slice_get lists i ≡ Some list → IsHeld board draft i h.items list.items)
+        (λ is_mine. let held = are.held m old list is_old is_mine in record { of_topics = is.of_topics; listed_topics = held.listed_topics; all = λ k owns. inl (is.all k owns) })
+        is_hand
+        (λ apart was. are.held j hand list was)
+        is_list;
+  }
+
+  -- a member has everything in its piles once nothing is listed
+  pub IsHand-drawn : (list : Listed) → slice_get lists m ≡ Some list → list.items ≡ [] → IsHand board draft m old.items
+  IsHand-drawn list is_list none =
+      let held = are.held m old list is_old is_list in
       record {
-        of_topics = λ t k (i, pile, is_pile, of_topic, is). absurd (nothing i pile (ap (λ xs. slice_get xs i) (sym none) ∙ is_pile));
-        all = λ k low. absurd (omega arith);
-      };
+        of_topics = held.of_topics;
+        all = λ k owns. elim (held.all k owns) [ inl there ↦ there | inr (t, listed) ↦ absurd (nothing_listed list.items t k none listed) ];
+      }
+
+  -- what was listed is in the piles
+  pub AreHeld-drawn : (new : Hand) (list empty : Listed) → slice_get lists m ≡ Some list → empty.items ≡ [] → ((t k : ℕ) → IsListedIn list.items t k → IsInHand new.items k)
+      → ((k : ℕ) → IsInHand old.items k → IsInHand new.items k) → ((t k : ℕ) → IsInTopic new.items t k → IsInTopic old.items t k ⊎ IsListedIn list.items t k)
+      → AreHeld board draft (set_at hands m new) (set_at lists m empty)
+  AreHeld-drawn new list empty is_list none drawn kept topics = record {
+    as_many = length-set hands m new ∙ are.as_many;
+    as_many_lists = length-set lists m empty ∙ are.as_many_lists;
+    held = λ j hand other is_hand is_other. written hands m j new hand low_hand (λ i (h : Hand). slice_get (set_at lists m empty) i ≡ Some other → IsHeld board draft i h.items other.items)
+        (λ is_mine.
+        let here : empty ≡ other = same_Some empty other (sym (slice_get-set_same lists m empty (slice_get_within lists m list is_list)) ∙ is_mine) in
+        let nothing : other.items ≡ [] = ap (λ (l : Listed). l.items) (sym here) ∙ none in
+        record {
+          of_topics = λ t k there. elim (topics t k there) [ inl was ↦ held.of_topics t k was | inr listed ↦ held.listed_topics t k listed ];
+          listed_topics = λ t k listed. absurd (nothing_listed other.items t k nothing listed);
+          all = λ k owns. inl (elim (held.all k owns) [ inl was ↦ kept k was | inr (t, listed) ↦ drawn t k listed ]);
+        })
+        is_hand
+        (λ apart was is_his. are.held j hand other was (sym (slice_get-set_other lists m j empty apart) ∙ is_his))
+        is_other;
+  }
+    where
+      held : IsHeld board draft m old.items list.items
+      held = are.held m old list is_old is_list
+
+-- a partition was given to a member
+pub AreHeld-gained : (board : Board) (old new : Draft) (hands : List Hand) (lists : List Listed) → AreHeld board old hands lists → (m k : ℕ) (place : Place) (hand more : Hand)
+    → slice_get hands m ≡ Some hand → slice_get board.places.items k ≡ Some place → length new.counts.items ≡ length old.counts.items → new.owners.items ≡ set_at old.owners.items k (Some m)
+    → IsInHand more.items k → ((i : ℕ) → IsInHand hand.items i → IsInHand more.items i) → ((t i : ℕ) → IsInTopic more.items t i → IsInTopic hand.items t i ⊎ ((t ≡ place.topic) × (i ≡ k)))
+    → AreHeld board new (set_at hands m more) lists
+AreHeld-gained board old new hands lists are m k place hand more is_hand is_place many given added kept topics = record {
+  as_many = length-set hands m more ∙ are.as_many ∙ sym many;
+  as_many_lists = are.as_many_lists ∙ sym many;
+  held = λ j h list there is_list. written hands m j more h (slice_get_within hands m hand is_hand) (λ i (x : Hand). slice_get lists i ≡ Some list → IsHeld board new i x.items list.items)
+      (λ is_mine. let is = are.held m hand list is_hand is_mine in record {
+        of_topics = λ t i inside. elim (topics t i inside) [
+          | inl was ↦ is.of_topics t i was
+          | inr (of_topic, this) ↦ (place, ap (slice_get board.places.items) this ∙ is_place, sym of_topic)
+        ];
+        listed_topics = is.listed_topics;
+        all = λ i owns. elim (before i m owns) [
+          | inl was ↦ elim (is.all i was) [ inl inside ↦ inl (kept i inside) | inr listed ↦ inr listed ]
+          | inr this ↦ inl (subst (IsInHand more.items) (sym this.0) added)
+        ];
+      })
+      there
+      (λ apart was is_his. let is = are.held j h list was is_his in record {
+        of_topics = is.of_topics;
+        listed_topics = is.listed_topics;
+        all = λ i owns. elim (before i j owns) [ inl his ↦ is.all i his | inr this ↦ absurd (apart this.1) ];
+      })
+      is_list;
 }
   where
-    nothing : (i : ℕ) (pile : Pile) → slice_get [] i ≡ Some pile → ⊥
-    nothing i pile is = cc
-
--- a place was added to a hand, or has no owner
-module _ (board : Board) (old_draft new_draft : Draft) (low high : ℕ) (piles : List Hand) (are : ArePiles board old_draft low piles) (many : length new_draft.counts.items ≡ length old_draft.counts.items) where
-  pub ArePiles-same : ((i j : ℕ) → i < high → slice_get new_draft.owners.items i ≡ Some (Some j) → (i < low) × (slice_get old_draft.owners.items i ≡ Some (Some j))) → ArePiles board new_draft high piles
-  ArePiles-same before = record {
-    as_many = are.as_many ∙ sym many;
-    hands = λ j hand is_hand. let is = are.hands j hand is_hand in record {
-      of_topics = is.of_topics;
-      all = λ i within owns. let was = before i j within owns in is.all i was.0 was.1;
-    };
-  }
-
-  pub ArePiles-added : (m k : ℕ) (place : Place) (old new : Hand) → slice_get piles m ≡ Some old → slice_get board.places.items k ≡ Some place
-      → ((i j : ℕ) → i < high → slice_get new_draft.owners.items i ≡ Some (Some j) → ((i < low) × (slice_get old_draft.owners.items i ≡ Some (Some j))) ⊎ ((i ≡ k) × (j ≡ m)))
-      → IsInHand new.items k → ((i : ℕ) → IsInHand old.items i → IsInHand new.items i) → ((t i : ℕ) → IsInTopic new.items t i → IsInTopic old.items t i ⊎ ((t ≡ place.topic) × (i ≡ k)))
-      → ArePiles board new_draft high (set_at piles m new)
-  ArePiles-added m k place old new is_old is_place before added kept topics = record {
-    as_many = length-set piles m new ∙ are.as_many ∙ sym many;
-    hands = λ j hand is_hand. elim (cases_equal j m) [
-      | inl same ↦
-          let here = slice_get-set_same piles m new (slice_get_within piles m old is_old) in
-          let equal : new ≡ hand = same_Some new hand (sym here ∙ ap (slice_get (set_at piles m new)) (sym same) ∙ is_hand) in
-          let is = are.hands m old is_old in
-          subst (λ (h : Hand). IsHand board new_draft high j h.items) equal record {
-            of_topics = λ t i there. elim (topics t i there) [
-              | inl was ↦ is.of_topics t i was
-              | inr (of_topic, this) ↦ (place, ap (slice_get board.places.items) this ∙ is_place, sym of_topic)
-            ];
-            all = λ i within owns. elim (before i j within owns) [
-              | inl was ↦ kept i (is.all i was.0 (was.1 ∙ ap (λ n. Some (Some n)) same))
-              | inr this ↦ subst (IsInHand new.items) (sym this.0) added
-            ];
-          }
-      | inr apart ↦
-          let is = are.hands j hand (sym (slice_get-set_other piles m j new apart) ∙ is_hand) in
-          record {
-            of_topics = is.of_topics;
-            all = λ i within owns. elim (before i j within owns) [ inl was ↦ is.all i was.0 was.1 | inr this ↦ absurd (apart this.1) ];
-          }
-    ];
-  }
+    before : (i j : ℕ) → slice_get new.owners.items i ≡ Some (Some j) → (slice_get old.owners.items i ≡ Some (Some j)) ⊎ ((i ≡ k) × (j ≡ m))
+    before i j owns =
+        let shown : slice_get (set_at old.owners.items k (Some m)) i ≡ Some (Some j) = ap (λ xs. slice_get xs i) (sym given) ∙ owns in
+        elim (cases_equal i k) [
+          | inl same ↦
+              let within = slice_get_within (set_at old.owners.items k (Some m)) i (Some j) shown in
+              let long = length-set old.owners.items k (Some m) in
+              let here = slice_get-set_same old.owners.items k (Some m) (omega arith) in
+              let owner : Some m ≡ Some j = same_Some (Some m) (Some j) (sym here ∙ ap (slice_get (set_at old.owners.items k (Some m))) (sym same) ∙ shown) in
+              inr (same, sym (same_Some m j owner))
+          | inr apart ↦ inl (sym (slice_get-set_other old.owners.items k i (Some m) apart) ∙ shown)
+        ]

@@ -1,5 +1,5 @@
 -- The piles of partitions that members own.
-use Rattle.std.specs.Prelude.{◌≡◌, ℕ, ◌<◌, ◌≤◌, List, length, Option, Some, slice_get, MatchOption}
+use Rattle.std.specs.Prelude.{◌≡◌, ◌⊎◌, ℕ, ◌<◌, ◌≤◌, List, [], length, Option, Some, slice_get, MatchOption}
 use Rattle.std.specs.List.{Contains}
 use Rattle.std.specs.BinaryHeap.{heap_items}
 use Rattle.std.specs.declared.cmp.Reverse.{Reverse}
@@ -8,6 +8,8 @@ use Rattle.uniform_assign.specs.declared.board.Board.{Board}
 use Rattle.uniform_assign.specs.declared.board.Place.{Place}
 use Rattle.uniform_assign.specs.declared.draft.Draft.{Draft}
 use Rattle.uniform_assign.specs.declared.pile.Pile.{Pile}
+use Rattle.uniform_assign.specs.declared.piles.Piles.{Piles}
+use Rattle.uniform_assign.specs.declared.piles.Owned.{Owned}
 
 -- the place is in the pile
 abbrev pub IsIn : ℕ → Pile → Type 0
@@ -42,12 +44,42 @@ AreOfTopic places pile = (k : ℕ) → IsIn k pile → (place : Place) × (slice
 abbrev pub AreOfTopics : List Place → List Pile → Type 0
 AreOfTopics places hand = (t k : ℕ) → IsInTopic hand t k → (place : Place) × (slice_get places k ≡ Some place) × (place.topic ≡ t)
 
--- of the first n places the hand has those that the member owns
-pub record IsHand (board : Board) (draft : Draft) (n m : ℕ) (hand : List Pile) : Type 0 where
+-- the hand has the partitions that the member owns
+pub record IsHand (board : Board) (draft : Draft) (m : ℕ) (hand : List Pile) : Type 0 where
   pub of_topics : AreOfTopics board.places.items hand
-  pub all : (k : ℕ) → k < n → slice_get draft.owners.items k ≡ Some (Some m) → IsInHand hand k
+  pub all : (k : ℕ) → slice_get draft.owners.items k ≡ Some (Some m) → IsInHand hand k
 
--- of the first n places each member's hand has those that it owns
-pub record ArePiles (board : Board) (draft : Draft) (n : ℕ) (piles : List (Vec Pile)) : Type 0 where
-  pub as_many : length piles ≡ length draft.counts.items
-  pub hands : (m : ℕ) (hand : Vec Pile) → slice_get piles m ≡ Some hand → IsHand board draft n m hand.items
+-- what a member owned, in partition order
+abbrev pub Listed : Type 0
+Listed = Vec Owned
+
+-- the place is in the list, with the topic
+abbrev pub IsListedIn : List Owned → ℕ → ℕ → Type 0
+IsListedIn list t k = (i : ℕ) × (one : Owned) × (slice_get list i ≡ Some one) × (one.topic ≡ t) × (one.place ≡ k)
+
+-- of the first n places each member's list has those that it owns, with their topics
+pub record AreListed (board : Board) (draft : Draft) (n : ℕ) (lists : List Listed) : Type 0 where
+  pub as_many : length lists ≡ length draft.counts.items
+  pub of_topics : (m t k : ℕ) (list : Listed) → slice_get lists m ≡ Some list → IsListedIn list.items t k
+      → (place : Place) × (slice_get board.places.items k ≡ Some place) × (place.topic ≡ t)
+  pub all : (m k : ℕ) (list : Listed) → k < n → slice_get lists m ≡ Some list → slice_get draft.owners.items k ≡ Some (Some m)
+      → (t : ℕ) × IsListedIn list.items t k
+
+-- each of a member's partitions is in one of its piles or in its list, and what these have is of their topics
+pub record IsHeld (board : Board) (draft : Draft) (m : ℕ) (hand : List Pile) (list : List Owned) : Type 0 where
+  pub of_topics : AreOfTopics board.places.items hand
+  pub listed_topics : (t k : ℕ) → IsListedIn list t k → (place : Place) × (slice_get board.places.items k ≡ Some place) × (place.topic ≡ t)
+  pub all : (k : ℕ) → slice_get draft.owners.items k ≡ Some (Some m) → IsInHand hand k ⊎ ((t : ℕ) × IsListedIn list t k)
+
+-- so is each member's
+pub record AreHeld (board : Board) (draft : Draft) (hands : List Hand) (lists : List Listed) : Type 0 where
+  pub as_many : length hands ≡ length draft.counts.items
+  pub as_many_lists : length lists ≡ length draft.counts.items
+  pub held : (m : ℕ) (hand : Hand) (list : Listed) → slice_get hands m ≡ Some hand → slice_get lists m ≡ Some list → IsHeld board draft m hand.items list.items
+
+abbrev pub ArePiles : Board → Draft → Piles → Type 0
+ArePiles board draft piles = AreHeld board draft piles.hands.items piles.listed.items
+
+-- nothing is listed of the member
+abbrev pub IsDrawn : Piles → ℕ → Type 0
+IsDrawn piles m = (list : Listed) × (slice_get piles.listed.items m ≡ Some list) × (list.items ≡ [])

@@ -14,7 +14,7 @@ use crate::draft::Draft;
 use crate::givers::{are_within, givers_limit};
 use crate::order::Order;
 use crate::pile::Pile;
-use crate::piles::add;
+use crate::piles::Piles;
 use crate::ranking::Ranking;
 use std::alloc::{AllocError, Global};
 
@@ -55,13 +55,12 @@ impl Board<'_> {
         let mut order = Order::of(alloc, &draft.counts)?;
         let mut piles = self.piles(alloc, draft)?;
         while let Some(next) = self.next_move(alloc, draft, &rankings, &mut order, &mut piles)? {
-            let topic = self.places[next.partition].topic;
+            self.gain(alloc, &mut piles, next.to, next.partition)?;
             draft.give(next.partition, next.to);
             self.renew(&mut rankings, next.from, draft.counts[next.from]);
             self.renew(&mut rankings, next.to, draft.counts[next.to]);
             order.set(next.from, draft.counts[next.from]);
             order.set(next.to, draft.counts[next.to]);
-            add(alloc, &mut piles[next.to], topic, next.partition)?;
         }
         Ok(())
     }
@@ -92,20 +91,20 @@ impl Board<'_> {
         draft: &Draft,
         rankings: &[Ranking],
         order: &mut Order,
-        piles: &mut Vec<Vec<Pile>>,
+        piles: &mut Piles,
     ) -> Result<Option<Move>, AllocError>
         requires board { IsBoard self.now }
         requires draft { IsDraft self.now draft.now }
         requires rankings { AreRankings self.now draft.now.counts.items rankings.now }
         requires order { IsOrder draft.now.counts.items order.old }
-        requires piles { ArePiles self.now draft.now (length self.now.places.items) piles.old.items }
+        requires piles { ArePiles self.now draft.now piles.old }
         ensures order { OnOk result (IsOrder draft.now.counts.items order.new) }
-        ensures piles { ArePiles self.now draft.now (length self.now.places.items) piles.new.items }
+        ensures piles { OnOk result (ArePiles self.now draft.now piles.new) }
         ensures next { IfOk result (IsNext self.now draft.now (length self.now.places.items)) }
     {
         let fewest = self.fewest(alloc, rankings)?;
         let mut aside = Vec::new(alloc);
-        let next = self.move_in_order(draft, &fewest, order, piles, &mut aside)?;
+        let next = self.move_in_order(alloc, draft, &fewest, order, piles, &mut aside)?;
         order.put_back(&aside, &draft.counts);
         Ok(next)
     }
@@ -113,25 +112,26 @@ impl Board<'_> {
     /// The same, looked for member by member in their order. The members before the one that gives are set aside.
     fn move_in_order(
         &self,
+        alloc: Global,
         draft: &Draft,
         fewest: &[Option<usize>],
         order: &mut Order,
-        piles: &mut Vec<Vec<Pile>>,
+        piles: &mut Piles,
         aside: &mut Vec<usize>,
     ) -> Result<Option<Move>, AllocError>
         requires board { IsBoard self.now }
         requires draft { IsDraft self.now draft.now }
         requires fewest { AreFewest self.now draft.now fewest.now }
         requires order { IsOrder draft.now.counts.items order.old }
-        requires piles { ArePiles self.now draft.now (length self.now.places.items) piles.old.items }
+        requires piles { ArePiles self.now draft.now piles.old }
         requires none { aside.old.items ≡ [] }
         ensures order { OnOk result (IsOrderBut draft.now.counts.items aside.new.items order.new) }
-        ensures piles { ArePiles self.now draft.now (length self.now.places.items) piles.new.items }
+        ensures piles { OnOk result (ArePiles self.now draft.now piles.new) }
         ensures next { IfOk result (IsNext self.now draft.now (length self.now.places.items)) }
     {
         let limit = givers_limit(&draft.counts, fewest);
         while let Some(from) = order.first_above(limit) {
-            let found = self.first_move(draft, fewest, &mut piles[from], from);
+            let found = self.move_from(alloc, draft, fewest, piles, from)?;
             if found.is_some() {
                 return Ok(found);
             }
@@ -141,7 +141,28 @@ impl Board<'_> {
         Ok(None)
     }
 
-    /// The move of the first partition that the member can give away.
+    /// The move of the first partition that the member at a place can give away.
+    fn move_from(
+        &self,
+        alloc: Global,
+        draft: &Draft,
+        fewest: &[Option<usize>],
+        piles: &mut Piles,
+        from: usize,
+    ) -> Result<Option<Move>, AllocError>
+        requires board { IsBoard self.now }
+        requires draft { IsDraft self.now draft.now }
+        requires fewest { AreFewest self.now draft.now fewest.now }
+        requires piles { ArePiles self.now draft.now piles.old }
+        requires member { from < length draft.now.counts.items }
+        ensures piles { OnOk result (ArePiles self.now draft.now piles.new) }
+        ensures first { IfOk result (IsFirstOf self.now draft.now from) }
+    {
+        self.make_piles(alloc, piles, from)?;
+        Ok(self.first_move(draft, fewest, &mut piles.hands[from], from))
+    }
+
+    /// The same, looked for pile by pile.
     fn first_move(
         &self,
         draft: &Draft,
@@ -152,8 +173,8 @@ impl Board<'_> {
         requires board { IsBoard self.now }
         requires draft { IsDraft self.now draft.now }
         requires fewest { AreFewest self.now draft.now fewest.now }
-        requires hand { IsHand self.now draft.now (length self.now.places.items) from hand.old.items }
-        ensures hand { IsHand self.now draft.now (length self.now.places.items) from hand.new.items }
+        requires hand { IsHand self.now draft.now from hand.old.items }
+        ensures hand { IsHand self.now draft.now from hand.new.items }
         ensures first { IsFirstOf self.now draft.now from result }
     {
         let mut best = None;

@@ -1,28 +1,106 @@
 //! Each member's partitions while they move, so that the first that can move is found without a look at the others.
 
-ghost use Rattle.std.specs.Prelude.{◌≡◌, ◌⊎◌, ℕ, [], All, IfOk, IfSome, OnOk, length};
+ghost use Rattle.std.specs.Prelude.{◌≡◌, ◌⊎◌, ◌<◌, ℕ, List, [], All, IfOk, IfSome, OnOk, Some, length, slice_set};
+ghost use Rattle.uniform_assign.specs.declared.draft.Draft.{Draft as Drafted};
 ghost use Rattle.uniform_assign.specs.Drafts.{IsDraft};
-ghost use Rattle.uniform_assign.specs.Piles.{ArePiles, Hand, IsInHand, IsInTopic, IsOfTopic};
+ghost use Rattle.uniform_assign.specs.Piles.{AreListed, ArePiles, Hand, IsDrawn, IsInHand, IsInTopic, IsListedIn, IsOfTopic, Listed};
 
 use crate::board::Board;
 use crate::draft::Draft;
 use crate::pile::Pile;
 use std::alloc::{AllocError, Global};
 
+/// A partition by its place in partition order, and its topic.
+#[derive(Clone, Copy)]
+pub(crate) struct Owned {
+    pub topic: usize,
+    pub place: usize,
+}
+
+/// Each member's partitions. Most members give none away, so a member's piles are made when it is first asked for one.
+#[derive(Drop)]
+pub(crate) struct Piles {
+    /// For each member what it owned when the moves began and is in none of its piles yet, in partition order.
+    pub listed: Vec<Vec<Owned>>,
+    /// For each member its piles, one a topic.
+    pub hands: Vec<Vec<Pile>>,
+}
+
 impl Board<'_> {
     /// Each member's partitions.
-    pub fn piles(&self, alloc: Global, draft: &Draft) -> Result<Vec<Vec<Pile>>, AllocError>
+    pub fn piles(&self, alloc: Global, draft: &Draft) -> Result<Piles, AllocError>
         requires { IsDraft self.now draft.now }
-        ensures { IfOk result (λ piles. ArePiles self.now draft.now (length self.now.places.items) piles.items) }
+        ensures { IfOk result (ArePiles self.now draft.now) }
     {
-        let mut piles = no_piles(alloc, draft.counts.len())?;
+        Ok(Piles {
+            listed: self.listed(alloc, draft)?,
+            hands: no_piles(alloc, draft.counts.len())?,
+        })
+    }
+
+    /// Each member's partitions, in partition order.
+    fn listed(&self, alloc: Global, draft: &Draft) -> Result<Vec<Vec<Owned>>, AllocError>
+        requires { IsDraft self.now draft.now }
+        ensures { IfOk result (λ listed. AreListed self.now draft.now (length self.now.places.items) listed.items) }
+    {
+        let mut listed = no_lists(alloc, &draft.counts)?;
         for (at, place) in self.places.iter().enumerate() {
             if let Some(owner) = draft.owners[at] {
-                add(alloc, &mut piles[owner], place.topic, at)?;
+                listed[owner].push(Owned {
+                    topic: place.topic,
+                    place: at,
+                })?;
             }
         }
-        Ok(piles)
+        Ok(listed)
     }
+
+    /// Puts what is listed of a member into its piles.
+    pub fn make_piles(
+        &self,
+        alloc: Global,
+        piles: &mut Piles,
+        member: usize,
+    ) -> Result<(), AllocError>
+        requires member { member < length piles.old.hands.items }
+        requires piles { (draft : Drafted) × ArePiles self.now draft piles.old }
+        ensures made { OnOk result (IsDrawn piles.new member) }
+        ensures piles { OnOk result ((draft : Drafted) → ArePiles self.now draft piles.old → ArePiles self.now draft piles.new) }
+    {
+        draw(alloc, &piles.listed[member], &mut piles.hands[member])?;
+        piles.listed[member] = Vec::new(alloc);
+        Ok(())
+    }
+
+    /// Adds the partition at a place to the piles of a member, which is given it.
+    pub fn gain(
+        &self,
+        alloc: Global,
+        piles: &mut Piles,
+        member: usize,
+        at: usize,
+    ) -> Result<(), AllocError>
+        requires member { member < length piles.old.hands.items }
+        requires within { at < length self.now.places.items }
+        ensures { OnOk result ((old new : Drafted) → ArePiles self.now old piles.old
+            → length new.counts.items ≡ length old.counts.items
+            → new.owners.items ≡ slice_set old.owners.items at (Some member) → ArePiles self.now new piles.new) }
+    {
+        add(alloc, &mut piles.hands[member], self.places[at].topic, at)?;
+        Ok(())
+    }
+}
+
+/// For each member an empty list, with room for as many partitions as it owns.
+fn no_lists(alloc: Global, counts: &[usize]) -> Result<Vec<Vec<Owned>>, AllocError>
+    ensures as_many { IfOk result (λ lists. length lists.items ≡ length counts.now) }
+    ensures empty { IfOk result (λ lists. All (λ (list : Listed). list.items ≡ []) lists.items) }
+{
+    let mut lists = Vec::with_capacity(alloc, counts.len())?;
+    for count in counts {
+        lists.push(Vec::with_capacity(alloc, *count)?)?;
+    }
+    Ok(lists)
 }
 
 /// For each of so many members no pile.
@@ -35,6 +113,19 @@ fn no_piles(alloc: Global, members: usize) -> Result<Vec<Vec<Pile>>, AllocError>
         piles.push(Vec::new(alloc))?;
     }
     Ok(piles)
+}
+
+/// Adds what is listed to a member's piles.
+fn draw(alloc: Global, listed: &[Owned], hand: &mut Vec<Pile>) -> Result<(), AllocError>
+    ensures drawn { OnOk result ((t k : ℕ) → IsListedIn listed.now t k → IsInHand hand.new.items k) }
+    ensures kept { OnOk result ((k : ℕ) → IsInHand hand.old.items k → IsInHand hand.new.items k) }
+    ensures topics { OnOk result ((t k : ℕ) → IsInTopic hand.new.items t k
+        → IsInTopic hand.old.items t k ⊎ IsListedIn listed.now t k) }
+{
+    for one in listed {
+        add(alloc, hand, one.topic, one.place)?;
+    }
+    Ok(())
 }
 
 /// Adds a place to the member's pile of the topic.

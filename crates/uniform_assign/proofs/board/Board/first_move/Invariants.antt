@@ -7,5 +7,5 @@ use Rattle.uniform_assign.proofs.board.Board.first_move.Given as goal
 -- the first of the piles that were looked at
 abbrev pub invariant-loop-at : goal.invariant-loop-at
 invariant-loop-at l =
-    (length l.hand.items ≡ length l.initial.hand.items) × IsHand l.self l.draft (length (l.self).places.items) l.from l.hand.items
+    (length l.hand.items ≡ length l.initial.hand.items) × IsHand l.self l.draft l.from l.hand.items
     × IsFirstAmong l.self l.draft l.from (IsInBelow l.hand.items l.at) l.best

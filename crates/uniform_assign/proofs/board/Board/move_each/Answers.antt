@@ -1,6 +1,5 @@
-use Rattle.std.proofs.Common.{◌≡◌, ◌<◌, ℕ, ap, ◌∙◌, inl, inr, List, [], ◌∷◌, ◌++◌, length, slice_set, refl, sym, subst, arith, Some, get_or, length-set}
-use Rattle.std.proofs.lemmas.Option.{same_Some, slice_get_read, slice_get_within}
-use Rattle.std.specs.List.{slice_get}
+use Rattle.std.proofs.Common.{◌≡◌, ◌<◌, ℕ, ap, List, [], ◌∷◌, ◌++◌, length, slice_set, refl, sym, subst, arith, Some, get_or, length-set}
+use Rattle.std.proofs.lemmas.Option.{slice_get_within}
 use Rattle.group_types.specs.Owners.{Spread}
 use Rattle.group_types.specs.Uniform.{AreMoves}
 use Rattle.uniform_assign.specs.Drafts.{drawn_on}
@@ -8,10 +7,8 @@ use Rattle.uniform_assign.specs.Moves.{IsFirst, IsNext}
 use Rattle.uniform_assign.specs.Orders.{IsOrder}
 use Rattle.uniform_assign.specs.Rankings.{AreRankings}
 use Rattle.std.proofs.lemmas.List.{get_or_read}
-use Rattle.uniform_assign.proofs.Counts.{cases_equal, moved-again, squares, squares_fall}
-use Rattle.uniform_assign.proofs.Kept.{slice_get-set_other, slice_get-set_same}
+use Rattle.uniform_assign.proofs.Counts.{moved-again, squares, squares_fall}
 use Rattle.uniform_assign.proofs.Ordered.{order-room}
-use Rattle.uniform_assign.proofs.Piled.{ArePiles-added}
 use Rattle.uniform_assign.proofs.Moves.{AreMoves-push, IsDraft-give, move-to, next_move, no_move-level}
 use Rattle.uniform_assign.proofs.board.Board.move_each.Goals as goal
 use Rattle.uniform_assign.specs.Boards.{members_on}
@@ -41,8 +38,8 @@ give-requires c =
       counts = is_draft.counts;
     }
 
-pub index_mut-requires : goal.index_mut-requires
-index_mut-requires c =
+pub gain-requires-clause-member : goal.gain-requires-clause-member
+gain-requires-clause-member c =
     let board = c.args.self.now in
     let draft = c.loop-piles.draft in
     let m = c.in-Some.next in
@@ -52,8 +49,15 @@ index_mut-requires c =
     let low = slice_get_within (members_on board) m.to to is_to in
     let many = is_draft.as_many_counts in
     let hands = c.in_ok-next.ensures.piles.as_many in
-    let ok = c.next_move.new.piles.ok in
+    let ok = c.next_move.new.piles.hands.ok in
     omega arith
+
+pub gain-requires-clause-within : goal.gain-requires-clause-within
+gain-requires-clause-within c =
+    let board = c.args.self.now in
+    let draft = c.loop-piles.draft in
+    let first : IsFirst board draft (length board.places.items) c.in-Some.next = subst (IsNext board draft (length board.places.items)) c.in-Some.is c.in_ok-next.ensures.next in
+    first.within
 
 pub loop-piles-preserved : goal.loop-piles-preserved
 loop-piles-preserved c =
@@ -70,27 +74,7 @@ loop-piles-preserved c =
       IsDraft-give board draft c.give.new.self m.partition (Some m.to) is_draft c.give.ensures.owners c.give.ensures.as_many c.give.ensures.counts,
       subst (λ os. (steps : List Spread) × AreMoves view subs before steps (drawn_on board os)) (sym c.give.ensures.owners)
           (steps ++ drawn_on board given ∷ [], AreMoves-push view subs before (drawn_on board draft.owners.items) (drawn_on board given) steps moves next),
-      let piles = c.next_move.new.piles.items in
-          let held = c.in_ok-next.ensures.piles in
-          let old = c.index_mut.result.now in
-          let (to, is_to) = move-to board draft c.requires.board is_draft m first.is_move in
-          let low = slice_get_within (members_on board) m.to to is_to in
-          let many = is_draft.as_many_counts in
-          let hands = held.as_many in
-          let is_old = slice_get_read piles (length piles) m.to old refl (omega arith) c.index_mut.ensures.value in
-          let is_place = slice_get_read board.places.items (length board.places.items) m.partition c.index.result.now refl first.within c.index.ensures in
-          let added = c.in_ok-add.ensures in
-          ArePiles-added board draft c.give.new.self (length board.places.items) (length board.places.items) piles held c.give.ensures.as_many m.to m.partition c.index.result.now old c.add.new.hand is_old is_place
-          (λ i j within owns.
-          let shown : slice_get given i ≡ Some (Some j) = ap (λ xs. slice_get xs i) (sym c.give.ensures.owners) ∙ owns in
-          elim (cases_equal i m.partition) [
-            | inl same ↦
-                let here = slice_get-set_same draft.owners.items m.partition (Some m.to) (slice_get_within draft.owners.items m.partition (Some m.from) first.is_move.owns) in
-                let owner : Some m.to ≡ Some j = same_Some (Some m.to) (Some j) (sym here ∙ ap (slice_get given) (sym same) ∙ shown) in
-                inr (same, sym (same_Some m.to j owner))
-            | inr apart ↦ inl (within, sym (slice_get-set_other draft.owners.items m.partition i (Some m.to) apart) ∙ shown)
-          ])
-          added.added added.kept added.topics,
+      c.in_ok-gain.ensures draft c.give.new.self c.in_ok-next.ensures.piles c.give.ensures.as_many c.give.ensures.owners,
       let counts = draft.counts.items in
           let new = c.give.new.self.counts.items in
           let (to, is_to) = move-to board draft c.requires.board is_draft m first.is_move in
@@ -100,10 +84,10 @@ loop-piles-preserved c =
           let as_many = c.give.ensures.as_many in
           let fewer = first.is_move.fewer in
           let apart : m.to ≡ m.from → ⊥ = λ same. let equal = ap (λ n. get_or counts n 0) same in omega arith in
-          let one = c.index-in-Some.result.now in
-          let two = c.index-in-Some-2.result.now in
-          let is_one = get_or_read new m.from one (omega arith) c.index-in-Some.ensures 0 in
-          let is_two = get_or_read new m.to two (omega arith) c.index-in-Some-2.ensures 0 in
+          let one = c.index.result.now in
+          let two = c.index-in-Some.result.now in
+          let is_one = get_or_read new m.from one (omega arith) c.index.ensures 0 in
+          let is_two = get_or_read new m.to two (omega arith) c.index-in-Some.ensures 0 in
           let long = length-set counts m.from one in
           let renewed = c.renew.ensures counts from_in ranked in
           let again = c.renew-in-Some.ensures (slice_set counts m.from one) (omega arith) renewed in
@@ -117,10 +101,10 @@ loop-piles-preserved c =
           let as_many = c.give.ensures.as_many in
           let fewer = first.is_move.fewer in
           let apart : m.to ≡ m.from → ⊥ = λ same. let equal = ap (λ n. get_or counts n 0) same in omega arith in
-          let one = c.index-in-Some-3.result.now in
-          let two = c.index-in-Some-4.result.now in
-          let is_one = get_or_read new m.from one (omega arith) c.index-in-Some-3.ensures 0 in
-          let is_two = get_or_read new m.to two (omega arith) c.index-in-Some-4.ensures 0 in
+          let one = c.index-in-Some-2.result.now in
+          let two = c.index-in-Some-3.result.now in
+          let is_one = get_or_read new m.from one (omega arith) c.index-in-Some-2.ensures 0 in
+          let is_two = get_or_read new m.to two (omega arith) c.index-in-Some-3.ensures 0 in
           let written = c.set.ensures counts c.in_ok-next.ensures.order in
           let again = c.set-in-Some.ensures (slice_set counts m.from one) written in
           subst (λ xs. IsOrder xs c.set-in-Some.new.self) (moved-again counts new m.from m.to one two from_in (omega arith) apart (c.give.ensures.moved m.from first.is_move.owns) is_one is_two) again,
@@ -149,8 +133,8 @@ returns c =
     let none = subst (IsNext board draft (length board.places.items)) c.in_default.is c.in_ok-next.ensures.next in
     record { draft = is_draft; levelled = record { steps = steps; are_moves = moves; is_level = no_move-level board draft c.requires.board is_draft none } }
 
-pub index-requires-in-Some-2 : goal.index-requires-in-Some-2
-index-requires-in-Some-2 c =
+pub index-requires-in-Some : goal.index-requires-in-Some
+index-requires-in-Some c =
     let board = c.args.self.now in
     let draft = c.loop-piles.draft in
     let m = c.in-Some.next in
@@ -171,10 +155,10 @@ renew-requires-in-Some-clause-known c =
     let is_draft = c.loop-piles.invariant.0 in
     let first : IsFirst board draft (length board.places.items) m = subst (IsNext board draft (length board.places.items)) c.in-Some.is c.in_ok-next.ensures.next in
     let from_in = is_draft.counts.within m.partition m.from first.is_move.owns in
-    (slice_set draft.counts.items m.from c.index-in-Some.result.now, c.renew.ensures draft.counts.items from_in c.loop-piles.invariant.3)
+    (slice_set draft.counts.items m.from c.index.result.now, c.renew.ensures draft.counts.items from_in c.loop-piles.invariant.3)
 
-pub index-requires-in-Some-4 : goal.index-requires-in-Some-4
-index-requires-in-Some-4 c =
+pub index-requires-in-Some-3 : goal.index-requires-in-Some-3
+index-requires-in-Some-3 c =
     let board = c.args.self.now in
     let draft = c.loop-piles.draft in
     let m = c.in-Some.next in
@@ -208,6 +192,6 @@ set-requires-in-Some c =
     let (to, is_to) = move-to board draft c.requires.board is_draft m first.is_move in
     let low = slice_get_within (members_on board) m.to to is_to in
     let many = is_draft.as_many_counts in
-    let one = c.index-in-Some-3.result.now in
+    let one = c.index-in-Some-2.result.now in
     let long = length-set counts m.from one in
     order-room (slice_set counts m.from one) c.set.new.self m.to (c.set.ensures counts c.in_ok-next.ensures.order) (omega arith)

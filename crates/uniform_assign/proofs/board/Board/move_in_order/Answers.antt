@@ -1,11 +1,9 @@
-use Rattle.std.proofs.Common.{◌≡◌, ◌++◌, ◌∷◌, [], ℕ, List, Option, None, Some, is_some, true, false, length, refl, sym, ap, subst, ◌∙◌, arith}
+use Rattle.std.proofs.Common.{◌≡◌, ◌++◌, ◌∷◌, [], ℕ, List, Option, None, Some, is_some, true, false, length, sym, ap, subst, ◌∙◌, arith}
 use Rattle.std.proofs.lemmas.List.{length_push}
-use Rattle.std.proofs.lemmas.Option.{slice_get_read}
 use Rattle.uniform_assign.specs.declared.level.Move.{Move}
 use Rattle.uniform_assign.specs.Moves.{IsFirstOf, IsGiversLimit, IsNext}
 use Rattle.uniform_assign.specs.Orders.{IsFirstAbove, IsGreatestAt}
 use Rattle.uniform_assign.proofs.Ordered.{order-room}
-use Rattle.uniform_assign.proofs.Piled.{ArePiles-searched}
 use Rattle.uniform_assign.proofs.Searched.{IsFirst-searched, IsNext-searched, IsSearched, IsSearched-aside, IsSearched-none}
 use Rattle.uniform_assign.proofs.board.Board.move_in_order.Goals as goal
 
@@ -16,26 +14,13 @@ loop-from-init c = (c.requires.piles, IsSearched-none c.args.self.now c.args.dra
 first_told : (counts : List ℕ) (limit from : ℕ) (o : Option ℕ) → IsFirstAbove counts limit o → o ≡ Some from → IsGreatestAt counts limit from
 first_told counts limit from o is same = subst (IsFirstAbove counts limit) same is
 
-pub index_mut-requires : goal.index_mut-requires
-index_mut-requires c =
+pub move_from-requires-clause-member : goal.move_from-requires-clause-member
+move_from-requires-clause-member c =
     let (are, searched) = c.loop-from.invariant in
     let first = first_told searched.shown c.givers_limit-limit.result c.in-Some.from c.first_above.result (c.first_above.ensures searched.shown searched.is_order) c.in-Some.is in
     let within = first.within in
     let shown = searched.are_shown.as_many in
-    let many = are.as_many in
-    let ok = c.loop-from.piles.ok in
     omega arith
-
-pub first_move-found-requires-clause-hand : goal.first_move-found-requires-clause-hand
-first_move-found-requires-clause-hand c =
-    let (are, searched) = c.loop-from.invariant in
-    let first = first_told searched.shown c.givers_limit-limit.result c.in-Some.from c.first_above.result (c.first_above.ensures searched.shown searched.is_order) c.in-Some.is in
-    let within = first.within in
-    let shown = searched.are_shown.as_many in
-    let many = are.as_many in
-    let piles = c.loop-from.piles.items in
-    let old = c.index_mut.result.now in
-    are.hands c.in-Some.from old (slice_get_read piles (length piles) c.in-Some.from old refl (omega arith) c.index_mut.ensures.value)
 
 pub set-requires : goal.set-requires
 set-requires c =
@@ -59,9 +44,9 @@ loop-from-preserved c =
     let within = first.within in
     let shown = searched.are_shown.as_many in
     let many = are.as_many in
-    let stays = subst (IsFirstOf board draft from) (none c.first_move-found.result (sym c.is_some.ensures ∙ c.if-is_some.false)) c.first_move-found.ensures.first in
+    let stays = subst (IsFirstOf board draft from) (none c.in_ok-found.found (sym c.is_some.ensures ∙ c.if-is_some.false)) c.in_ok-found.ensures.first in
     let pushed : c.push.new.self.items ≡ c.loop-from.aside.items ++ from ∷ [] = c.in_ok-push.ensures.items in (
-      ArePiles-searched board draft all from c.loop-from.piles.items c.first_move-found.new.hand (omega arith) are c.first_move-found.ensures.hand,
+      c.in_ok-found.ensures.piles,
       subst (λ (xs : List ℕ). IsSearched board draft xs c.set.new.self) (sym pushed)
           (IsSearched-aside board draft c.loop-from.aside.items c.loop-from.order c.set.new.self limit from searched first (λ k can. stays k tt can) c.set.ensures),
     )
@@ -74,7 +59,7 @@ loop-from-smaller c =
     let (are, searched) = c.loop-from.invariant in
     let limit = c.givers_limit-limit.result in
     let first = first_told searched.shown limit from c.first_above.result (c.first_above.ensures searched.shown searched.is_order) c.in-Some.is in
-    let stays = subst (IsFirstOf board draft from) (none c.first_move-found.result (sym c.is_some.ensures ∙ c.if-is_some.false)) c.first_move-found.ensures.first in
+    let stays = subst (IsFirstOf board draft from) (none c.in_ok-found.found (sym c.is_some.ensures ∙ c.if-is_some.false)) c.in_ok-found.ensures.first in
     let next = IsSearched-aside board draft c.loop-from.aside.items c.loop-from.order c.set.new.self limit from searched first (λ k can. stays k tt can) c.set.ensures in
     let few = next.fewer in
     let long = length_push c.loop-from.aside.items from in
@@ -96,8 +81,8 @@ returns-then-is_some c =
     let many = are.as_many in
     record {
       order = (searched.shown, searched.are_shown, searched.is_order);
-      piles = ArePiles-searched board draft all from c.loop-from.piles.items c.first_move-found.new.hand (omega arith) are c.first_move-found.ensures.hand;
-      next = moves c.first_move-found.result (sym c.is_some.ensures ∙ c.if-is_some.true) c.first_move-found.ensures.first;
+      piles = c.in_ok-found.ensures.piles;
+      next = moves c.in_ok-found.found (sym c.is_some.ensures ∙ c.if-is_some.true) c.in_ok-found.ensures.first;
     }
   where
     moves : (o : Option Move) → is_some o ≡ true → IsFirstOf c.args.self.now c.args.draft.now c.in-Some.from o → IsNext c.args.self.now c.args.draft.now (length c.args.self.now.places.items) o
@@ -121,14 +106,3 @@ returns c =
       piles = are;
       next = IsNext-searched board draft c.requires.board c.requires.draft c.loop-from.aside.items c.loop-from.order limit searched c.args.fewest.now c.requires.fewest is_limit nobody;
     }
-
-pub returns-in_err-push-clause-piles : goal.returns-in_err-push-clause-piles
-returns-in_err-push-clause-piles c =
-    let board = c.args.self.now in
-    let from = c.in-Some.from in
-    let (are, searched) = c.loop-from.invariant in
-    let first = first_told searched.shown c.givers_limit-limit.result from c.first_above.result (c.first_above.ensures searched.shown searched.is_order) c.in-Some.is in
-    let within = first.within in
-    let shown = searched.are_shown.as_many in
-    let many = are.as_many in
-    ArePiles-searched board c.args.draft.now (length board.places.items) from c.loop-from.piles.items c.first_move-found.new.hand (omega arith) are c.first_move-found.ensures.hand

@@ -5,7 +5,7 @@ use Rattle.uniform_assign.proofs.board.Board.move_in_order.Given as goal
 
 -- those that were looked at are set aside
 abbrev pub invariant-loop-from : goal.invariant-loop-from
-invariant-loop-from l = ArePiles l.self l.draft (length (l.self).places.items) l.piles.items × IsSearched l.self l.draft l.aside.items l.order
+invariant-loop-from l = ArePiles l.self l.draft l.piles × IsSearched l.self l.draft l.aside.items l.order
 
 -- each that is set aside owned something
 abbrev pub decreases-loop-from : goal.decreases-loop-from
