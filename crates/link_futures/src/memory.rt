@@ -36,7 +36,8 @@ pub struct Feed {
 impl Feed {
     /// A reader of these bytes. Takes no memory.
     pub fn new(bytes: Vec<u8>, acts: VecDeque<PollAct>) -> Feed
-        ensures { result.rest.items ≡ bytes.items }
+        ensures bytes { result.rest.items ≡ bytes.items }
+        ensures acts { result.acts ≡ acts }
     {
         Feed {
             rest: BytesMut::from_vec(bytes),
@@ -89,7 +90,8 @@ pub struct Drain {
 impl Drain {
     /// A writer that has taken no byte. All its memory is taken here.
     pub fn new(alloc: Global, room: usize, acts: VecDeque<PollAct>) -> Result<Drain, AllocError>
-        ensures { IfOk result (λ drain. drain.taken.items ≡ []) }
+        ensures nothing { IfOk result (λ drain. drain.taken.items ≡ []) }
+        ensures acts { IfOk result (λ drain. drain.acts ≡ acts) }
     {
         let taken = Vec::with_capacity(alloc, room)?;
         Ok(Drain { taken, acts })
