@@ -6,7 +6,7 @@ ghost use Rattle.uniform_assign.specs.Rankings.{AreRanks, IsFirstOfTwo, IsFirstR
 use std::alloc::{AllocError, Global};
 
 /// A count, and its place in the list of counts.
-#[derive(Clone, Copy)]
+#[derive(Clone, Copy, PartialEq, Eq)]
 pub(crate) struct Rank {
     pub count: usize,
     pub place: usize,
@@ -15,8 +15,8 @@ pub(crate) struct Rank {
 /// Counts in order: by the count, and equal ones by their places.
 ///
 /// The second half of the nodes has the counts as they are listed. Before them each node has the first of the two nodes
-/// at twice its index, so that the first of all is at index 1, and a change is carried up in as many steps as the number
-/// of counts has bits.
+/// at twice its index, so that the first of all is at index 1. A change is carried up until it changes nothing, in as many
+/// steps at most as the number of counts has bits.
 #[derive(Drop)]
 pub(crate) struct Ranking {
     pub nodes: Vec<Rank>,
@@ -59,7 +59,11 @@ impl Ranking {
         let mut node = self.nodes.len() / 2 + place;
         self.nodes[node] = rank;
         while node > 1 {
+            let above = self.nodes[node / 2];
             rank = self.carry(node, rank);
+            if rank == above {
+                return;
+            }
             node /= 2;
         }
     }

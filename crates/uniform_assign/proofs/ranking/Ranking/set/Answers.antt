@@ -1,8 +1,12 @@
-use Rattle.std.proofs.Common.{◌≡◌, ◌⊎◌, ◌<◌, ◌+◌, ◌/◌, ℕ, length, set as set_at, length-set, sym, ap, subst, ◌∙◌, arith, inl, inr}
+use Rattle.std.proofs.Common.{◌≡◌, ◌==◌, ◌&&◌, ◌⊎◌, ◌<◌, ◌+◌, ◌/◌, ℕ, true, length, set as set_at, length-set, sym, ap, subst, ◌∙◌, arith, inl, inr}
 use Rattle.std.proofs.lemmas.Bool.{cases_lt}
+use Rattle.std.proofs.lemmas.List.{set-get_or}
+use Rattle.std.proofs.lemmas.Option.{same_Some}
+use Rattle.std.specs.List.{slice_get}
 use Rattle.uniform_assign.specs.declared.ranking.Rank.{Rank}
-use Rattle.uniform_assign.specs.Rankings.{AreRanks}
+use Rattle.uniform_assign.specs.Rankings.{AreRanks, IsMatch}
 use Rattle.uniform_assign.proofs.Ranked.{AreMatchesBut, AreMatchesBut-played, AreMatchesBut-set, AreRanks-played, AreRanks-set}
+use Rattle.uniform_assign.proofs.Counts.{cases_equal}
 use Rattle.uniform_assign.proofs.Kept.{slice_get-set_same}
 use Rattle.uniform_assign.proofs.ranking.Ranking.set.Goals as goal
 
@@ -72,3 +76,34 @@ returns c = λ counts ranking.
     let last = c.loop-node-test.false in
     let set_long = length-set counts c.args.place c.args.count in
     record { are_ranks = are; matches = λ i some within. matches i some (omega arith) (λ same. omega arith) (λ same. omega arith) }
+
+same_rank : (a b : Rank) → true ≡ ((a.count == b.count) && (a.place == b.place)) → a ≡ b
+same_rank a b both =
+    let counts : a.count ≡ b.count = grind (arith) in
+    let places : a.place ≡ b.place = grind (arith) in
+    λ i. record { count = counts i; place = places i }
+
+-- the node above is as it was, so the nodes above it are right
+pub returns-then-eq : goal.returns-then-eq
+returns-then-eq c = λ counts ranking.
+    let old = c.loop-node.self.nodes.items in
+    let new = c.carry-rank.new.self.nodes.items in
+    let node = c.loop-node.node in
+    let p = node / 2 in
+    let (long, positive, low, here, keeps) = c.loop-node.invariant in
+    let (are, matches) = keeps counts ranking in
+    let more = c.loop-node-test.true in
+    let is = c.carry-rank.ensures.played in
+    let many = ranking.are_ranks.as_many in
+    let set_long = length-set counts c.args.place c.args.count in
+    let first : is.first ≡ c.carry-rank.result =
+    same_Some is.first c.carry-rank.result (sym (ap (λ xs. slice_get xs p) is.is_new ∙ slice_get-set_same old p is.first (omega arith)) ∙ c.carry-rank.ensures.first) in
+    let same : new ≡ old = is.is_new ∙ ap (set_at old p) (first ∙ same_rank c.carry-rank.result c.index.result.now c.if-eq.ensures ∙ c.index.ensures) ∙ set-get_or old p c.index.result.now in
+    let played = AreMatchesBut-played (set_at counts c.args.place c.args.count) old new node p are (omega arith) (omega arith) (halves node) (subst (λ n. AreMatchesBut node n old) (sym set_long) matches) is in
+    record {
+      are_ranks = AreRanks-played old new p is (set_at counts c.args.place c.args.count) (omega arith) are;
+      matches = λ i some within. elim (cases_equal i p) [
+        | inl this ↦ played i some within (λ same. omega arith) (λ same. omega arith)
+        | inr apart ↦ subst (λ xs. IsMatch xs i) (sym same) (matches i some (omega arith) (λ same. apart (omega arith)) (λ same. apart (omega arith)))
+      ];
+    }
