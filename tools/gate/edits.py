@@ -1,7 +1,8 @@
 """The files of edits: reading them, and applying them to the texts of a crate.
 
 An edit has a line `file: src/x.rt` and then pairs of lines `old: TEXT` and `new: TEXT`. Each TEXT is a part of
-one line and stands once in that file; a later pair applies to what the earlier ones made. So no edit moves a line.
+one line and stands once in that file; a later pair applies to what the earlier ones made. So no edit moves a line. A text
+that stands in several lines is turned in one where the first pairs turn the other lines, and the last ones turn them back.
 
     crates/NAME/must-fail/*.edit         the prover must refuse each. NAMED.md beside them may list, one a line
                                          as `NAME.edit: reason`, those that are refused only since a proof file
@@ -118,7 +119,7 @@ def pairs_of(text):
 
 def change_of(edit, read):
     """Applies an edit to texts, which `read` gives by path."""
-    texts, lines = {}, set()
+    texts = {}
     for path, old, new in pairs_of(edit.text):
         try:
             text = texts[path] if path in texts else read(path)
@@ -126,12 +127,16 @@ def change_of(edit, read):
             raise BadEdit(f"there is no file {path}") from None
         if text.count(old) != 1:
             raise BadEdit(f"an 'old:' text is in {path} {text.count(old)} times, and not once")
-        before, _, after = text.partition(old)
-        texts[path] = before + new + after
-        lines.add((path, before.count("\n")))
+        texts[path] = text.replace(old, new)
     if not texts:
         raise BadEdit("it has no 'old:' and 'new:' pair")
-    return Change(texts, lines)
+    return Change(texts, {(path, at) for path, text in texts.items() for at in turned_lines(read(path), text)})
+
+
+def turned_lines(before, after):
+    """The lines, from 0, that differ in two texts: one that is turned and turned back is none."""
+    pairs = zip(before.split("\n"), after.split("\n"))
+    return {at for at, (old, new) in enumerate(pairs) if old != new}
 
 
 def merged(changes, read):
