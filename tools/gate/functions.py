@@ -127,10 +127,13 @@ def arguments(text):
 
 
 def last_name(text):
-    """A type's name as a verdict spells it: the last of its path, with no arguments, `RefStr` for `&str`."""
+    """A type's name as a verdict spells it: the last of its path, with no arguments, `RefStr` for `&str`.
+
+    Arguments that go on in the lines below are none either."""
     plain = text.strip()
     while (shorter := re.sub(r"<[^<>]*>", "", plain)) != plain:
         plain = shorter
+    plain = plain.partition("<")[0]
     reference, plain = plain.startswith("&"), re.sub(r"^&('\w+ )?(mut )?", "", plain)
     name = re.split(r"::", plain.strip())[-1].partition(":")[0].strip()
     return "Ref" * reference + name[:1].upper() + name[1:]
