@@ -218,8 +218,8 @@ impl Record {
     pub(crate) fn go_away(&mut self, stamp: Stamp, now: Moment)
         ensures { self.new ≡ away self.old stamp now }
     {
-        if let Some(epoch) = self.epoch.number() {
-            self.previous_epoch = epoch;
+        if let Some(last) = self.epoch.number() {
+            self.previous_epoch = last;
         }
         self.epoch = Epoch::Away;
         self.release_deadline = None;
