@@ -29,6 +29,7 @@ pub mod Ordered
 pub mod Searched
 pub mod Ranked
 pub mod Queued
+pub mod Between
 pub mod Located
 pub mod Staying
 pub mod Turned

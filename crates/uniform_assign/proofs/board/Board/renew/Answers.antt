@@ -11,8 +11,8 @@ use Rattle.uniform_assign.proofs.board.Board.renew.Goals.{in-Some, in_default}
 pub loop-topic-init : goal.loop-topic-init
 loop-topic-init c = AreRenewed-none c.args.self.now c.args.rankings.now.items c.args.member c.args.count
 
-pub place_among-requires : goal.place_among-requires
-place_among-requires c =
+pub place_near-requires : goal.place_near-requires
+place_near-requires c =
     let board = c.args.self.now in
     let low = c.loop-topic-test.true in
     let shown = c.len-topic-end.ensures in
@@ -67,7 +67,7 @@ loop-topic-preserved c =
     let as_many = are.as_many in
     let takers = c.index.result.now in
     let here = slice_get_read board.takers.items (length board.takers.items) n takers refl (omega arith) c.index.ensures in
-    elim c.match-place_among.branch [
+    elim c.match-place_near.branch [
       | in-Some w ↦
           let was = w.index_mut.result.now in
           let is_was = slice_get_read new (length new) n was refl (omega arith) w.index_mut.ensures.value in
