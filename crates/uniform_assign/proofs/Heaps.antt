@@ -84,3 +84,17 @@ owner_is (Some n) m test = ap Some ((Decides-eqb n m).0 (sym test))
 pub owner_is_not : (o : Option ℕ) (m : ℕ) → false ≡ option_eq (λ x y. x == y) o (Some m) → o ≡ Some m → ⊥
 owner_is_not None m test same = cc
 owner_is_not (Some n) m test same = let equal = (Decides-eqb n m).1 (same_Some n m same) in cc
+
+-- the one that was popped is the first of all
+pub least-popped : {H : Type 0} (o : Option (Reverse ℕ)) (xs ys : List (Reverse ℕ)) (first : ℕ) → H → IsSome o → IfSome o (λ x. IsPermutation xs (x ∷ ys)) → IfSome o (λ x. H → IsUpperBound falling x ys)
+    → In first xs → ((k : ℕ) → In k xs → first ≤ k) → (x : Reverse ℕ) × IsPermutation xs (x ∷ ys) × (x.0 ≡ first)
+least-popped None xs ys first heap some moved bound there least = cc
+least-popped (Some x) xs ys first heap some moved bound there least =
+    let low = least x.0 (In-permutation (x ∷ ys) xs x.0 (IsPermutation-sym xs (x ∷ ys) moved) (In-head x ys)) in (
+      x,
+      moved,
+      elim (popped-In x xs ys first moved there) [
+        | inl same ↦ same
+        | inr behind ↦ let high = In-first x ys first (bound heap) behind in omega arith
+      ],
+    )

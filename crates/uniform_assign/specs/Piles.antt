@@ -1,7 +1,8 @@
 -- The piles of partitions that members own.
-use Rattle.std.specs.Prelude.{◌≡◌, ◌⊎◌, ℕ, ◌<◌, ◌≤◌, List, [], length, Option, Some, slice_get, MatchOption}
+use Rattle.std.specs.Prelude.{◌≡◌, ◌⊎◌, ℕ, ◌+◌, ◌<◌, ◌≤◌, List, [], length, Option, Some, slice_get, MatchOption}
 use Rattle.std.specs.List.{Contains}
-use Rattle.std.specs.BinaryHeap.{heap_items}
+use Rattle.std.specs.Option.{option_len}
+use Rattle.std.specs.BinaryHeap.{heap_items, heap_len}
 use Rattle.std.specs.declared.cmp.Reverse.{Reverse}
 use Rattle.std.specs.Global.{Vec}
 use Rattle.uniform_assign.specs.declared.board.Board.{Board}
@@ -13,7 +14,15 @@ use Rattle.uniform_assign.specs.declared.piles.Owned.{Owned}
 
 -- the place is in the pile
 abbrev pub IsIn : ℕ → Pile → Type 0
-IsIn k pile = (r : Reverse ℕ) × Contains (heap_items pile.places) r × (r.0 ≡ k)
+IsIn k pile = (pile.one ≡ Some k) ⊎ ((r : Reverse ℕ) × Contains (heap_items pile.places) r × (r.0 ≡ k))
+
+-- the first place of the pile, if it has any
+abbrev pub IsFirstIn : Pile → Option ℕ → Type 0
+IsFirstIn pile o = MatchOption o ((k : ℕ) → ¬ IsIn k pile) (λ first. IsIn first pile × ((k : ℕ) → IsIn k pile → first ≤ k))
+
+-- how many places the pile has
+abbrev pub how_many : Pile → ℕ
+how_many pile = option_len pile.one + heap_len pile.places
 
 -- a member's piles, one a topic
 abbrev pub Hand : Type 0

@@ -1,6 +1,6 @@
 //! The partitions of a topic that a member owns, so that the first of them is at hand.
 
-ghost use Rattle.std.specs.Prelude.{◌≡◌, ◌⊎◌, ◌↔◌, ◌<◌, ℕ, IfOk, OnOk, Some, length, slice_get};
+ghost use Rattle.std.specs.Prelude.{◌≡◌, ◌⊎◌, ◌↔◌, ◌<◌, ℕ, OnOk, Some, length, slice_get};
 ghost use Rattle.std.specs.BinaryHeap.{IsHeap, heap_items};
 ghost use Rattle.std.specs.Ordering.{nat_cmp};
 ghost use Rattle.std.proofs.Props.{props};
@@ -14,21 +14,26 @@ use std::collections::BinaryHeap;
 #[derive(Drop)]
 pub(crate) struct Pile {
     pub topic: usize,
+    /// One of the places. Most piles have no other, and so take no memory.
+    pub one: Option<usize>,
+    /// The others.
     pub places: BinaryHeap<Reverse<usize>>,
     ghost ordered: { IsHeap (λ x y. nat_cmp y.0 x.0) (heap_items places) } by { Prim.hlevel props },
 }
 
 impl Pile {
-    ghost use Rattle.uniform_assign.specs.Piles.{IsFirstOwned, IsIn};
+    ghost use Rattle.uniform_assign.specs.Piles.{IsFirstIn, IsFirstOwned, IsIn, how_many};
 
-    /// The pile that has this place alone.
-    pub fn of(alloc: Global, topic: usize, place: usize) -> Result<Pile, AllocError>
-        ensures topic { IfOk result (λ pile. pile.topic ≡ topic) }
-        ensures alone { IfOk result (λ pile. (k : ℕ) → IsIn k pile ↔ (k ≡ place)) }
+    /// The pile that has this place alone. Takes no memory.
+    pub fn of(alloc: Global, topic: usize, place: usize) -> Pile
+        ensures topic { result.topic ≡ topic }
+        ensures alone { (k : ℕ) → IsIn k result ↔ (k ≡ place) }
     {
-        let mut places = BinaryHeap::new(alloc);
-        places.push(Reverse(place))?;
-        Ok(Pile { topic, places })
+        Pile {
+            topic,
+            one: Some(place),
+            places: BinaryHeap::new(alloc),
+        }
     }
 
     /// Adds a place.
@@ -36,6 +41,10 @@ impl Pile {
         ensures topic { self.new.topic ≡ self.old.topic }
         ensures added { OnOk result ((k : ℕ) → IsIn k self.new ↔ (IsIn k self.old ⊎ (k ≡ place))) }
     {
+        if self.one.is_none() {
+            self.one = Some(place);
+            return Ok(());
+        }
         self.places.push(Reverse(place))?;
         Ok(())
     }
@@ -48,13 +57,39 @@ impl Pile {
         ensures kept { (k : ℕ) → IsIn k self.old → slice_get owners.now k ≡ Some (Some member) → IsIn k self.new }
         ensures first { IsFirstOwned owners.now member self.new result }
     {
-        while let Some(first) = self.places.peek() {
-            let place = first.0;
+        while let Some(place) = self.first() {
             if owners[place] == Some(member) {
                 return Some(place);
             }
-            self.places.pop();
+            self.drop_first(place);
         }
         None
+    }
+
+    /// The first place, if there is any.
+    fn first(&self) -> Option<usize>
+        ensures { IsFirstIn self.now result }
+    {
+        match (self.one, self.places.peek()) {
+            (Some(one), Some(least)) => Some(one.min(least.0)),
+            (Some(one), None) => Some(one),
+            (None, Some(least)) => Some(least.0),
+            (None, None) => None,
+        }
+    }
+
+    /// Takes the first place out.
+    fn drop_first(&mut self, first: usize)
+        requires { IsFirstIn self.old (Some first) }
+        ensures topic { self.new.topic ≡ self.old.topic }
+        ensures fewer { (k : ℕ) → IsIn k self.new → IsIn k self.old }
+        ensures kept { (k : ℕ) → IsIn k self.old → (k ≡ first) ⊎ IsIn k self.new }
+        ensures shorter { how_many self.new < how_many self.old }
+    {
+        if self.one == Some(first) {
+            self.one = None;
+        } else {
+            self.places.pop();
+        }
     }
 }

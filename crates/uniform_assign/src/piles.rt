@@ -142,7 +142,7 @@ pub(crate) fn add(
 {
     match pile_of(hand, topic) {
         Some(at) => hand[at].push(place)?,
-        None => hand.push(Pile::of(alloc, topic, place)?)?,
+        None => hand.push(Pile::of(alloc, topic, place))?,
     }
     Ok(())
 }

@@ -40,23 +40,23 @@ returns-in_ok-push-in-Some-clause-topics c = λ t k there.
 pub returns-in_ok-push-in-None-clause-added : goal.returns-in_ok-push-in-None-clause-added
 returns-in_ok-push-in-None-clause-added c =
     let hand = c.args.hand.now.items in
-    let new = c.in_ok-of-in-None.field-0 in
+    let new = c.of.result in
     let pushed : c.push-in-None.new.self.items ≡ hand ++ new ∷ [] = c.in_ok-push-in-None.ensures.items in
-    subst (λ (xs : List Pile). IsInHand xs c.args.place) (sym pushed) (InHand-pushed hand new c.args.place c.in_ok-of-in-None.ensures.alone)
+    subst (λ (xs : List Pile). IsInHand xs c.args.place) (sym pushed) (InHand-pushed hand new c.args.place c.of.ensures.alone)
 
 pub returns-in_ok-push-in-None-clause-kept : goal.returns-in_ok-push-in-None-clause-kept
 returns-in_ok-push-in-None-clause-kept c = λ k there.
     let hand = c.args.hand.now.items in
-    let new = c.in_ok-of-in-None.field-0 in
+    let new = c.of.result in
     let pushed : c.push-in-None.new.self.items ≡ hand ++ new ∷ [] = c.in_ok-push-in-None.ensures.items in
-    subst (λ (xs : List Pile). IsInHand xs k) (sym pushed) (InHand-left hand new c.args.place c.in_ok-of-in-None.ensures.alone k there)
+    subst (λ (xs : List Pile). IsInHand xs k) (sym pushed) (InHand-left hand new c.args.place c.of.ensures.alone k there)
 
 pub returns-in_ok-push-in-None-clause-topics : goal.returns-in_ok-push-in-None-clause-topics
 returns-in_ok-push-in-None-clause-topics c = λ t k there.
     let hand = c.args.hand.now.items in
-    let new = c.in_ok-of-in-None.field-0 in
+    let new = c.of.result in
     let pushed : c.push-in-None.new.self.items ≡ hand ++ new ∷ [] = c.in_ok-push-in-None.ensures.items in
-    elim (InTopic-pushed hand new c.args.place c.in_ok-of-in-None.ensures.alone t k (subst (λ (xs : List Pile). IsInTopic xs t k) pushed there)) [
+    elim (InTopic-pushed hand new c.args.place c.of.ensures.alone t k (subst (λ (xs : List Pile). IsInTopic xs t k) pushed there)) [
       | inl before ↦ inl before
-      | inr (of_topic, this) ↦ inr (of_topic ∙ c.in_ok-of-in-None.ensures.topic, this)
+      | inr (of_topic, this) ↦ inr (of_topic ∙ c.of.ensures.topic, this)
     ]
