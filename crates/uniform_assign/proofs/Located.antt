@@ -8,17 +8,19 @@ use Rattle.std.specs.Int.{FitsUnsignedBits}
 use Rattle.std.specs.Result.{OkIff, result_ok}
 use Rattle.std.specs.List.{flat_map, range_with_len, slice_get}
 use Rattle.std.proofs.lemmas.Bool.{cases_lt}
-use Rattle.std.proofs.lemmas.Option.{same_Some, slice_get_within}
+use Rattle.std.proofs.lemmas.Option.{get_or_from_slice_get, same_Some, slice_get_within}
 use Rattle.group_types.specs.declared.partition.Partition.{Partition}
 use Rattle.group_types.specs.Text.{Text, text_cmp}
-use Rattle.group_types.specs.Topics.{Topic}
-use Rattle.group_types.specs.Uniform.{partitions_of}
+use Rattle.group_types.specs.Topics.{Topic, Topics}
+use Rattle.group_types.specs.Uniform.{in_partition_order, partitions_of}
+use Rattle.topic_meta.proofs.Places.{get-at}
+use Rattle.range_assign.proofs.Dealt.{pos_inj}
 use Rattle.group_types.proofs.Orders.{text_cmp-IsAntisymmetric, text_cmp-itself}
 use Rattle.uniform_assign.specs.declared.board.Board.{Board}
 use Rattle.uniform_assign.specs.declared.board.Place.{Place}
 use Rattle.uniform_assign.specs.Boards.{IsBare}
 use Rattle.uniform_assign.specs.Former.{AreFirsts}
-use Rattle.uniform_assign.proofs.Boards.{part_at, parts_are_apart}
+use Rattle.uniform_assign.proofs.Boards.{as_many_places, part_at, parts_are_apart}
 use Rattle.uniform_assign.proofs.Lists.{range-at, range-from, slice_get-append_cases, slice_get-append_left, slice_get-map_at, slice_get-map_from, some_at}
 
 append-at : {X : Type 0} (xs ys : List X) (j : ℕ) (x : X) → slice_get ys j ≡ Some x → slice_get (xs ++ ys) (length xs + j) ≡ Some x
@@ -121,6 +123,73 @@ module _ (board : Board) (is : IsBare board) where
         behind = behind.behind;
         is_first = ap (get text_cmp firsts) (ap (λ (q : Partition). q.topic) (sym same) ∙ sym behind.topic) ∙ are behind.first behind.zeroth behind.is_zeroth behind.zero;
       }
+
+-- ---- what is behind a topic's first partition
+
+abbrev zeroth_part : Text × Partition → ℕ → Text × Partition
+zeroth_part x i = (x.0, record { topic = x.1.topic; index = pos i })
+
+-- behind the first partition of a topic stand its others
+record IsAhead (topics : List (Text × Topic)) (first i : ℕ) (x : Text × Partition) : Type 0 where
+  topic : Text × Topic
+  at : ℕ
+  is_topic : slice_get topics at ≡ Some topic
+  name : topic.0 ≡ x.0
+  ahead : i < topic.1.count → slice_get (flat_map partitions_of topics) (first + i) ≡ Some (zeroth_part x i)
+
+IsAhead-at : (topics : List (Text × Topic)) (first i : ℕ) (x : Text × Partition) → slice_get (flat_map partitions_of topics) first ≡ Some x → x.1.index ≡ pos 0 → IsAhead topics first i x
+IsAhead-at [] first i x is zero = cc
+IsAhead-at (t ∷ ts) first i x is zeroth = elim (slice_get-append_cases (partitions_of t) (flat_map partitions_of ts) first x is) [
+  | inl here ↦
+      let (n, is_n, same) = slice_get-map_from (part_of t) (range_with_len 0 t.1.count) first x here in
+      let (at, low) = range-from t.1.count first n is_n in
+      let none : n ≡ 0 = pos_inj n 0 (ap (λ (y : Text × Partition). y.1.index) same ∙ zeroth) in
+      record {
+        topic = t;
+        at = 0;
+        is_topic = refl;
+        name = ap (λ (y : Text × Partition). y.0) same;
+        ahead = λ few.
+            ap (slice_get (partitions_of t ++ flat_map partitions_of ts)) (let sum : first + i ≡ i = omega arith in sum)
+            ∙ slice_get-append_left (partitions_of t) (flat_map partitions_of ts) i (part_of t i) (slice_get-map_at (part_of t) (range_with_len 0 t.1.count) i i (range-at t.1.count i few))
+            ∙ ap (λ (y : Text × Partition). Some (zeroth_part y i)) same;
+      }
+  | inr (j, at, there) ↦
+      let later = IsAhead-at ts j i x there zeroth in
+      record {
+        topic = later.topic;
+        at = suc later.at;
+        is_topic = later.is_topic;
+        name = later.name;
+        ahead = λ few.
+            ap (slice_get (partitions_of t ++ flat_map partitions_of ts)) (let sum : first + i ≡ length (partitions_of t) + (j + i) = omega arith in sum)
+            ∙ append-at (partitions_of t) (flat_map partitions_of ts) (j + i) _ (later.ahead few);
+      }
+]
+
+-- a view has one topic of a name
+of_name : (view : Topics) (k : ℕ) (t : Text × Topic) → slice_get (finite.entries view) k ≡ Some t → finite.get view t.0 ≡ Some t.1
+of_name view k t is =
+    subst (λ (e : Text × Topic). finite.get view e.0 ≡ Some e.1) (get_or_from_slice_get (finite.entries view) k t t is) (get-at view k t (slice_get_within (finite.entries view) k t is))
+
+-- the same of a board's places
+pub place-ahead : (board : Board) → IsBare board → (first i : ℕ) (zeroth : Place) (t : Text × Topic) → slice_get board.places.items first ≡ Some zeroth → zeroth.partition.index ≡ pos 0
+    → slice_get (finite.entries board.view.now) zeroth.topic ≡ Some t → i < t.1.count
+    → (place : Place) × (slice_get board.places.items (first + i) ≡ Some place) × (place.partition ≡ record { topic = zeroth.partition.topic; index = pos i })
+place-ahead board is first i zeroth t is_zeroth zero is_t few =
+    let here = part_at board is first zeroth is_zeroth in
+    let it = IsAhead-at (finite.entries board.view.now) first i (here.topic.0, zeroth.partition) here.is_part zero in
+    let named : t ≡ here.topic = same_Some t here.topic (sym is_t ∙ here.is_topic) in
+    let one = of_name board.view.now it.at it.topic it.is_topic in
+    let other = of_name board.view.now zeroth.topic t is_t in
+    let same : it.topic.1 ≡ t.1 = same_Some it.topic.1 t.1 (sym one ∙ ap (finite.get board.view.now) (it.name ∙ sym (ap (λ (e : Text × Topic). e.0) named)) ∙ other) in
+    let counts = ap (λ (topic : Topic). topic.count) same in
+    let is_part = it.ahead (omega arith) in
+    let low = slice_get_within (in_partition_order board.view.now) (first + i) _ is_part in
+    let many = as_many_places board is in
+    let (place, is_place) = some_at board.places.items (first + i) (omega arith) in
+    let there = part_at board is (first + i) place is_place in
+    (place, is_place, ap (λ (y : Text × Partition). y.1) (same_Some (there.topic.0, place.partition) (zeroth_part (here.topic.0, zeroth.partition) i) (sym there.is_part ∙ is_part)))
 
 -- ---- the first places
 

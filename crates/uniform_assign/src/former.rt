@@ -1,6 +1,6 @@
 //! The former owners of the partitions, found by the partitions' places.
 
-ghost use Rattle.std.specs.Prelude.{◌≡◌, ◌≤◌, IfOk, IsSorted, length};
+ghost use Rattle.std.specs.Prelude.{◌≡◌, ◌≤◌, ◌+◌, IfOk, IfSome, IsSorted, Some, length};
 ghost use Rattle.std.specs.Bool.{OnTrue};
 ghost use Rattle.group_types.specs.Assignors.{IdsAreApart, member_cmp};
 ghost use Rattle.range_assign.specs.Members.{subscriber_of, subscribers_in};
@@ -89,11 +89,31 @@ impl Board<'_> {
         requires firsts { AreFirsts self.now.places.items firsts.now }
         ensures { IsPlaceOf self.now.places.items partition.now result }
     {
-        let at = first.saturating_add(index_of(partition));
-        if at < self.places.len() && self.places[at].partition == *partition {
-            return Some(at);
+        if let Some(index) = self.index_behind(partition, first) {
+            return Some(first + index);
         }
         self.place_of(firsts, partition)
+    }
+
+    /// The partition's index, if its topic's first partition is at `first` and the topic has a partition with that index. It looks at no other
+    /// place, since the former owners' partitions are all over the list.
+    fn index_behind(&self, partition: &Partition, first: usize) -> Option<usize>
+        requires { IsBare self.now }
+        ensures { IfSome result (λ index. IsPlaceOf self.now.places.items partition.now (Some (first + index))) }
+    {
+        if self.places.len() <= first {
+            return None;
+        }
+        let place = self.places[first];
+        if place.partition.index != 0 || place.partition.topic != partition.topic {
+            return None;
+        }
+        let index = usize::try_from(partition.index).ok()?;
+        if index < self.view.topics()[place.topic].count as usize {
+            Some(index)
+        } else {
+            None
+        }
     }
 
     /// Where the partition is in partition order.
