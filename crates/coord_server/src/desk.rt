@@ -6,6 +6,7 @@ ghost use Rattle.coord_shards.specs.Seat.{IsNewSeat};
 ghost use Rattle.coord_server.specs.Desks.{MayHaveCalled};
 ghost use Rattle.coord_server.specs.Rounds.{CallsEach, TellsEach};
 
+use crate::timed::Timed;
 use coord_node::Answered;
 use coord_shards::{Answer, Event, Gate, Image, Moment, Octets, Seat, ShardFault, Shards, Stamp};
 use link_futures::{Desk, Moments};
@@ -141,6 +142,20 @@ impl<'a, A: Ledger, C: Ledger, G: Gate, M: Moments, R: Wait> Desk
     /// Asks the gate.
     fn may_send(&self, stamp: Stamp) -> bool {
         self.shards.gate().may_reply(stamp)
+    }
+}
+
+impl<'a, A: Ledger, C: Ledger, G: Gate, M: Moments, R: Wait> Timed
+    for ShardsDesk<'a, A, C, G, M, R> {
+    ghost use Rattle.coord_shards.specs.declared.event.Event.TheVariants.{Tick};
+
+    ghost ticks = { λ d e. ((moment : ℕ) × M.hands d.moments moment e.moments
+        × CallsEach d.shards.now (λ shard. Tick shard moment) d.shards.now.shards d.seat e.seat)
+        × (e ≡ record d { seat = e.seat; moments = e.moments }) };
+
+    /// Ticks every shard.
+    fn tick(&mut self) {
+        self.tick_all();
     }
 }
 

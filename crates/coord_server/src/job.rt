@@ -3,52 +3,40 @@ ghost use Rattle.std.specs.Prelude.{◌≡◌};
 
 use crate::acceptor::Acceptor;
 use crate::arrivals::Arrivals;
-use crate::desk::ShardsDesk;
 use crate::expiry::Expiry;
-use coord_shards::Gate;
+use crate::timed::Timed;
 use futures::Future;
 use futures::channel::mpsc::{UnboundedReceiver, UnboundedSender};
 use futures::task::{Context, Poll};
-use link_futures::{Line, Moments, ReadPart, Worker, WriteParts};
+use link_futures::{Desk, Line, ReadPart, Worker, WriteParts};
 use std::alloc::Global;
-use std::sync::Wait;
-use std::sync::ledger::Ledger;
 
 /// A worker, and the sender by whose end the expiry worker hears that it has ended.
 #[derive(Drop)]
-pub struct Works<'a, A: Ledger, C: Ledger, G, M, R, I: Drop, O: Drop> {
-    worker: Worker<UnboundedReceiver<Line<I, O>>, ShardsDesk<'a, A, C, G, M, R>>,
+pub struct Works<D, I: Drop, O: Drop> {
+    worker: Worker<UnboundedReceiver<Line<I, O>>, D>,
     running: UnboundedSender<()>,
 }
 
 /// What a task of a server does.
 #[derive(Drop)]
-pub enum Job<'a, A: Ledger, C: Ledger, G, M, R, S, I: Drop, O: Drop> {
+pub enum Job<'a, D, S, I: Drop, O: Drop> {
     /// It takes connections.
     Accepts(Acceptor<'a, S, I, O>),
     /// It serves connections.
-    Works(Works<'a, A, C, G, M, R, I, O>),
+    Works(Works<D, I, O>),
     /// It lets the time of the shards go on.
-    Expires(Expiry<'a, A, C, G, M, R>),
+    Expires(Expiry<D>),
 }
 
-impl<'a, A: Ledger, C: Ledger, G: Gate, M: Moments, R: Wait, I: ReadPart, O: WriteParts> Works<
-    'a,
-    A,
-    C,
-    G,
-    M,
-    R,
-    I,
-    O,
-> {
+impl<D: Desk, I: ReadPart, O: WriteParts> Works<D, I, O> {
     /// A worker over the lines that arrive, and its desk.
     pub fn new(
         alloc: Global,
         arrivals: UnboundedReceiver<Line<I, O>>,
-        desk: ShardsDesk<'a, A, C, G, M, R>,
+        desk: D,
         running: UnboundedSender<()>,
-    ) -> Works<'a, A, C, G, M, R, I, O>
+    ) -> Works<D, I, O>
         ensures { result.running ≡ running }
     {
         Works {
@@ -58,8 +46,7 @@ impl<'a, A: Ledger, C: Ledger, G: Gate, M: Moments, R: Wait, I: ReadPart, O: Wri
     }
 }
 
-impl<'a, A: Ledger, C: Ledger, G: Gate, M: Moments, R: Wait, I: ReadPart, O: WriteParts> Future
-    for Works<'a, A, C, G, M, R, I, O> {
+impl<D: Desk, I: ReadPart, O: WriteParts> Future for Works<D, I, O> {
     type Output = ();
 
     /// Looks once for an arrival, and gives each line one turn.
@@ -74,17 +61,8 @@ impl<'a, A: Ledger, C: Ledger, G: Gate, M: Moments, R: Wait, I: ReadPart, O: Wri
     }
 }
 
-impl<
-    'a,
-    A: Ledger,
-    C: Ledger,
-    G: Gate,
-    M: Moments,
-    R: Wait,
-    S: Arrivals<I, O>,
-    I: ReadPart,
-    O: WriteParts,
-> Future for Job<'a, A, C, G, M, R, S, I, O> {
+impl<'a, D: Desk + Timed, S: Arrivals<I, O>, I: ReadPart, O: WriteParts> Future
+    for Job<'a, D, S, I, O> {
     type Output = ();
 
     fn poll(&mut self, cx: &mut Context<'_>) -> Poll<()> {

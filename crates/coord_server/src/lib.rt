@@ -15,6 +15,7 @@ mod fault;
 mod job;
 mod plan;
 mod server;
+mod timed;
 
 pub use acceptor::{Acceptor, worker_of};
 pub use arrivals::Arrivals;
@@ -28,3 +29,4 @@ pub use job::{Job, Works};
 pub use link_futures::Moments;
 pub use plan::Plan;
 pub use server::{serve, serve_sockets};
+pub use timed::Timed;

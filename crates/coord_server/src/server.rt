@@ -9,11 +9,12 @@ use crate::expiry::Expiry;
 use crate::fault::ServerFault;
 use crate::job::{Job, Works};
 use crate::plan::Plan;
+use crate::timed::Timed;
 use coord_shards::{Gate, Shards};
 use futures::channel::mpsc::{UnboundedReceiver, UnboundedSender, unbounded};
 use futures::stream;
-use link_futures::{Line, Moments, ReadPart, WriteParts};
-use std::alloc::AllocGlobal;
+use link_futures::{Desk, Line, Moments, ReadPart, WriteParts};
+use std::alloc::{AllocGlobal, Global};
 use std::net::{Net, TcpListener};
 use std::random::RandomSource;
 use std::sync::Wait;
@@ -22,6 +23,7 @@ use std::sync::ledger::Ledger;
 use std::thread::Threads;
 use std::time::{Clock, Duration};
 use tokio::runtime::{Handle, Runtime};
+use tokio::time::Interval;
 
 /// After how many milliseconds the time of the shards goes on.
 const TICK: u64 = 500;
@@ -67,119 +69,101 @@ where
     O: WriteParts + Send,
     requires { 0 < plan.workers }
 {
+    let desks = desks_of(rt, shards, moments, plan.workers)?;
+    let clock = match plan.expires {
+        true => Some((
+            ShardsDesk::new(rt, rt.alloc(), shards, moments.clone()?)?,
+            ticks_of(rt, runtime.handle())?,
+        )),
+        false => None,
+    };
     let told = AtomicU64::new(0);
     let jobs = jobs_of(
-        rt,
-        runtime.handle(),
-        shards,
+        rt.alloc(),
+        desks,
+        clock,
         connections,
-        moments,
-        plan,
+        plan.connections,
         &told,
     )?;
     runtime.run_all(rt, stream::iter(jobs))?;
     Ok(told.load(Ordering::SeqCst))
 }
 
-/// The tasks of a server: its workers, its expiry worker where the plan has one, and its acceptor.
-fn jobs_of<'a, A, C, G, M, R, S, I, O>(
-    rt: &'a R,
-    handle: &Handle,
-    shards: &'a Shards<A, C, G>,
-    connections: S,
-    moments: &M,
-    plan: Plan,
-    told: &'a AtomicU64,
-) -> Result<Vec<Job<'a, A, C, G, M, R, S, I, O>>, ServerFault>
-where
-    A: Ledger,
-    C: Ledger,
-    G: Gate,
-    M: Moments + Clone,
-    R: Wait + Clock + AllocGlobal,
-    S: Arrivals<I, O>,
-    I: ReadPart,
-    O: WriteParts,
-    requires { 0 < plan.workers }
-{
-    let mut jobs = Vec::new(rt.alloc());
-    let senders = add_workers(rt, handle, shards, moments, plan, &mut jobs)?;
-    let acceptor = Acceptor::new(rt.alloc(), connections, senders, plan.connections, told);
-    jobs.push(Job::Accepts(acceptor))?;
-    Ok(jobs)
-}
-
-/// Adds the tasks of the workers, and that of the expiry worker where the plan has one. Gives the senders of the workers' lines.
-fn add_workers<'a, A, C, G, M, R, S, I, O>(
-    rt: &'a R,
-    handle: &Handle,
-    shards: &'a Shards<A, C, G>,
-    moments: &M,
-    plan: Plan,
-    jobs: &mut Vec<Job<'a, A, C, G, M, R, S, I, O>>,
-) -> Result<Vec<UnboundedSender<Line<I, O>>>, ServerFault>
-where
-    A: Ledger,
-    C: Ledger,
-    G: Gate,
-    M: Moments + Clone,
-    R: Wait + Clock + AllocGlobal,
-    S: Arrivals<I, O>,
-    I: ReadPart,
-    O: WriteParts,
-    ensures { IfOk result (λ senders. vec_len senders ≡ plan.workers) }
-{
-    let (running, workers) = unbounded(rt.alloc())?;
-    let mut senders = Vec::new(rt.alloc());
-    for number in 0..plan.workers {
-        let (works, sender) = works_of(rt, shards, moments, &running)?;
-        jobs.push(Job::Works(works))?;
-        senders.push(sender)?;
-    }
-    if plan.expires {
-        jobs.push(Job::Expires(expiry_of(rt, handle, shards, moments, workers)?))?;
-    }
-    Ok(senders)
-}
-
-/// The task of a worker, and the sender of its lines.
-fn works_of<'a, A, C, G, M, R, I, O>(
+/// So many desks over shards, each with a seat of its own.
+fn desks_of<'a, A, C, G, M, R>(
     rt: &'a R,
     shards: &'a Shards<A, C, G>,
     moments: &M,
-    running: &UnboundedSender<()>,
-) -> Result<(Works<'a, A, C, G, M, R, I, O>, UnboundedSender<Line<I, O>>), ServerFault>
+    number: usize,
+) -> Result<Vec<ShardsDesk<'a, A, C, G, M, R>>, ServerFault>
 where
     A: Ledger,
     C: Ledger,
     G: Gate,
     M: Moments + Clone,
     R: Wait + AllocGlobal,
-    I: ReadPart,
-    O: WriteParts,
+    ensures { IfOk result (λ desks. vec_len desks ≡ number) }
 {
-    let desk = ShardsDesk::new(rt, rt.alloc(), shards, moments.clone()?)?;
-    let running = running.clone()?;
-    let (sender, arrivals) = unbounded(rt.alloc())?;
-    Ok((Works::new(rt.alloc(), arrivals, desk, running), sender))
+    let mut desks = Vec::new(rt.alloc());
+    for _ in 0..number {
+        desks.push(ShardsDesk::new(rt, rt.alloc(), shards, moments.clone()?)?)?;
+    }
+    Ok(desks)
 }
 
-/// The task of the expiry worker, which ends once no worker is left.
-fn expiry_of<'a, A, C, G, M, R>(
-    rt: &'a R,
-    handle: &Handle,
-    shards: &'a Shards<A, C, G>,
-    moments: &M,
-    workers: UnboundedReceiver<()>,
-) -> Result<Expiry<'a, A, C, G, M, R>, ServerFault>
+/// The instants at which the time of the shards goes on.
+fn ticks_of(clock: &impl Clock, handle: &Handle) -> Result<Interval, ServerFault> {
+    Ok(handle.time().interval(clock, Duration::from_millis(TICK))?)
+}
+
+/// The tasks of a server: a worker over each of the desks, its expiry worker where there is a desk with instants for one, and its acceptor.
+fn jobs_of<'a, D, S, I, O>(
+    alloc: Global,
+    desks: Vec<D>,
+    clock: Option<(D, Interval)>,
+    connections: S,
+    most: u64,
+    told: &'a AtomicU64,
+) -> Result<Vec<Job<'a, D, S, I, O>>, ServerFault>
 where
-    A: Ledger,
-    C: Ledger,
-    G: Gate,
-    M: Moments + Clone,
-    R: Wait + Clock + AllocGlobal,
+    D: Desk + Timed,
+    S: Arrivals<I, O>,
+    I: ReadPart,
+    O: WriteParts,
+    requires { 0 < vec_len desks }
 {
-    let desk = ShardsDesk::new(rt, rt.alloc(), shards, moments.clone()?)?;
-    let ticks = handle.time().interval(rt, Duration::from_millis(TICK))?;
-    Ok(Expiry::new(desk, ticks, workers))
+    let mut jobs = Vec::new(alloc);
+    let (running, workers) = unbounded(alloc)?;
+    let senders = add_workers(alloc, desks, &running, &mut jobs)?;
+    if let Some((desk, ticks)) = clock {
+        jobs.push(Job::Expires(Expiry::new(desk, ticks, workers)))?;
+    }
+    let acceptor = Acceptor::new(alloc, connections, senders, most, told);
+    jobs.push(Job::Accepts(acceptor))?;
+    Ok(jobs)
+}
+
+/// Adds a task for each worker, and gives the senders of their lines.
+fn add_workers<'a, D, S, I, O>(
+    alloc: Global,
+    desks: Vec<D>,
+    running: &UnboundedSender<()>,
+    jobs: &mut Vec<Job<'a, D, S, I, O>>,
+) -> Result<Vec<UnboundedSender<Line<I, O>>>, ServerFault>
+where
+    D: Desk,
+    S: Drop,
+    I: ReadPart,
+    O: WriteParts,
+    ensures { IfOk result (λ senders. vec_len senders ≡ vec_len desks) }
+{
+    let mut senders = Vec::new(alloc);
+    for desk in desks {
+        let (sender, arrivals) = unbounded(alloc)?;
+        let works = Works::new(alloc, arrivals, desk, running.clone()?);
+        jobs.push(Job::Works(works))?;
+        senders.push(sender)?;
+    }
+    Ok(senders)
 }

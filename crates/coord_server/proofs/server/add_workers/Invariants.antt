@@ -1,5 +1,5 @@
-use Rattle.std.proofs.Common.{◌≡◌, vec_len}
+use Rattle.std.proofs.Common.{◌≡◌, vec_len, length}
 use Rattle.coord_server.proofs.server.add_workers.Given as goal
 
-abbrev pub invariant-loop-number : goal.invariant-loop-number
-invariant-loop-number g l = vec_len l.senders ≡ l.number
+abbrev pub invariant-loop-desk : goal.invariant-loop-desk
+invariant-loop-desk g l = vec_len l.senders ≡ length l.yielded
