@@ -70,13 +70,7 @@ where
     requires { 0 < plan.workers }
 {
     let desks = desks_of(rt, shards, moments, plan.workers)?;
-    let clock = match plan.expires {
-        true => Some((
-            ShardsDesk::new(rt, rt.alloc(), shards, moments.clone()?)?,
-            ticks_of(rt, runtime.handle())?,
-        )),
-        false => None,
-    };
+    let clock = clock_of(rt, runtime.handle(), shards, moments, plan)?;
     let told = AtomicU64::new(0);
     let jobs = jobs_of(
         rt.alloc(),
@@ -112,9 +106,27 @@ where
     Ok(desks)
 }
 
-/// The instants at which the time of the shards goes on.
-fn ticks_of(clock: &impl Clock, handle: &Handle) -> Result<Interval, ServerFault> {
-    Ok(handle.time().interval(clock, Duration::from_millis(TICK))?)
+/// Where the plan has an expiry worker, its desk, and the instants at which it lets the time of the shards go on.
+fn clock_of<'a, A, C, G, M, R>(
+    rt: &'a R,
+    handle: &Handle,
+    shards: &'a Shards<A, C, G>,
+    moments: &M,
+    plan: Plan,
+) -> Result<Option<(ShardsDesk<'a, A, C, G, M, R>, Interval)>, ServerFault>
+where
+    A: Ledger,
+    C: Ledger,
+    G: Gate,
+    M: Moments + Clone,
+    R: Wait + Clock + AllocGlobal,
+{
+    if !plan.expires {
+        return Ok(None);
+    }
+    let ticks = handle.time().interval(rt, Duration::from_millis(TICK))?;
+    let desk = ShardsDesk::new(rt, rt.alloc(), shards, moments.clone()?)?;
+    Ok(Some((desk, ticks)))
 }
 
 /// The tasks of a server: a worker over each of the desks, its expiry worker where there is a desk with instants for one, and its acceptor.
