@@ -31,7 +31,7 @@ use Rattle.group_types.proofs.Lookups.{Tie, ties, differs, tie, get-inserted, ge
 use Rattle.group_types.proofs.Orders.{text_cmp_total, text_cmp-IsAntisymmetric, partition_cmp_total, partition_cmp-IsAntisymmetric}
 use Rattle.group_types.proofs.PastLemmas.{not_past}
 use Rattle.group_types.proofs.SetLemmas.{are_same-Decides, is_nothing-Decides, minus-itself, same_set}
-use Rattle.group_epochs.specs.Records.{GivesNothing, beaten}
+use Rattle.group_epochs.specs.Records.{GivesNothing, IsMarkedBeat, beaten}
 use Rattle.group_core.specs.Checks.{verdict_on_request}
 use Rattle.group_core.specs.Outcome.{IsCurrent}
 use Rattle.group_core.specs.Steady.{AreMarked, IsSteady, IsSteadyBeat, beaten_by}
@@ -254,31 +254,32 @@ steady_then g m r stamp now there n steady = by (tie n m)
 no_beat : (z : ℤ) → z ≡ pos 0 → pos 1 ≤ℤ z → ⊥
 no_beat z none low = omega (arith, ints)
 
-module _ (s : State) (sound : IsSound (group_of s)) (marks : AreMarked (group_of s) s.records.marks) (a : Arrival) (is : IsSteadyBeat s a.heartbeat a.stamp) where
+module _ (s : State) (sound : IsSound (group_of s)) (marks : AreMarked (group_of s) s.records.marks) (a : Arrival) (is : IsSteadyBeat s a.heartbeat)
+    (beat : IsMarkedBeat s.records a.heartbeat.member s.target.epoch a.stamp) where
   abbrev G : Group
   G = group_of s
 
   steady_is : IsSteady G a.heartbeat.member
-  steady_is = (marks a.heartbeat.member s.target.epoch is.marked.marked).1 refl
+  steady_is = (marks a.heartbeat.member s.target.epoch beat.marked).1 refl
 
-  same_record : steady_is.kept ≡ is.marked.kept
-  same_record = some_is steady_is.kept is.marked.kept (sym steady_is.is_kept ∙ is.marked.is_kept)
+  same_record : steady_is.kept ≡ beat.kept
+  same_record = some_is steady_is.kept beat.kept (sym steady_is.is_kept ∙ beat.is_kept)
 
   -- a steady beat is answered as the machine has it
   pub steady_answers : IsCurrent G a.image
-      → HeartbeatStep G a (Replied (acceptance a.heartbeat.member (record (beaten is.marked.kept a.stamp (max G.clock a.moment)) { epoch = At s.target.epoch }) None)) (beaten_by G a.heartbeat.member is.marked.kept a.stamp (max G.clock a.moment))
+      → HeartbeatStep G a (Replied (acceptance a.heartbeat.member (record (beaten beat.kept a.stamp (max G.clock a.moment)) { epoch = At s.target.epoch }) None)) (beaten_by G a.heartbeat.member beat.kept a.stamp (max G.clock a.moment))
   steady_answers current = by s.target.epoch refl
     where
       now : ℕ
       now = max G.clock a.moment
 
       by : (t : ℕ) → s.target.epoch ≡ t
-          → HeartbeatStep G a (Replied (acceptance a.heartbeat.member (record (beaten is.marked.kept a.stamp now) { epoch = At s.target.epoch }) None)) (beaten_by G a.heartbeat.member is.marked.kept a.stamp now)
-      by zero none = absurd (let low = is.beats in let at : a.heartbeat.epoch ≡ pos 0 = is.marked.number ∙ ap pos none in no_beat a.heartbeat.epoch at low)
+          → HeartbeatStep G a (Replied (acceptance a.heartbeat.member (record (beaten beat.kept a.stamp now) { epoch = At s.target.epoch }) None)) (beaten_by G a.heartbeat.member beat.kept a.stamp now)
+      by zero none = absurd (let low = is.beats in let at : a.heartbeat.epoch ≡ pos 0 = is.number ∙ ap pos none in no_beat a.heartbeat.epoch at low)
       by (suc n) same =
-          let step = steady_step G sound a steady_is is.gives n (is.marked.number ∙ ap pos same) same is.valid is.renewed
-          (ap (λ (r : Record). is_late a.stamp r.stamp) same_record ∙ is.marked.later) current in
-          let step_kept : HeartbeatStep G a (Replied (acceptance a.heartbeat.member (beaten is.marked.kept a.stamp now) None)) (beaten_by G a.heartbeat.member is.marked.kept a.stamp now) =
+          let step = steady_step G sound a steady_is is.gives n (is.number ∙ ap pos same) same is.valid is.renewed
+          (ap (λ (r : Record). is_late a.stamp r.stamp) same_record ∙ beat.later) current in
+          let step_kept : HeartbeatStep G a (Replied (acceptance a.heartbeat.member (beaten beat.kept a.stamp now) None)) (beaten_by G a.heartbeat.member beat.kept a.stamp now) =
           subst (λ (r : Record). HeartbeatStep G a (Replied (acceptance a.heartbeat.member (beaten r a.stamp now) None)) (beaten_by G a.heartbeat.member r a.stamp now)) same_record step in
-          subst (λ (e : Epoch). HeartbeatStep G a (Replied (acceptance a.heartbeat.member (record (beaten is.marked.kept a.stamp now) { epoch = e }) None)) (beaten_by G a.heartbeat.member is.marked.kept a.stamp now))
+          subst (λ (e : Epoch). HeartbeatStep G a (Replied (acceptance a.heartbeat.member (record (beaten beat.kept a.stamp now) { epoch = e }) None)) (beaten_by G a.heartbeat.member beat.kept a.stamp now))
           (ap (λ (r : Record). r.epoch) (sym same_record) ∙ steady_is.arrived) step_kept

@@ -1,12 +1,12 @@
 -- Members that have nothing to be told (ours): a beat that gives nothing finds them as they are.
-use Rattle.std.specs.Prelude.{◌≡◌, ◌≤◌, ℕ, ◌≤ℤ◌, pos, false, Some, None}
+use Rattle.std.specs.Prelude.{◌≡◌, ◌≤◌, ℕ, ◌≤ℤ◌, pos, Some, None}
 use Rattle.std.specs.FinMap as finite
 use Rattle.group_types.specs.declared.epoch.Epoch.TheVariants.{At}
 use Rattle.group_types.specs.declared.stamp.Stamp.{Stamp}
 use Rattle.group_types.specs.Text.{Text}
 use Rattle.group_types.specs.Request.{Heartbeat}
 use Rattle.group_types.specs.Group.{Record, Group, held, wanted}
-use Rattle.group_types.specs.Checks.{Accepted, is_late}
+use Rattle.group_types.specs.Checks.{Accepted}
 use Rattle.group_epochs.specs.Records.{GivesNothing, Marks, RecordsState, beaten}
 use Rattle.group_core.specs.Checks.{verdict_on_request}
 use Rattle.group_core.specs.declared.state.State.{State}
@@ -24,21 +24,14 @@ pub record IsSteady (g : Group) (m : Text) : Type 0 where
 abbrev pub AreMarked : Group → Marks → Type 0
 AreMarked g marks = (m : Text) (e : ℕ) → finite.get marks m ≡ Some e → (e ≤ g.target_epoch) × (e ≡ g.target_epoch → IsSteady g m)
 
--- the member is marked at the target's epoch, which the heartbeat names, and the stamp comes after its last one
-pub record IsMarkedBeat (s : State) (q : Heartbeat) (stamp : Stamp) : Type 0 where
-  pub kept : Record
-  pub is_kept : finite.get s.records.records q.member ≡ Some kept
-  pub marked : finite.get s.records.marks q.member ≡ Some s.target.epoch
-  pub number : q.epoch ≡ pos s.target.epoch
-  pub later : is_late stamp kept.stamp ≡ false
-
--- a beat of a marked member that gives nothing, in a group whose target is of its epoch
-pub record IsSteadyBeat (s : State) (q : Heartbeat) (stamp : Stamp) : Type 0 where
+-- a beat at the target's epoch that gives nothing, in a group whose target is of its epoch: what is known of a steady beat
+-- without its member's record
+pub record IsSteadyBeat (s : State) (q : Heartbeat) : Type 0 where
   pub gives : GivesNothing q
   pub beats : pos 1 ≤ℤ q.epoch
   pub valid : verdict_on_request q ≡ Accepted
   pub renewed : s.epoch ≡ s.target.epoch
-  pub marked : IsMarkedBeat s q stamp
+  pub number : q.epoch ≡ pos s.target.epoch
 
 -- the group after such a beat
 abbrev pub beaten_by : Group → Text → Record → Stamp → ℕ → Group

@@ -52,8 +52,10 @@ pub fn respond<'a>(
     ensures marks { AreMarked (group_of state.new) state.new.records.marks }
     ensures err { OnErr result (group_of state.new ≡ group_of state.old) }
 {
-    if is_current && is_steady_beat(state, request, stamp) {
-        return beat_steadily(state, request, stamp, moment, out);
+    if is_current && is_steady_beat(state, request) {
+        if let Some(outcome) = beat_steadily(state, request, stamp, moment, out)? {
+            return Ok(outcome);
+        }
     }
     let outcome = answer(state, alloc, request, stamp, moment, image, out)?;
     mark_replied(state, alloc, &outcome);

@@ -1,5 +1,5 @@
 //! A beat that gives nothing, of a member that has nothing to be told: no walk and no look at another member (ours).
-ghost use Rattle.std.specs.Prelude.{◌≡◌, ◌-◌, IfOk, OnErr, IsTrue, length, vec_capacity};
+ghost use Rattle.std.specs.Prelude.{◌≡◌, ◌-◌, IfNone, IfOk, IfSome, OnErr, IsTrue, length, vec_capacity};
 ghost use Rattle.group_types.specs.Sound.{IsSound};
 ghost use Rattle.group_types.specs.Topics.{Topics};
 ghost use Rattle.group_types.specs.HeartbeatStep.{HeartbeatStep};
@@ -8,7 +8,7 @@ ghost use Rattle.group_epochs.specs.Records.{GivesNothing};
 ghost use Rattle.group_epochs.specs.Request.{arrival_of, heartbeat_of};
 ghost use Rattle.group_core.specs.GroupView.{group_of};
 ghost use Rattle.group_core.specs.Outcome.{answer_of, HasFewPartitions, HasRoomFor, IsCurrent, IsCurrentAfter};
-ghost use Rattle.group_core.specs.Steady.{AreMarked, IsMarkedBeat, IsSteadyBeat};
+ghost use Rattle.group_core.specs.Steady.{AreMarked, IsSteadyBeat};
 
 use crate::checks;
 use crate::outcome::{Outcome, Reply};
@@ -19,17 +19,18 @@ use group_types::{Epoch, Moment, Stamp};
 use kip_msgs::HeartbeatRequest;
 use std::alloc::AllocError;
 
-/// Whether the heartbeat is a steady beat. Takes no memory, and one look-up.
-pub fn is_steady_beat(state: &State, request: &HeartbeatRequest<'_>, stamp: Stamp) -> bool
-    ensures { IsTrue result → IsSteadyBeat state.now (heartbeat_of (heartbeat_request_value request.now)) stamp }
+/// Whether the heartbeat is a steady beat, but for what its member's record says. Takes no memory, and no look-up.
+pub fn is_steady_beat(state: &State, request: &HeartbeatRequest<'_>) -> bool
+    ensures { IsTrue result → IsSteadyBeat state.now (heartbeat_of (heartbeat_request_value request.now)) }
 {
+    let epoch = state.target.epoch();
     if request.member_epoch < 1 || !gives_nothing(request) {
         return false;
     }
-    if state.epoch != state.target.epoch() || checks::refusal_of(request).is_some() {
+    if state.epoch != epoch || epoch.as_i32() != request.member_epoch {
         return false;
     }
-    is_marked(state, request, stamp)
+    checks::refusal_of(request).is_none()
 }
 
 /// Whether the heartbeat gives nothing for its member's record.
@@ -42,43 +43,39 @@ fn gives_nothing(request: &HeartbeatRequest<'_>) -> bool
         && request.rebalance_timeout_ms == -1
 }
 
-/// Whether the member is marked at the target's epoch, which is that of the heartbeat, and the stamp comes after its last one.
-fn is_marked(state: &State, request: &HeartbeatRequest<'_>, stamp: Stamp) -> bool
-    ensures { IsTrue result → IsMarkedBeat state.now (heartbeat_of (heartbeat_request_value request.now)) stamp }
-{
-    let Some((record, Some(mark))) = state.records.get_marked(request.member_id) else {
-        return false;
-    };
-    if mark != state.target.epoch() || mark.as_i32() != request.member_epoch {
-        return false;
-    }
-    stamp.is_above(record.stamp())
-}
-
-/// Answers a steady beat: its stamp and its time are stored. Takes no memory but room in `out`.
+/// Answers a steady beat whose member is marked at the target's epoch, where the stamp comes after its last one: the stamp and
+/// the time are stored. Has no answer for another beat, and the group is as it was. Takes no memory but room in `out`, and one look-up.
 pub fn beat_steadily<'a>(
     state: &mut State,
     request: &HeartbeatRequest<'a>,
     stamp: Stamp,
     moment: Moment,
     out: &mut Vec<u8>,
-) -> Result<Outcome<'a>, AllocError>
+) -> Result<Option<Outcome<'a>>, AllocError>
     requires sound { IsSound (group_of state.old) }
     requires marks { AreMarked (group_of state.old) state.old.records.marks }
-    requires steady { IsSteadyBeat state.old (heartbeat_of (heartbeat_request_value request.now)) stamp }
-    ensures step { (image : Topics) → IsCurrent (group_of state.old) image → IfOk result (λ outcome. HeartbeatStep (group_of state.old)
-        (arrival_of (heartbeat_request_value request.now) stamp moment image) (answer_of outcome) (group_of state.new)) }
-    ensures few { IfOk result (λ outcome. HasFewPartitions (answer_of outcome)) }
-    ensures current { (image : Topics) → IsCurrent (group_of state.old) image → IfOk result (λ outcome. IsCurrentAfter (answer_of outcome) (group_of state.new) image) }
-    ensures room { IfOk result (λ outcome. HasRoomFor (answer_of outcome) (vec_capacity out.new - length out.new.items)) }
+    requires steady { IsSteadyBeat state.old (heartbeat_of (heartbeat_request_value request.now)) }
+    ensures step { (image : Topics) → IsCurrent (group_of state.old) image → IfOk result (λ answer. IfSome answer (λ outcome. HeartbeatStep (group_of state.old)
+        (arrival_of (heartbeat_request_value request.now) stamp moment image) (answer_of outcome) (group_of state.new))) }
+    ensures few { IfOk result (λ answer. IfSome answer (λ outcome. HasFewPartitions (answer_of outcome))) }
+    ensures current { (image : Topics) → IsCurrent (group_of state.old) image
+        → IfOk result (λ answer. IfSome answer (λ outcome. IsCurrentAfter (answer_of outcome) (group_of state.new) image)) }
+    ensures room { IfOk result (λ answer. IfSome answer (λ outcome. HasRoomFor (answer_of outcome) (vec_capacity out.new - length out.new.items))) }
+    ensures none { IfOk result (λ answer. IfNone answer (state.new ≡ state.old)) }
     ensures out { out.new.items ≡ out.old.items }
     ensures marks { AreMarked (group_of state.new) state.new.records.marks }
-    ensures err { OnErr result (group_of state.new ≡ group_of state.old) }
+    ensures err { OnErr result (state.new ≡ state.old) }
 {
     make_room(out, request.member_id, &None)?;
     let now = state.clock.later(moment);
-    state.records.beat(request.member_id, stamp, now);
+    let epoch = state.target.epoch();
+    if !state
+        .records
+        .beat_marked(request.member_id, epoch, stamp, now)
+    {
+        return Ok(None);
+    }
     state.clock = now;
-    let epoch = Epoch::At(state.target.epoch());
-    Ok(Outcome::Replied(Reply::acceptance(ReplyId::named(request.member_id), epoch, None)))
+    let reply = Reply::acceptance(ReplyId::named(request.member_id), Epoch::At(epoch), None);
+    Ok(Some(Outcome::Replied(reply)))
 }

@@ -1,5 +1,5 @@
 -- The records of a group's members, and the former members that it remembers.
-use Rattle.std.specs.Prelude.{◌≡◌, ℕ, ◌<◌, ◌≤◌, Option, Some, None, MatchOption, IsTrue, refl}
+use Rattle.std.specs.Prelude.{◌≡◌, ℕ, ◌<◌, ◌≤◌, Option, Some, None, MatchOption, IsTrue, false, refl}
 use Rattle.std.specs.Coded.{Coded, code_by, coded×, coded_ℕ}
 use Rattle.std.specs.FinMap as finite
 use Rattle.group_types.specs.declared.stamp.Stamp.{Stamp}
@@ -10,6 +10,7 @@ use Rattle.group_types.specs.Sets.{size}
 use Rattle.group_types.specs.Topics.{Names}
 use Rattle.group_types.specs.Group.{Record, Records, Past}
 use Rattle.group_types.specs.Members.{Members, HasInstance}
+use Rattle.group_types.specs.Checks.{is_late}
 use Rattle.group_types.specs.Request.{Heartbeat, SAME_TIMEOUT}
 use Rattle.group_epochs.specs.Stored.{text_code, record_code, past_code, names_code}
 
@@ -86,3 +87,10 @@ pub record GivesNothing (q : Heartbeat) : Type 0 where
 -- the record of a member after such a beat
 abbrev pub beaten : Record → Stamp → ℕ → Record
 beaten r stamp now = record r { stamp = stamp; session_deadline = saturated_sum now SESSION_TIMEOUT }
+
+-- the member is marked at the epoch, and the stamp comes after its last one
+pub record IsMarkedBeat (s : RecordsState) (m : Text) (epoch : ℕ) (stamp : Stamp) : Type 0 where
+  pub kept : Record
+  pub is_kept : finite.get s.records m ≡ Some kept
+  pub marked : finite.get s.marks m ≡ Some epoch
+  pub later : is_late stamp kept.stamp ≡ false

@@ -18,6 +18,7 @@ use Rattle.group_types.specs.Text.{Text, text_cmp}
 use Rattle.group_types.specs.Assignors.{Subscriber, instance_cmp}
 use Rattle.group_types.specs.Group.{Record, Records}
 use Rattle.group_types.specs.Members.{past_stamp}
+use Rattle.group_types.specs.Checks.{is_late}
 use Rattle.group_epochs.specs.Past.{PastState, HasRoomFor, places}
 use Rattle.group_epochs.specs.Records.{Marks, RecordsState, beaten}
 use Rattle.group_epochs.specs.Seen.{seen_as}
@@ -216,6 +217,10 @@ with_record_kept r e = record e { kept = r; mark = None }
 
 abbrev pub with_beat : Stamp → ℕ → Entry → Entry
 with_beat stamp now e = record e { kept = beaten e.kept stamp now }
+
+-- the member is marked at the epoch, and the stamp comes after its last one
+abbrev pub IsMarkedBefore : ℕ → Stamp → Entry → Type 0
+IsMarkedBefore epoch stamp e = (e.mark ≡ Some epoch) × (is_late stamp e.kept.stamp ≡ false)
 
 abbrev pub marked_at : ℕ → Entry → Entry
 marked_at epoch e = record e { mark = Some epoch }

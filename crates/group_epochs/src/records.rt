@@ -1,6 +1,6 @@
 //! The records of a group's members.
 
-ghost use Rattle.std.specs.Prelude.{◌≡◌, ◌≢◌, ◌<◌, ◌≤◌, [], IsTrue, IsSome, IfOk, OnOk, MatchOption, Some, None};
+ghost use Rattle.std.specs.Prelude.{◌≡◌, ◌↔◌, ◌≢◌, ◌<◌, ◌≤◌, [], false, IsTrue, IsSome, IfOk, OnOk, MatchOption, Some, None};
 ghost use Rattle.std.specs.Option.{option_copied, option_map};
 ghost use Rattle.group_types.specs.Tick.{NoneIsDue};
 ghost use Rattle.group_epochs.specs.Table.{IsFirstRank, NoneIsDueBefore, member_at};
@@ -11,7 +11,7 @@ ghost use Rattle.group_types.specs.Group.{Record as Kept};
 ghost use Rattle.group_types.specs.Members.{HasInstance, is_remembered, past_stamp, taken_over, with_record, without_record};
 ghost use Rattle.group_types.specs.Leave.{away};
 ghost use Rattle.group_types.specs.Renewal.{AreMembers, view_for};
-ghost use Rattle.group_epochs.specs.Records.{CanJoin, CanReplace, IsInstanceFreeFor, IsMember, KeepsNames, beaten, members_in};
+ghost use Rattle.group_epochs.specs.Records.{CanJoin, CanReplace, IsInstanceFreeFor, IsMarkedBeat, IsMember, KeepsNames, beaten, members_in};
 
 use crate::counts::{Counts, add_counted, count_down, count_up};
 use crate::deadlines::{earlier, first_of_all};
@@ -21,7 +21,7 @@ use crate::order::{around, with_instance};
 use crate::past::Past;
 use crate::record::Record;
 use crate::subscribers::add_others;
-use crate::table::{add, beat, first_due, go_away, mark, put, take_out, take_out_at};
+use crate::table::{add, beat_marked, first_due, go_away, mark, put, take_out, take_out_at};
 use group_types::limits::SESSION_TIMEOUT;
 use group_types::{EpochNumber, MemberId, Moment, NameSet, Stamp};
 use indexmap::IndexMap;
@@ -117,18 +117,6 @@ impl Records {
     {
         match self.members.get(id) {
             Some(entry) => Some(&entry.kept),
-            None => None,
-        }
-    }
-
-    /// The record of a member, and its mark: the epoch of the target at which it was found settled, if any. Takes no memory, and
-    /// no walk over the members.
-    pub fn get_marked(&self, id: &str) -> Option<(&Record, Option<EpochNumber>)>
-        ensures { MatchOption result (finite.get self.now.records id.now ≡ None)
-            (λ found. (finite.get self.now.records id.now ≡ Some found.0.now) × (found.1 ≡ finite.get self.now.marks id.now)) }
-    {
-        match self.members.get(id) {
-            Some(entry) => Some((&entry.kept, entry.mark)),
             None => None,
         }
     }
@@ -285,17 +273,22 @@ impl Records {
         }
     }
 
-    /// Stores the stamp and the time of a heartbeat that gives nothing else. Takes no memory, and no walk over the members.
-    pub fn beat(&mut self, id: &str, stamp: Stamp, now: Moment)
-        requires { IsMember self.old id.now }
-        ensures records { (r : Kept) → finite.get self.old.records id.now ≡ Some r
+    /// Stores the stamp and the time of a heartbeat that gives nothing else, where the member is marked at the epoch and the stamp
+    /// comes after its last one. Says whether it did; if not, nothing has changed. Takes no memory, and no walk over the members.
+    pub fn beat_marked(&mut self, id: &str, epoch: EpochNumber, stamp: Stamp, now: Moment) -> bool
+        ensures marked { IsTrue result ↔ IsMarkedBeat self.old id.now epoch stamp }
+        ensures records { (r : Kept) → IsTrue result → finite.get self.old.records id.now ≡ Some r
             → self.new.records ≡ finite.insert self.old.records id.now (beaten r stamp now) }
         ensures past { self.new.past ≡ self.old.past }
         ensures marks { self.new.marks ≡ self.old.marks }
         ensures room { self.new.room ≡ self.old.room }
+        ensures no { result ≡ false → self.new ≡ self.old }
     {
+        if !beat_marked(&mut self.members, id, epoch, stamp, now) {
+            return false;
+        }
         self.earliest = earlier(self.earliest, now.plus(SESSION_TIMEOUT));
-        beat(&mut self.members, id, stamp, now);
+        true
     }
 
     /// Marks a member as settled at this epoch of the target. Takes no memory.

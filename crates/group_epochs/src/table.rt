@@ -1,12 +1,12 @@
 //! The members of a group by their ids' texts: what the records do to them.
 
-ghost use Rattle.std.specs.Prelude.{Ok, ◌≡◌, ◌<◌, ◌≤◌, ◌-◌, ℕ, length, false, true, slice_get, MatchOption, None, Some, IsSome, map, string_bytes};
+ghost use Rattle.std.specs.Prelude.{Ok, ◌≡◌, ◌↔◌, ◌<◌, ◌≤◌, ◌-◌, ℕ, length, false, true, slice_get, MatchOption, None, Some, IsSome, IsTrue, map, string_bytes};
 ghost use Rattle.group_types.specs.Text.{Text, text_cmp};
 ghost use Rattle.std.specs.String.{string_eq};
 ghost use Rattle.std.specs.VecDeque.{deque_capacity, deque_len};
 ghost use Rattle.indexmap.specs.IndexMap.{IsUnique, get, get_by_text, index_map_len, spare};
 ghost use Rattle.group_epochs.specs.declared.entry.Entry.{Entry as Stored};
-ghost use Rattle.group_epochs.specs.Table.{Adds, IsIdOrder, IsMemberOrder, IsRank, Rewrites, TakesOut, is_due_at, is_row_due, marked_at, with_away, with_beat, with_record_kept, renumbered, text_at, texts_in};
+ghost use Rattle.group_epochs.specs.Table.{Adds, IsIdOrder, IsMarkedBefore, IsMemberOrder, IsRank, Rewrites, TakesOut, is_due_at, is_row_due, marked_at, with_away, with_beat, with_record_kept, renumbered, text_at, texts_in};
 
 use crate::entry::{Entry, Table};
 use crate::order::{add_place, drop_place, guessed_rank, move_place};
@@ -73,15 +73,28 @@ pub fn put(
     mem::replace(&mut entry.kept, record)
 }
 
-/// Stores the stamp and the time of a heartbeat that gives nothing else. Takes no memory.
-pub fn beat(members: &mut Table, id: &str, stamp: Stamp, now: Moment)
-    requires { IsSome (get_by_text members.old id.now) }
-    ensures { Rewrites members.old members.new id.now (with_beat stamp now) }
+/// Stores the stamp and the time of a heartbeat that gives nothing else, where the member is marked at the epoch and the stamp
+/// comes after its last one. Says whether it did; if not, nothing has changed. Takes no memory, and one look-up.
+pub fn beat_marked(
+    members: &mut Table,
+    id: &str,
+    epoch: EpochNumber,
+    stamp: Stamp,
+    now: Moment,
+) -> bool
+    ensures there { IsTrue result → IsSome (get_by_text members.old id.now) }
+    ensures marked { (e : Stored) → get_by_text members.old id.now ≡ Some e → (IsTrue result ↔ IsMarkedBefore epoch stamp e) }
+    ensures yes { IsTrue result → Rewrites members.old members.new id.now (with_beat stamp now) }
+    ensures no { result ≡ false → members.new ≡ members.old }
 {
     let Some(entry) = members.get_mut(id) else {
-        unreachable!()
+        return false;
     };
+    if entry.mark != Some(epoch) || !stamp.is_above(entry.kept.stamp()) {
+        return false;
+    }
     entry.kept.beat(stamp, now);
+    true
 }
 
 /// Marks a member as settled at this epoch of the target. Takes no memory.
