@@ -1,10 +1,10 @@
 //! A beat that gives nothing, of a member that has nothing to be told: no walk and no look at another member (ours).
-ghost use Rattle.std.specs.Prelude.{◌≡◌, ◌-◌, IfNone, IfOk, IfSome, OnErr, IsTrue, length, vec_capacity};
+ghost use Rattle.std.specs.Prelude.{◌≡◌, ◌-◌, IfNone, IfOk, IfSome, IsSome, OnErr, IsTrue, length, vec_capacity};
 ghost use Rattle.group_types.specs.Sound.{IsSound};
 ghost use Rattle.group_types.specs.Topics.{Topics};
 ghost use Rattle.group_types.specs.HeartbeatStep.{HeartbeatStep};
 ghost use Rattle.kip_msgs.specs.Views.{heartbeat_request_value};
-ghost use Rattle.group_epochs.specs.Records.{GivesNothing};
+ghost use Rattle.group_epochs.specs.Records.{GivesNothing, IsMarkedBeat};
 ghost use Rattle.group_epochs.specs.Request.{arrival_of, heartbeat_of};
 ghost use Rattle.group_core.specs.GroupView.{group_of};
 ghost use Rattle.group_core.specs.Outcome.{answer_of, HasFewPartitions, HasRoomFor, IsCurrent, IsCurrentAfter};
@@ -61,6 +61,7 @@ pub fn beat_steadily<'a>(
     ensures current { (image : Topics) → IsCurrent (group_of state.old) image
         → IfOk result (λ answer. IfSome answer (λ outcome. IsCurrentAfter (answer_of outcome) (group_of state.new) image)) }
     ensures room { IfOk result (λ answer. IfSome answer (λ outcome. HasRoomFor (answer_of outcome) (vec_capacity out.new - length out.new.items))) }
+    ensures some { IsMarkedBeat state.old.records request.now.member_id.now state.old.target.epoch stamp → IfOk result (λ answer. IsSome answer) }
     ensures none { IfOk result (λ answer. IfNone answer (state.new ≡ state.old)) }
     ensures out { out.new.items ≡ out.old.items }
     ensures marks { AreMarked (group_of state.new) state.new.records.marks }

@@ -14,6 +14,10 @@ use Rattle.group_core.proofs.SteadyBeats.{steady_answers, steady_then}
 use Rattle.group_core.proofs.Views.{view_for-insert}
 use Rattle.group_core.proofs.steady.beat_steadily.Goals as goal
 
+pub returns-then-not-beat_marked-clause-some : goal.returns-then-not-beat_marked-clause-some
+returns-then-not-beat_marked-clause-some c = λ beat.
+    c.if-not-beat_marked.ensures.marked.1 (subst (λ t. IsMarkedBeat c.args.state.now.records c.args.request.now.member_id.now t c.args.stamp) (sym c.epoch-epoch.ensures) beat)
+
 pub returns-then-not-beat_marked-clause-marks : goal.returns-then-not-beat_marked-clause-marks
 returns-then-not-beat_marked-clause-marks c =
     let s = c.args.state.now in
