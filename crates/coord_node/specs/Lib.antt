@@ -8,3 +8,4 @@ pub mod NodeView
 pub mod Answers
 pub mod Absent
 pub mod Events
+pub mod Parsed

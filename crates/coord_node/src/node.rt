@@ -15,6 +15,7 @@ use crate::absent::reply_of_absent;
 use crate::admission::admit;
 use crate::event::Answered;
 use crate::kept::Kept;
+use crate::parsed::ParsedBody;
 use crate::tick::tick_all;
 use crate::{commit_frame, heartbeat_frame};
 use group_core::{Group, Outcome};
@@ -131,6 +132,29 @@ impl Node {
             Ok(request) => self.request(alloc, &request, body.len(), stamp, now, out),
             Err(MsgFault::NoMemory) => Err(AllocError),
             Err(_) => Ok(Answered::Closes),
+        }
+    }
+
+    /// Answers a body that was read before, as [`Node::answer`] does: its bytes aren't read once more.
+    pub fn answer_parsed(
+        &mut self,
+        alloc: Global,
+        parsed: &ParsedBody<'_>,
+        stamp: Stamp,
+        now: Moment,
+        out: &mut Vec<u8>,
+    ) -> Result<Answered, AllocError>
+        ensures step { IfOk result (λ answered.
+            Answers self.old (Frame parsed.now stamp now) answered self.new out.old.items out.new.items) }
+        ensures err { OnErr result ((self.new ≡ self.old) × (out.new.items ≡ out.old.items)) }
+    {
+        let size = parsed.bytes().len();
+        if size < SMALLEST_BODY || LARGEST_BODY < size {
+            return Ok(Answered::Closes);
+        }
+        match parsed.request() {
+            Some(request) => self.request(alloc, request, size, stamp, now, out),
+            None => Ok(Answered::Closes),
         }
     }
 

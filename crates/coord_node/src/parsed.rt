@@ -1,0 +1,79 @@
+//! A frame's body that has been read.
+ghost use Rattle.std.specs.Prelude.{◌≡◌, IfOk, length};
+ghost use Rattle.std.specs.Option.{option_copied};
+ghost use Rattle.coord_node.specs.Parsed.{IsGroupOf};
+
+use kip_msgs::{MsgFault, Request, read_request};
+use std::alloc::{AllocError, Global};
+use std::marker::Model;
+
+/// A frame's body that has been read, with the request that it is, if any. Callers see its bytes.
+///
+/// Who has to know the group of a frame before the frame is answered reads the body once, and has the same request answered.
+#[derive(Drop)]
+pub struct ParsedBody<'a> {
+    bytes: &'a [u8],
+    /// None where the bytes are no request.
+    request: Option<Request<'a>>,
+}
+
+impl<'a> Model for ParsedBody<'a> {
+    ghost use Rattle.std.specs.Prelude.{ℕ, List};
+    ghost use Rattle.std.specs.Option.{option_map};
+    ghost use Rattle.kip_msgs.specs.Views.{request_value};
+    ghost use Rattle.coord_node.specs.Parsed.{IsRequestOf};
+
+    ghost Value = { List ℕ };
+
+    ghost view = { λ p. p.bytes.now };
+
+    ghost invariant = { λ p. IsRequestOf p.bytes.now (option_map request_value p.request) };
+}
+
+impl<'a> ParsedBody<'a> {
+    ghost use Rattle.std.specs.Option.{option_map};
+    ghost use Rattle.kip_msgs.specs.Views.{request_value};
+    ghost use Rattle.coord_node.specs.Parsed.{IsRequestOf};
+
+    /// Reads a body. Its texts are lent and not copied. Fails where memory is too short to read it.
+    pub fn of(alloc: Global, body: &'a [u8]) -> Result<ParsedBody<'a>, AllocError>
+        ensures { IfOk result (λ parsed. parsed ≡ body.now) }
+    {
+        match read_request(alloc, body) {
+            Ok(request) => Ok(ParsedBody {
+                bytes: body,
+                request: Some(request),
+            }),
+            Err(MsgFault::NoMemory) => Err(AllocError),
+            Err(_) => Ok(ParsedBody {
+                bytes: body,
+                request: None,
+            }),
+        }
+    }
+
+    /// The bytes.
+    pub fn bytes(&self) -> &'a [u8]
+        ensures { result.now ≡ self.now }
+    {
+        self.bytes
+    }
+
+    /// The request, where the bytes are one.
+    pub(crate) fn request(&self) -> Option<&Request<'a>>
+        ensures { IsRequestOf self.now (option_map request_value (option_copied result)) }
+    {
+        self.request.as_ref()
+    }
+
+    /// The id of the group that the request is for, where the bytes are a request.
+    pub fn group(&self) -> Option<&'a str>
+        ensures { IsGroupOf self.now (option_copied result) }
+    {
+        match &self.request {
+            Some(Request::Heartbeat(_, message)) => Some(message.group_id),
+            Some(Request::Commit(_, message)) => Some(message.group_id),
+            None => None,
+        }
+    }
+}
