@@ -69,6 +69,10 @@ kept-push : (b : Bool) (entries : List Entry) (e : Entry) → cond b (cond b [] 
 kept-push true entries e = refl
 kept-push false entries e = refl
 
+-- a journal that keeps none stays as it is
+pub kept-none : {X : Type 0} (cap : ℕ) (kept : List X) (x : X) → cap ≡ 0 → kept ≡ kept_with cap kept x
+kept-none cap kept x none = rw none refl
+
 few-push : (cap : ℕ) (kept : List Entry) (e : Entry) (b : Bool) → (cap == 0) ≡ b → length kept ≤ cap → (0 < cap → length kept < cap)
     → length (cond b kept (kept ++ e ∷ [])) ≤ cap
 few-push cap kept e true is few room = few

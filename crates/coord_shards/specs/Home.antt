@@ -1,14 +1,10 @@
 -- The home of an event: the number of the one shard, of so many, that it is for (ours).
 use Rattle.std.specs.Prelude.{◌≡◌, ◌⊎◌, ◌%◌, ℕ, List, sum, nat_lt, if◌then◌else◌}
-use Rattle.kip_msgs.specs.Values.{RequestValue, heartbeat_request, commit_request}
+use Rattle.kip_msgs.specs.Values.{RequestValue}
 use Rattle.kip_msgs.specs.Spelling.{SpellsRequest}
+use Rattle.coord_node.specs.Parsed.{group_named}
 use Rattle.coord_shards.specs.declared.event.Event.{Event}
 use Rattle.coord_shards.specs.declared.event.Event.TheVariants.{Frame, Tick, Image}
-
--- the group that a request is for
-abbrev pub group_named : RequestValue → List ℕ
-group_named (heartbeat_request header v) = v.group_id
-group_named (commit_request header v) = v.group_id
 
 -- a group's shard: the sum of its id's bytes, modulo the number of shards
 abbrev pub shard_of_group : ℕ → List ℕ → ℕ

@@ -12,3 +12,4 @@ pub mod Faults
 pub mod Seat
 pub mod Calls
 pub mod Close
+pub mod Incoming

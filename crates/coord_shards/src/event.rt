@@ -2,6 +2,7 @@
 ghost use Rattle.std.specs.Prelude.{◌≡◌, ◌↔◌, IfOk, IsTrue};
 
 use crate::octets::Octets;
+use coord_node::ParsedBody;
 use group_types::{Moment, Stamp};
 use std::alloc::{AllocError, Global};
 use topic_meta::Image;
@@ -52,6 +53,23 @@ impl Answer {
 }
 
 impl Event {
+    /// The event that a frame is, by its body, which was read and is copied. Fails where memory is short.
+    pub(crate) fn of_frame(
+        alloc: Global,
+        parsed: &ParsedBody<'_>,
+        stamp: Stamp,
+        moment: Moment,
+    ) -> Result<Event, AllocError>
+        ensures { IfOk result (λ event. event ≡ Event.Frame parsed.now stamp moment) }
+    {
+        let body = Octets::of(Vec::from_slice(alloc, parsed.bytes())?);
+        Ok(Event::Frame {
+            body,
+            stamp,
+            moment,
+        })
+    }
+
     /// An equal event. Fails where memory is short.
     pub fn copy(&self, alloc: Global) -> Result<Event, AllocError>
         ensures { IfOk result (λ event. event ≡ self.now) }

@@ -2,12 +2,14 @@
 ghost use Rattle.std.specs.Prelude.{◌≡◌, ◌+◌, ◌<◌, ◌≤◌, ◌^◌, sum};
 ghost use Rattle.coord_shards.specs.declared.limits.TheConstants.{MOST_SHARDS};
 ghost use Rattle.coord_shards.specs.Home.{IsHome};
+ghost use Rattle.coord_shards.specs.Incoming.{event_of};
 ghost use Rattle.coord_shards.specs.Seat.{calls_of};
 ghost use Rattle.coord_shards.specs.Steps.{ShardStep};
 ghost use Rattle.coord_shards.specs.Calls.{SeatRises};
 
 use crate::books::Books;
-use crate::event::{Answer, Event};
+use crate::event::Answer;
+use crate::incoming::Incoming;
 use crate::seat::Seat;
 use crate::shard::Shard;
 use std::alloc::Global;
@@ -24,24 +26,24 @@ pub(crate) struct Held<A: Ledger> {
 }
 
 impl<A: Ledger> Held<A> {
-    /// The shard takes an event of its own from a seat. Unless it is refused, it is entered for both.
+    /// The shard takes what is its own from a seat. Unless it is refused, it is entered for both.
     pub(crate) fn take<C: Ledger, R: Wait>(
         &mut self,
         rt: &R,
         alloc: Global,
         books: &Mutex<Books<A, C>>,
         seat: &mut Seat<C>,
-        event: Event,
+        incoming: Incoming<'_, '_>,
     ) -> Answer
-        requires home { IsHome self.old.shard.shards event self.old.shard.number }
+        requires home { IsHome self.old.shard.shards (event_of incoming) self.old.shard.number }
         requires few { self.old.shard.shards ≤ MOST_SHARDS }
         requires fits { calls_of seat.old + 1 < 2 ^ 64 }
-        ensures step { ShardStep self.old.shard (record { seat = seat.old.number; event = event }) result self.new.shard }
+        ensures step { ShardStep self.old.shard (record { seat = seat.old.number; event = event_of incoming.entry }) result self.new.shard }
         ensures seat { SeatRises seat.old self.old.shard.number result seat.new }
     {
         let number = self.shard.number();
         let Held { shard, share } = self;
-        let answer = shard.step(alloc, seat.number(), event);
+        let answer = shard.take(alloc, seat.number(), incoming);
         if !answer.is_refused() {
             seat.enter(rt, books, share, number);
         }

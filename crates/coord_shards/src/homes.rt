@@ -1,10 +1,9 @@
 //! The shard that an event is for.
-ghost use Rattle.std.specs.Prelude.{◌≡◌, ◌+◌, ◌%◌, ◌<◌, IfOk};
-ghost use Rattle.kip_msgs.specs.Views.{request_value};
-ghost use Rattle.coord_shards.specs.Home.{IsHome, group_named, shard_of_group, shard_numbered};
+ghost use Rattle.std.specs.Prelude.{◌≡◌, ℕ, ◌+◌, ◌%◌, ◌<◌, IfOk};
+ghost use Rattle.coord_shards.specs.Home.{IsHome, shard_of_group, shard_numbered};
 
 use crate::event::Event;
-use kip_msgs::{MsgFault, Request, read_request};
+use coord_node::{ParsedBody, Stamp};
 use std::alloc::{AllocError, Global};
 
 /// The number of the shard that an event is for, of so many shards.
@@ -17,24 +16,25 @@ pub fn home(alloc: Global, event: &Event, shards: usize) -> Result<usize, AllocE
     ensures there { IfOk result (λ number. number < shards) }
 {
     match event {
-        Event::Frame { body, .. } => match read_request(alloc, body.as_slice()) {
-            Ok(request) => Ok(shard_of_group(group_of(&request), shards)),
-            Err(MsgFault::NoMemory) => Err(AllocError),
-            Err(_) => Ok(0),
-        },
+        Event::Frame { body, .. } => {
+            let parsed = ParsedBody::of(alloc, body.as_slice())?;
+            Ok(home_of_frame(&parsed, shards))
+        }
         Event::Tick { shard, .. } | Event::Image { shard, .. } => Ok(shard_numbered(
             *shard, shards,
         )),
     }
 }
 
-/// The group that a request is for.
-fn group_of<'a>(request: &Request<'a>) -> &'a str
-    ensures { result.now ≡ group_named (request_value request.now) }
+/// The number of the shard that a frame is for, of so many, by its body, which was read.
+pub(crate) fn home_of_frame(parsed: &ParsedBody<'_>, shards: usize) -> usize
+    requires { 0 < shards }
+    ensures home { (stamp : Stamp) (moment : ℕ) → IsHome shards (Event.Frame parsed.now stamp moment) result }
+    ensures there { result < shards }
 {
-    match request {
-        Request::Heartbeat(_, message) => message.group_id,
-        Request::Commit(_, message) => message.group_id,
+    match parsed.group() {
+        Some(group) => shard_of_group(group, shards),
+        None => 0,
     }
 }
 

@@ -1,6 +1,7 @@
 //! A node with its journal.
 ghost use Rattle.std.specs.Prelude.{◌≡◌, ◌↔◌, ℕ, ◌<◌, ◌≤◌, ◌-◌, ◌^◌, IfOk, OnErr, IsTrue, vec_len, vec_capacity, slice_index};
 ghost use Rattle.coord_shards.specs.Home.{IsHome};
+ghost use Rattle.coord_shards.specs.Incoming.{event_of};
 ghost use Rattle.coord_shards.specs.Shard.{kept_with};
 ghost use Rattle.coord_shards.specs.Replay.{Replay};
 ghost use Rattle.coord_shards.specs.Steps.{IsOpening, IsFull, NodeActs, ShardStep};
@@ -8,10 +9,11 @@ ghost use Rattle.coord_shards.specs.Steps.{IsOpening, IsFull, NodeActs, ShardSte
 use crate::counts::no_counts;
 use crate::entry::Entry;
 use crate::event::{Answer, Event};
+use crate::incoming::Incoming;
 use crate::limits::MOST_SEATS;
 use crate::octets::Octets;
 use crate::plan::Plan;
-use coord_node::{Answered, Node};
+use coord_node::{Answered, Moment, Node, ParsedBody, Stamp};
 use std::alloc::{AllocError, Global};
 use std::marker::Model;
 
@@ -129,6 +131,50 @@ impl Shard {
         answer
     }
 
+    /// Takes what is of this shard from a seat, as [`Shard::step`] takes an event.
+    pub(crate) fn take(&mut self, alloc: Global, seat: usize, incoming: Incoming<'_, '_>) -> Answer
+        requires seat { seat < MOST_SEATS }
+        requires home { IsHome self.old.shards (event_of incoming) self.old.number }
+        ensures step { ShardStep self.old (record { seat = seat; event = event_of incoming.entry }) result self.new }
+    {
+        match incoming {
+            Incoming::Event(event) => self.step(alloc, seat, event),
+            Incoming::Frame(parsed, stamp, moment) => {
+                self.step_frame(alloc, seat, parsed, stamp, moment)
+            }
+        }
+    }
+
+    /// Takes a frame of this shard whose body was read, as [`Shard::step`] takes the event that it is. The body is copied only where
+    /// the journal keeps entries.
+    fn step_frame(
+        &mut self,
+        alloc: Global,
+        seat: usize,
+        parsed: &ParsedBody<'_>,
+        stamp: Stamp,
+        moment: Moment,
+    ) -> Answer
+        requires seat { seat < MOST_SEATS }
+        requires home { IsHome self.old.shards (Event.Frame parsed.now stamp moment) self.old.number }
+        ensures step { ShardStep self.old (record { seat = seat; event = Event.Frame parsed.now stamp moment }) result self.new }
+    {
+        if self.plan.cap != 0 {
+            return match Event::of_frame(alloc, parsed, stamp, moment) {
+                Ok(event) => self.step(alloc, seat, event),
+                Err(_) => Answer::Refused,
+            };
+        }
+        if self.counts[seat] == u64::MAX {
+            return Answer::Refused;
+        }
+        let Ok(answer) = answer_frame(alloc, &mut self.node, parsed, stamp, moment) else {
+            return Answer::Refused;
+        };
+        self.counts[seat] += 1;
+        answer
+    }
+
     /// Whether the journal has as many entries as it may keep. At cap 0 it never is full.
     fn is_full(&self) -> bool
         ensures { IsTrue result ↔ IsFull self.now }
@@ -148,17 +194,32 @@ fn act(alloc: Global, node: &mut Node, event: &Event) -> Result<Answer, AllocErr
             stamp,
             moment,
         } => {
-            let mut out = Vec::new(alloc);
-            match node.answer(alloc, body.as_slice(), *stamp, *moment, &mut out)? {
-                Answered::Replied => Ok(Answer::Replied(Octets::of(out))),
-                Answered::Closes => Ok(Answer::Closes),
-            }
+            let parsed = ParsedBody::of(alloc, body.as_slice())?;
+            answer_frame(alloc, node, &parsed, *stamp, *moment)
         }
         Event::Tick { moment, .. } => Ok(Answer::Done(node.tick(*moment))),
         Event::Image { image, .. } => {
             node.set_image(image.copy()?);
             Ok(Answer::Done(0))
         }
+    }
+}
+
+/// Answers at a node, as the machine does, a frame whose body was read. Where memory is short nothing has changed.
+fn answer_frame(
+    alloc: Global,
+    node: &mut Node,
+    parsed: &ParsedBody<'_>,
+    stamp: Stamp,
+    moment: Moment,
+) -> Result<Answer, AllocError>
+    ensures acts { IfOk result (λ answer. NodeActs node.old (Event.Frame parsed.now stamp moment) answer node.new) }
+    ensures err { OnErr result (node.new ≡ node.old) }
+{
+    let mut out = Vec::new(alloc);
+    match node.answer_parsed(alloc, parsed, stamp, moment, &mut out)? {
+        Answered::Replied => Ok(Answer::Replied(Octets::of(out))),
+        Answered::Closes => Ok(Answer::Closes),
     }
 }
 

@@ -1,6 +1,7 @@
 //! Shards behind locks.
 ghost use Rattle.std.specs.Prelude.{◌≡◌, ◌⊎◌, ◌↔◌, ◌+◌, ◌<◌, ◌≤◌, ◌^◌, ℕ, IfOk, IfErr, OnOk, IsErrOf, vec_len};
 ghost use Rattle.coord_shards.specs.Home.{IsHome};
+ghost use Rattle.coord_shards.specs.Incoming.{event_of};
 ghost use Rattle.coord_shards.specs.Seat.{IsNewSeat, calls_of};
 ghost use Rattle.coord_shards.specs.Calls.{SeatCalls, SeatRises, AnsweredInARun, IsBad};
 
@@ -9,12 +10,14 @@ use crate::event::{Answer, Event};
 use crate::fault::ShardFault;
 use crate::gate::Gate;
 use crate::held::Held;
-use crate::homes::home;
+use crate::homes::{home, home_of_frame};
+use crate::incoming::Incoming;
 use crate::limits::{MOST_KEPT, MOST_SEATS, MOST_SHARDS};
 use crate::plan::Plan;
 use crate::registry::Registry;
 use crate::seat::Seat;
 use crate::shard::Shard;
+use coord_node::{Moment, ParsedBody, Stamp};
 use std::alloc::{AllocError, Global};
 use std::collections::hash_map::RandomState;
 use std::marker::Model;
@@ -136,28 +139,77 @@ impl<A: Ledger, C: Ledger, G> Shards<A, C, G> {
         if !seat.note(alloc, self.plan.cap, number, &event) {
             return Answer::Refused;
         }
-        let answer = self.take(rt, alloc, number, seat, event);
+        let answer = self.take(rt, alloc, number, seat, Incoming::Event(event));
         if answer.is_refused() {
             seat.forget(sent);
         }
         answer
     }
 
-    /// The shard with a number takes an event of its own from a seat, under its lock.
+    /// Answers the body of a frame from a seat, as [`Shards::call`] answers the event that it is. The body is read once, and is
+    /// copied only where journals keep entries.
+    pub fn answer<R: Wait>(
+        &self,
+        rt: &R,
+        alloc: Global,
+        seat: &mut Seat<C>,
+        body: &[u8],
+        stamp: Stamp,
+        moment: Moment,
+    ) -> Answer
+    where
+        G: Gate,
+        ensures call { SeatCalls self.now seat.old (Event.Frame body.now stamp moment) result seat.new }
+    {
+        match ParsedBody::of(alloc, body) {
+            Ok(parsed) => self.answer_parsed(rt, alloc, seat, &parsed, stamp, moment),
+            Err(_) => Answer::Refused,
+        }
+    }
+
+    /// Answers a frame whose body was read, from a seat.
+    fn answer_parsed<R: Wait>(
+        &self,
+        rt: &R,
+        alloc: Global,
+        seat: &mut Seat<C>,
+        parsed: &ParsedBody<'_>,
+        stamp: Stamp,
+        moment: Moment,
+    ) -> Answer
+    where
+        G: Gate,
+        ensures call { SeatCalls self.now seat.old (Event.Frame parsed.now stamp moment) result seat.new }
+    {
+        if self.plan.cap != 0 {
+            return match Event::of_frame(alloc, parsed, stamp, moment) {
+                Ok(event) => self.call(rt, alloc, seat, event),
+                Err(_) => Answer::Refused,
+            };
+        }
+        if seat.calls() == u64::MAX {
+            return Answer::Refused;
+        }
+        let number = home_of_frame(parsed, self.shards.len());
+        let incoming = Incoming::Frame(parsed, stamp, moment);
+        self.take(rt, alloc, number, seat, incoming)
+    }
+
+    /// The shard with a number takes what is its own from a seat, under its lock.
     fn take<R: Wait>(
         &self,
         rt: &R,
         alloc: Global,
         number: usize,
         seat: &mut Seat<C>,
-        event: Event,
+        incoming: Incoming<'_, '_>,
     ) -> Answer
     where
         G: Gate,
-        requires home { IsHome self.now.shards event number }
+        requires home { IsHome self.now.shards (event_of incoming) number }
         requires there { number < self.now.shards }
         requires fits { calls_of seat.old + 1 < 2 ^ 64 }
-        ensures answer { AnsweredInARun self.now number event result }
+        ensures answer { AnsweredInARun self.now number (event_of incoming.entry) result }
         ensures seat { SeatRises seat.old number result seat.new }
     {
         let mut guard = self.shards[number].lock(rt);
@@ -169,7 +221,7 @@ impl<A: Ledger, C: Ledger, G> Shards<A, C, G> {
             return Answer::Refused;
         }
         self.gate.inside(number);
-        held.take(rt, alloc, &self.books, seat, event)
+        held.take(rt, alloc, &self.books, seat, incoming)
     }
 }
 

@@ -1,6 +1,7 @@
 use Rattle.std.proofs.Common.{sym, ap, ◌∙◌, inl, inr}
 use Rattle.coord_shards.specs.declared.event.Event.TheVariants.{Frame, Tick, Image}
-use Rattle.coord_shards.specs.Home.{OneHome, group_named, shard_of_group}
+use Rattle.coord_node.specs.Parsed.{group_named}
+use Rattle.coord_shards.specs.Home.{OneHome, shard_of_group}
 use Rattle.kip_msgs.specs.Laws.{OneRequestABody}
 use Rattle.coord_shards.proofs.laws.one_home.Goals as goal
 

@@ -1,4 +1,3 @@
-use Rattle.std.proofs.Common.{sym, subst}
 use Rattle.std.proofs.lemmas.List.Elements.{All-map, All-same}
 use Rattle.coord_shards.specs.Shard.{ShardState}
 use Rattle.coord_shards.specs.Close.{AgreesWithAll}
