@@ -101,6 +101,11 @@ impl<R: ReadPart, W: WriteParts> Line<R, W> {
         self.inbox.is_quiet() && self.outbox.is_empty() && self.wants_bytes()
     }
 
+    /// Whether a frame is there that may be answered.
+    pub(crate) fn has_frame(&self) -> bool {
+        self.answerable().is_some()
+    }
+
     /// Reads once, where the desk may want more bytes. Says whether the reader waits.
     pub(crate) fn read(&mut self, cx: &mut Context<'_>) -> Result<bool, End>
         ensures reads { ReadsOn R.reads R.is_at_end self.old self.new }
@@ -148,7 +153,7 @@ impl<R: ReadPart, W: WriteParts> Line<R, W> {
 
     /// Whether replies wait for that to a frame that is there already, so that one write takes them all.
     fn gathers(&self) -> bool {
-        self.outbox.has_room_in_a_write() && self.answerable().is_some()
+        self.outbox.has_room_in_a_write() && self.has_frame()
     }
 
     /// Writes once, where a reply may be sent by now and none is to come first. Says whether the writer waits.
@@ -237,7 +242,7 @@ impl<R: ReadPart, W: WriteParts> Line<R, W> {
         if !writer_waits && !self.outbox.is_empty() {
             return false;
         }
-        (reader_waits || writer_waits) && self.answerable().is_none()
+        (reader_waits || writer_waits) && !self.has_frame()
     }
 
     /// Whether more bytes are wanted: the reader hasn't ended, the desk answers on, and no frame and no refused size is there.

@@ -10,11 +10,11 @@ returns-clause-registered g c =
     let woken = c.wake-has_woken in
     let same = woken.ensures.arrivals in
     let rests = c.rest_all-has_rested.ensures c.if-has_rested.false in
-    let some : looked.self.is_closed ≡ true → (0 < length c.turn_all.new.lines.items) ⊎ (0 < resting_count woken.new.self.resting.lines) = λ closed. rw (← rests.0, ← rests.1) (c.is_done.ensures c.if-is_done.false (same.1 ∙ closed)) in
+    let some : looked.self.is_closed ≡ true → (0 < length c.take_turns.new.lines.items) ⊎ (0 < resting_count woken.new.self.resting.lines) = λ closed. rw (← rests.0, ← rests.1) (c.is_done.ensures c.if-is_done.false (same.1 ∙ closed)) in
     rw (same.0, same.1, rests.0, rests.1)
-    (WorkerNeeds_covered g.A.Stream.needs g.R.AsyncRead.needs g.W.AsyncWrite.needs looked.self.is_closed c.turn_all.new.lines.items woken.new.self.resting.lines looked.self.arrivals looked.cx c.turn_all.new.cx
+    (WorkerNeeds_covered g.A.Stream.needs g.R.AsyncRead.needs g.W.AsyncWrite.needs looked.self.is_closed c.take_turns.new.lines.items woken.new.self.resting.lines looked.self.arrivals looked.cx c.take_turns.new.cx
     (c.poll_arrival-has_come.ensures.waits c.if-has_come.false)
-    (λ fact held. c.turn_all.ensures.kept fact (woken.ensures.kept fact held))
-    c.turn_all.ensures.armed
-    (λ any. Covers_kept woken.new.cx c.turn_all.new.cx _ (woken.ensures.waits c.if-has_woken.false any) c.turn_all.ensures.kept)
+    (λ fact held. c.take_turns.ensures.kept fact (woken.ensures.kept fact held))
+    c.take_turns.ensures.armed
+    (λ any. Covers_kept woken.new.cx c.take_turns.new.cx _ (woken.ensures.waits c.if-has_woken.false any) c.take_turns.ensures.kept)
     some)
