@@ -17,10 +17,6 @@ called_once shape seat event Closes after taken = record { either = inr (event, 
 called_once shape seat event (Done removed) after taken = record { either = inr (event, node.Done removed, taken) }
 called_once shape seat event Refused after same = record { either = inl same }
 
--- no call takes no event
-pub not_called : (shape : Shape) (seat : SeatState) → MayHaveCalled shape seat seat
-not_called shape seat = record { either = inl refl }
-
 -- a call that isn't refused was taken
 pub taken_unless_refused : (shape : Shape) (seat : SeatState) (event : Event) (answer : Answer) (after : SeatState)
     → SeatCalls shape seat event answer after → ¬ (answer ≡ Refused) → (given : node.Answer) × IsTaken shape seat event given after

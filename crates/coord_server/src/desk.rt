@@ -53,9 +53,18 @@ impl<'a, A: Ledger, C: Ledger, G: Gate, M: Moments, R: Wait> ShardsDesk<'a, A, C
     fn call(&mut self, event: Event) -> Answer
         ensures call { SeatCalls self.old.shards.now self.old.seat event result self.new.seat }
         ensures others { self.new ≡ record self.old { seat = self.new.seat } }
-        ensures once { MayHaveCalled self.old.shards.now self.old.seat self.new.seat }
     {
         self.shards.call(self.rt, self.alloc, &mut self.seat, event)
+    }
+
+    /// Calls the shards for the body of a frame, which came with a stamp at a moment.
+    fn call_frame(&mut self, body: &[u8], stamp: Stamp, moment: Moment) -> Answer
+        ensures call { SeatCalls self.old.shards.now self.old.seat (Event.Frame body.now stamp moment) result self.new.seat }
+        ensures others { self.new ≡ record self.old { seat = self.new.seat } }
+        ensures once { MayHaveCalled self.old.shards.now self.old.seat self.new.seat }
+    {
+        self.shards
+            .answer(self.rt, self.alloc, &mut self.seat, body, stamp, moment)
     }
 
     /// Lets the time of each shard go on to the present moment. A shard that refuses, for want of memory, goes on at a later tick.
@@ -114,7 +123,6 @@ impl<'a, A: Ledger, C: Ledger, G: Gate, M: Moments, R: Wait> Desk
 
     ghost lacks = { λ d e. (e.shards ≡ d.shards) × ShardsLack M.hands d.shards.now d.seat d.moments e.seat e.moments };
 
-    #[tactic(auto, using(crate::proofs::DeskLemmas::not_called))]
     fn answer(
         &mut self,
         body: &[u8],
@@ -122,13 +130,7 @@ impl<'a, A: Ledger, C: Ledger, G: Gate, M: Moments, R: Wait> Desk
         out: &mut Vec<u8>,
     ) -> Result<Answered, AllocError> {
         let moment = self.moments.now();
-        let body = Octets::of(Vec::from_slice(self.alloc, body)?);
-        let event = Event::Frame {
-            body,
-            stamp,
-            moment,
-        };
-        match self.call(event) {
+        match self.call_frame(body, stamp, moment) {
             Answer::Replied(reply) => match append(out, reply) {
                 Ok(()) => Ok(Answered::Replied),
                 Err(error) => Err(error),
