@@ -19,7 +19,7 @@ const FEW_LINES: usize = 16;
 
 /// How many further turns a poll gives all its lines together at most, so that one that has much to be answered doesn't keep
 /// the others, or arrivals, waiting.
-const MOST_TURNS: usize = 64;
+const MOST_TURNS: usize = 128;
 
 /// Many lines over one desk. A poll looks once for an arrival and gives each line one turn, and those that have a frame waiting
 /// further ones, in turn, so no line waits for another to end; but where there are many, a line that waits for its reader

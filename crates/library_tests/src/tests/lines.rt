@@ -2,7 +2,9 @@
 ghost use Rattle.std.specs.Prelude.{⊤};
 
 use super::nodes::{REPLY, TAKEN, node_over};
-use super::streams::{self, Named, Streams, drain, feed, output_of, put_words, task_of, written};
+use super::streams::{
+    self, Named, Streams, drain, feed, output_of, output_within, put_words, task_of, written,
+};
 use super::tables::cut;
 use futures::stream;
 use futures::task::Poll;
@@ -271,6 +273,30 @@ fn worked(alloc: Global, hasher: RandomState, task: &MockTask) -> Result<String,
         put_words(written(alloc, task, far)?.as_slice(), REPLIES, &mut out)?;
     }
     Ok(out)
+}
+
+/// A hundred heartbeats come to the one line of a worker, which a session would answer in a hundred turns: the worker gives a line
+/// that has frames several turns in a poll.
+#[test]
+fn a_worker_answers_a_hundred_frames_in_ten_polls(rt: HostRuntime) -> Result<(), Fail> {
+    let (alloc, task) = (rt.alloc(), task_of(&rt)?);
+    let hasher = RandomState::new(&rt)?;
+    let ended = in_ten_polls(alloc, hasher, &task).or_else(|_| in_ten_polls(alloc, hasher, &task))?;
+    assert_eq!(rt; ended, Some(1));
+    Ok(())
+}
+
+/// How many lines of the worker have ended once it is ready, if it is within ten polls.
+fn in_ten_polls(
+    alloc: Global,
+    hasher: RandomState,
+    task: &MockTask,
+) -> Result<Option<u64>, AllocError> {
+    let mut lines = Vec::new(alloc);
+    lines.push(line_of(alloc, "- - stranger*100")?)?;
+    let desk = Solo::new(alloc, node_over(alloc, hasher)?, Still);
+    let worker = Worker::new(alloc, stream::iter(lines), desk);
+    Ok(output_within(task, worker, 10))
 }
 
 /// How many bytes a pipe holds: more than all replies of a line.

@@ -21,6 +21,7 @@ use std::test::Fail;
 /// - `seats N`: so many seats are given out, numbered from 0.
 /// - `join SEAT GROUP`: a join of topic `t` is sent from the seat.
 /// - `bad SEAT`: a frame that can't be read is sent from the seat.
+/// - `ask SEAT GROUP`, `ask SEAT`: the same two, as the bodies of frames that are no events.
 /// - `tick SEAT SHARD MS`, `image SEAT SHARD COUNT`: the time of a shard goes on, and a topic `t` of so many partitions comes to it.
 ///
 /// The answer has for each event `CODE@EPOCH:SHOWN` of a reply, with the number of partitions that it shows, `closes`, `done:N`
@@ -44,6 +45,10 @@ const SHARDS: &str = "
 2 9; seats 1; image 0 2 3; join 0 b; join 0 a = done:0 0@1:3 0@1:0 | seat:0 3 3 short:2 closed:2 shard:0 2 0*2 b:1 shard:1 1 0*1 a:1
 3 0; seats 2; image 1 1 5; join 1 c; join 0 a = done:0 0@1:0 0@1:5 | seat:0 1 0 seat:1 2 0 short:2 closed:3 shard:0 0 1*1 c:1 shard:1 0 0*1 1*1 a:1
 2 9; seats 1; bad 0 = closes | seat:0 1 1 short:2 closed:2 shard:0 1 0*1
+1 0; seats 1; ask 0 a; join 0 a; ask 0 a = 0@1:0 0@2:0 0@3:0 | seat:0 3 0 short:2 closed:1 shard:0 0 0*3 a:3
+2 0; seats 2; ask 1 b; ask 0 a; ask 0 = 0@1:0 0@1:0 closes | seat:0 2 0 seat:1 1 0 short:2 closed:2 shard:0 0 0*1 1*1 b:1 shard:1 0 0*1 a:1
+2 9; seats 2; ask 1 b; ask 0 a; ask 0 = 0@1:0 0@1:0 closes | seat:0 2 2 seat:1 1 1 short:2 closed:2 shard:0 2 0*1 1*1 b:1 shard:1 1 0*1 a:1
+1 2; seats 1; ask 0 a; join 0 a; ask 0 a = 0@1:0 0@2:0 refused | seat:0 2 2 short:2 closed:1 shard:0 2 0*2 a:2
 ";
 
 /// How many shards there are, how many entries the journal of each keeps, and what comes to them.
@@ -203,14 +208,37 @@ fn call<A: Ledger, C: Ledger, R: Wait>(
     out: &mut String,
 ) -> Result<Answer, AllocError> {
     let before = (seat.calls(), seat.sent().len());
-    let answer = shards.call(rt, alloc, seat, event(alloc, step)?);
+    let answer = send(rt, alloc, shards, seat, step)?;
     if !answer.is_refused() {
         return Ok(answer);
     }
     if before != (seat.calls(), seat.sent().len()) {
         out.push_str("a refused call has changed the seat ")?;
     }
-    Ok(shards.call(rt, alloc, seat, event(alloc, step)?))
+    send(rt, alloc, shards, seat, step)
+}
+
+/// Sends what a step says, as an event or as the body of a frame.
+fn send<A: Ledger, C: Ledger, R: Wait>(
+    rt: &R,
+    alloc: Global,
+    shards: &Shards<A, C, AlwaysOpen>,
+    seat: &mut Seat<C>,
+    step: Step<'_>,
+) -> Result<Answer, AllocError> {
+    if step.verb != "ask" {
+        return Ok(shards.call(rt, alloc, seat, event(alloc, step)?));
+    }
+    let (_, group) = cut(step.words);
+    let body = body(alloc, group)?;
+    Ok(shards.answer(
+        rt,
+        alloc,
+        seat,
+        body.as_slice(),
+        stamp(step.number),
+        Moment::of_millis(0),
+    ))
 }
 
 /// The event of a step.
@@ -231,21 +259,29 @@ fn event(alloc: Global, step: Step<'_>) -> Result<Event, AllocError> {
     }
 }
 
-/// The join of a group, or a frame that can't be read.
+/// The frame of a step with this number.
 fn frame(alloc: Global, number: u64, group: &str) -> Result<Event, AllocError> {
-    let body = if group.is_empty() {
-        Vec::from_elem(alloc, 0xff, 3)?
-    } else {
-        join_body(alloc, group)?
-    };
     Ok(Event::Frame {
-        body: Octets::of(body),
-        stamp: Stamp {
-            connection: 1,
-            frame: number,
-        },
+        body: Octets::of(body(alloc, group)?),
+        stamp: stamp(number),
         moment: Moment::of_millis(0),
     })
+}
+
+/// The body of a group's join, or of a frame that can't be read.
+fn body(alloc: Global, group: &str) -> Result<Vec<u8>, AllocError> {
+    if group.is_empty() {
+        return Vec::from_elem(alloc, 0xff, 3);
+    }
+    join_body(alloc, group)
+}
+
+/// The stamp of a step with this number.
+fn stamp(number: u64) -> Stamp {
+    Stamp {
+        connection: 1,
+        frame: number,
+    }
 }
 
 /// Closes the shards without the last seat, and then with all, and tells what they come to.

@@ -82,8 +82,19 @@ pub(super) fn task_of<R: RandomSource + AllocGlobal>(rt: &R) -> io::Result<MockT
 pub(super) fn output_of<F: Future>(task: &MockTask, future: F) -> Option<F::Output>
     requires { F.can_poll future }
 {
+    output_within(task, future, 1_000)
+}
+
+/// What a future gives within so many polls, or none where it gives nothing by then or waits for what never comes.
+pub(super) fn output_within<F: Future>(
+    task: &MockTask,
+    future: F,
+    polls: usize,
+) -> Option<F::Output>
+    requires { F.can_poll future }
+{
     let mut future = future;
-    for _ in 0..1_000 {
+    for _ in 0..polls {
         match task.poll(&mut future) {
             Poll::Ready(output) => return Some(output),
             Poll::Pending => {
