@@ -45,8 +45,28 @@ where
     requires { 0 < plan.workers }
 {
     let mut runtime = Runtime::with_worker_threads(rt, plan.workers.saturating_add(1))?;
+    serve_socket_in(rt, &mut runtime, shards, socket, moments, plan)
+}
+
+/// Serves the connections of a listening socket over shards, in a runtime.
+fn serve_socket_in<A, C, G, M, R>(
+    rt: &R,
+    runtime: &mut Runtime,
+    shards: &Shards<A, C, G>,
+    socket: TcpListener,
+    moments: &M,
+    plan: Plan,
+) -> Result<u64, ServerFault>
+where
+    A: Ledger + Send + Sync,
+    C: Ledger + Send + Sync,
+    G: Gate + Sync,
+    M: Moments + Clone + Send,
+    R: Wait + Threads + Clock + RandomSource + AllocGlobal + Sync,
+    requires { 0 < plan.workers }
+{
     let connections = Connections::of(rt, socket, runtime.handle())?;
-    serve(rt, &mut runtime, shards, connections, moments, plan)
+    serve(rt, runtime, shards, connections, moments, plan)
 }
 
 /// Serves connections over shards, until so many have ended as the plan says, or until no more come. Gives their number.
@@ -69,19 +89,49 @@ where
     O: WriteParts + Send,
     requires { 0 < plan.workers }
 {
-    let desks = desks_of(rt, shards, moments, plan.workers)?;
     let clock = clock_of(rt, runtime.handle(), shards, moments, plan)?;
+    let desks = desks_of(rt, shards, moments, plan.workers)?;
+    serve_from(rt, runtime, desks, clock, connections, plan.connections)
+}
+
+/// Serves connections from so many desks, where there is a clock with an expiry worker beside the others.
+fn serve_from<D, R, S, I, O>(
+    rt: &R,
+    runtime: &mut Runtime,
+    desks: Vec<D>,
+    clock: Option<(D, Interval)>,
+    connections: S,
+    most: u64,
+) -> Result<u64, ServerFault>
+where
+    D: Desk + Timed + Send,
+    R: Threads + RandomSource + AllocGlobal + Wait + Clock + Sync,
+    S: Arrivals<I, O> + Send,
+    I: ReadPart + Send,
+    O: WriteParts + Send,
+    requires { 0 < vec_len desks }
+{
     let told = AtomicU64::new(0);
-    let jobs = jobs_of(
-        rt.alloc(),
-        desks,
-        clock,
-        connections,
-        plan.connections,
-        &told,
-    )?;
+    let jobs = jobs_of(rt.alloc(), desks, clock, connections, most, &told)?;
     runtime.run_all(rt, stream::iter(jobs))?;
     Ok(told.load(Ordering::SeqCst))
+}
+
+/// A desk over shards, with a seat of its own.
+fn desk_of<'a, A, C, G, M, R>(
+    rt: &'a R,
+    shards: &'a Shards<A, C, G>,
+    moments: &M,
+) -> Result<ShardsDesk<'a, A, C, G, M, R>, ServerFault>
+where
+    A: Ledger,
+    C: Ledger,
+    G: Gate,
+    M: Moments + Clone,
+    R: Wait + AllocGlobal,
+{
+    let moments = moments.clone()?;
+    Ok(ShardsDesk::new(rt, rt.alloc(), shards, moments)?)
 }
 
 /// So many desks over shards, each with a seat of its own.
@@ -101,7 +151,7 @@ where
 {
     let mut desks = Vec::new(rt.alloc());
     for _ in 0..number {
-        desks.push(ShardsDesk::new(rt, rt.alloc(), shards, moments.clone()?)?)?;
+        desks.push(desk_of(rt, shards, moments)?)?;
     }
     Ok(desks)
 }
@@ -125,8 +175,7 @@ where
         return Ok(None);
     }
     let ticks = handle.time().interval(rt, Duration::from_millis(TICK))?;
-    let desk = ShardsDesk::new(rt, rt.alloc(), shards, moments.clone()?)?;
-    Ok(Some((desk, ticks)))
+    Ok(Some((desk_of(rt, shards, moments)?, ticks)))
 }
 
 /// The tasks of a server: a worker over each of the desks, its expiry worker where there is a desk with instants for one, and its acceptor.
@@ -145,14 +194,30 @@ where
     O: WriteParts,
     requires { 0 < vec_len desks }
 {
-    let mut jobs = Vec::new(alloc);
     let (running, workers) = unbounded(alloc)?;
+    let mut jobs = expiry_of(alloc, clock, workers)?;
     let senders = add_workers(alloc, desks, &running, &mut jobs)?;
+    let acceptor = Acceptor::new(alloc, connections, senders, most, told);
+    jobs.push(Job::Accepts(acceptor))?;
+    Ok(jobs)
+}
+
+/// The task of the expiry worker, where there is a clock for one.
+fn expiry_of<'a, D, S, I, O>(
+    alloc: Global,
+    clock: Option<(D, Interval)>,
+    workers: UnboundedReceiver<()>,
+) -> Result<Vec<Job<'a, D, S, I, O>>, ServerFault>
+where
+    D: Timed,
+    S: Drop,
+    I: Drop,
+    O: Drop,
+{
+    let mut jobs = Vec::new(alloc);
     if let Some((desk, ticks)) = clock {
         jobs.push(Job::Expires(Expiry::new(desk, ticks, workers)))?;
     }
-    let acceptor = Acceptor::new(alloc, connections, senders, most, told);
-    jobs.push(Job::Accepts(acceptor))?;
     Ok(jobs)
 }
 
@@ -172,10 +237,25 @@ where
 {
     let mut senders = Vec::new(alloc);
     for desk in desks {
-        let (sender, arrivals) = unbounded(alloc)?;
-        let works = Works::new(alloc, arrivals, desk, running.clone()?);
+        let (sender, works) = worker_of(alloc, desk, running)?;
         jobs.push(Job::Works(works))?;
         senders.push(sender)?;
     }
     Ok(senders)
+}
+
+/// A worker over a desk, and the sender of its lines.
+fn worker_of<D, I, O>(
+    alloc: Global,
+    desk: D,
+    running: &UnboundedSender<()>,
+) -> Result<(UnboundedSender<Line<I, O>>, Works<D, I, O>), ServerFault>
+where
+    D: Desk,
+    I: ReadPart,
+    O: WriteParts,
+{
+    let running = running.clone()?;
+    let (sender, arrivals) = unbounded(alloc)?;
+    Ok((sender, Works::new(alloc, arrivals, desk, running)))
 }
