@@ -49,7 +49,7 @@ impl<D: Desk, I: ReadPart, O: WriteParts> Works<D, I, O> {
 impl<D: Desk, I: ReadPart, O: WriteParts> Future for Works<D, I, O> {
     type Output = ();
 
-    /// Looks once for an arrival, and gives each line one turn.
+    /// Polls the worker. Once that is ready, the expiry worker hears of it.
     fn poll(&mut self, cx: &mut Context<'_>) -> Poll<()> {
         match self.worker.poll(cx) {
             Poll::Ready(_) => {
