@@ -167,12 +167,6 @@ pub OfEach-weaker : {K X : Type 0} (P Q : X → Type 0) → ((x : X) → P x →
 OfEach-weaker P Q weaker [] each = tt
 OfEach-weaker P Q weaker (e ∷ es) each = (weaker e.1 each.0, OfEach-weaker P Q weaker es each.1)
 
--- a value written where it was
-pub set_value_at-itself : {K X : Type 0} (es : List (K × X)) (i : ℕ) (x : X) → slice_get (values_of es) i ≡ Some x → set_value_at es i x ≡ es
-set_value_at-itself [] i x at = refl
-set_value_at-itself (e ∷ es) zero x at = ap (λ y. (e.0, y) ∷ es) (sym (some_is e.1 x at))
-set_value_at-itself (e ∷ es) (suc i) x at = ap (λ rest. e ∷ rest) (set_value_at-itself es i x at)
-
 pub length-set_value_at : {K X : Type 0} (es : List (K × X)) (i : ℕ) (x : X) → length (set_value_at es i x) ≡ length es
 length-set_value_at [] i x = refl
 length-set_value_at (e ∷ es) zero x = refl

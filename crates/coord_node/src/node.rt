@@ -19,6 +19,7 @@ use crate::parsed::ParsedBody;
 use crate::tick::tick_all;
 use crate::{commit_frame, heartbeat_frame};
 use group_core::{Group, Outcome};
+use group_epochs::place_of;
 use group_types::limits::{LARGEST_BODY, SMALLEST_BODY};
 use group_types::{Moment, Stamp};
 use indexmap::IndexMap;
@@ -38,6 +39,8 @@ pub struct Node {
     generation: Option<u64>,
     /// What the tables are keyed by.
     hasher: RandomState,
+    /// The place of the group that was last looked for: frames of one group often come one behind the other.
+    last: usize,
 }
 
 impl Model for Node {
@@ -66,6 +69,7 @@ impl Node {
             image: Image::empty(alloc),
             generation: Some(0),
             hasher,
+            last: 0,
         }
     }
 
@@ -239,8 +243,9 @@ impl Node {
         ensures step { IfOk result (λ reply. CommitsIn self.old (commit_request_value request.now) (commit_reply_value reply) self.new) }
         ensures err { OnErr result (self.new ≡ self.old) }
     {
-        match self.groups.get_index_of(request.group_id) {
+        match place_of(&self.groups, self.last, request.group_id) {
             Some(place) => {
+                self.last = place;
                 let group = &mut self.groups[place];
                 group.commit(alloc, request, &self.image)
             }
@@ -265,8 +270,9 @@ impl Node {
         ensures out { out.new.items ≡ out.old.items }
         ensures err { OnErr result (self.new ≡ self.old) }
     {
-        match self.groups.get_index_of(request.group_id) {
+        match place_of(&self.groups, self.last, request.group_id) {
             Some(place) => {
+                self.last = place;
                 let kept = &mut self.groups[place];
                 kept.heartbeat(
                     alloc,

@@ -1,15 +1,10 @@
 -- What the desk of a worker does with frames: it calls shards from its seat, at the moments that were handed out to it.
-use Rattle.std.specs.Prelude.{◌≡◌, ◌⊎◌, ℕ, List}
+use Rattle.std.specs.Prelude.{◌≡◌, ℕ, List}
 use Rattle.group_types.specs.declared.stamp.Stamp.{Stamp}
 use Rattle.coord_node.specs.Coordinator.{Answer}
-use Rattle.coord_shards.specs.declared.event.Event.{Event}
 use Rattle.coord_shards.specs.declared.event.Event.TheVariants.{Frame}
 use Rattle.coord_shards.specs.Seat.{SeatState}
 use Rattle.coord_shards.specs.Calls.{Shape, IsTaken}
-
--- a seat from which nothing was called, or from which one event was taken
-pub record MayHaveCalled (shape : Shape) (seat after : SeatState) : Type 0 where
-  pub either : (after ≡ seat) ⊎ ((event : Event) × (given : Answer) × IsTaken shape seat event given after)
 
 module _ {M : Type 0} (hands : M → ℕ → M → Type 0) where
   -- A frame, at the moment that was handed out, is a call that its shard took, and the answer is the shard's.
@@ -17,7 +12,6 @@ module _ {M : Type 0} (hands : M → ℕ → M → Type 0) where
   ShardsAnswer shape seat moments body stamp answer after later =
       (moment : ℕ) × hands moments moment later × IsTaken shape seat (Frame body stamp moment) answer after
 
-  -- Where memory is short the moment is used up, and the shards refused the call, or its reply found no room.
-  abbrev pub ShardsLack : Shape → SeatState → M → SeatState → M → Type 0
-  ShardsLack shape seat moments after later =
-      (moment : ℕ) × hands moments moment later × MayHaveCalled shape seat after
+  -- where memory is short the moment is used up, and the seat is as it was
+  abbrev pub ShardsLack : SeatState → M → SeatState → M → Type 0
+  ShardsLack seat moments after later = (moment : ℕ) × hands moments moment later × (after ≡ seat)

@@ -1,14 +1,13 @@
 //! The desk of a worker: it calls the shards from a seat.
-ghost use Rattle.std.specs.Prelude.{◌≡◌, ◌≤◌, ◌++◌, ℕ, IfOk, IfErr, OnOk, OnErr};
+ghost use Rattle.std.specs.Prelude.{◌≡◌, ◌≤◌, ℕ, IfOk, IfErr, OnOk, OnErr};
 ghost use Rattle.coord_node.specs.Coordinator.{Answer as GivenAnswer};
 ghost use Rattle.coord_shards.specs.Calls.{IsTaken, SeatCalls};
 ghost use Rattle.coord_shards.specs.Seat.{IsNewSeat};
-ghost use Rattle.coord_server.specs.Desks.{MayHaveCalled};
 ghost use Rattle.coord_server.specs.Rounds.{CallsEach, TellsEach};
 
 use crate::timed::Timed;
 use coord_node::Answered;
-use coord_shards::{Answer, Event, Gate, Image, Moment, Octets, Seat, ShardFault, Shards, Stamp};
+use coord_shards::{Answer, Event, Gate, Image, Moment, Seat, ShardFault, Shards, Stamp};
 use link_futures::{Desk, Moments};
 use std::alloc::{AllocError, Global};
 use std::sync::Wait;
@@ -55,16 +54,6 @@ impl<'a, A: Ledger, C: Ledger, G: Gate, M: Moments, R: Wait> ShardsDesk<'a, A, C
         ensures others { self.new ≡ record self.old { seat = self.new.seat } }
     {
         self.shards.call(self.rt, self.alloc, &mut self.seat, event)
-    }
-
-    /// Calls the shards for the body of a frame, which came with a stamp at a moment.
-    fn call_frame(&mut self, body: &[u8], stamp: Stamp, moment: Moment) -> Answer
-        ensures call { SeatCalls self.old.shards.now self.old.seat (Event.Frame body.now stamp moment) result self.new.seat }
-        ensures others { self.new ≡ record self.old { seat = self.new.seat } }
-        ensures once { MayHaveCalled self.old.shards.now self.old.seat self.new.seat }
-    {
-        self.shards
-            .answer(self.rt, self.alloc, &mut self.seat, body, stamp, moment)
     }
 
     /// Lets the time of each shard go on to the present moment. A shard that refuses, for want of memory, goes on at a later tick.
@@ -121,7 +110,7 @@ impl<'a, A: Ledger, C: Ledger, G: Gate, M: Moments, R: Wait> Desk
 
     ghost answers = { λ d body stamp answer e. (e.shards ≡ d.shards) × ShardsAnswer M.hands d.shards.now d.seat d.moments body stamp answer e.seat e.moments };
 
-    ghost lacks = { λ d e. (e.shards ≡ d.shards) × ShardsLack M.hands d.shards.now d.seat d.moments e.seat e.moments };
+    ghost lacks = { λ d e. (e.shards ≡ d.shards) × ShardsLack M.hands d.seat d.moments e.seat e.moments };
 
     fn answer(
         &mut self,
@@ -130,15 +119,15 @@ impl<'a, A: Ledger, C: Ledger, G: Gate, M: Moments, R: Wait> Desk
         out: &mut Vec<u8>,
     ) -> Result<Answered, AllocError> {
         let moment = self.moments.now();
-        match self.call_frame(body, stamp, moment) {
-            Answer::Replied(reply) => match append(out, reply) {
-                Ok(()) => Ok(Answered::Replied),
-                Err(error) => Err(error),
-            },
-            Answer::Closes => Ok(Answered::Closes),
-            Answer::Refused => Err(AllocError),
-            Answer::Done(_) => unreachable!(),
-        }
+        self.shards.answer(
+            self.rt,
+            self.alloc,
+            &mut self.seat,
+            body,
+            stamp,
+            moment,
+            out,
+        )
     }
 
     /// Asks the gate.
@@ -159,16 +148,4 @@ impl<'a, A: Ledger, C: Ledger, G: Gate, M: Moments, R: Wait> Timed
     fn tick(&mut self) {
         self.tick_all();
     }
-}
-
-/// Appends a reply. Takes no memory where nothing is there yet.
-fn append(out: &mut Vec<u8>, reply: Octets) -> Result<(), AllocError>
-    ensures ok { OnOk result (out.new.items ≡ out.old.items ++ reply) }
-    ensures err { OnErr result (out.new.items ≡ out.old.items) }
-{
-    if out.is_empty() {
-        *out = reply.into_vec();
-        return Ok(());
-    }
-    out.extend_from_slice(reply.as_slice())
 }

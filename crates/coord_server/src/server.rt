@@ -44,7 +44,7 @@ where
     R: Wait + Threads + Clock + Net + RandomSource + AllocGlobal + Sync,
     requires { 0 < plan.workers }
 {
-    let mut runtime = Runtime::with_worker_threads(rt, plan.workers.saturating_add(1))?;
+    let mut runtime = Runtime::with_worker_threads(rt, plan.workers)?;
     serve_socket_in(rt, &mut runtime, shards, socket, moments, plan)
 }
 

@@ -1,11 +1,14 @@
 -- What a step adds to a shard's replay.
-use Rattle.std.proofs.Common.{◌≡◌, ◌≢◌, ℕ, ◌+◌, ◌<◌, ◌≤◌, Bool, true, false, cond, ◌==◌, List, [], ◌∷◌, ◌++◌, map, length, get_or, slice_index, sum, count_by, refl, sym, ap, subst, ◌∙◌, arith, length-append, get_or-set_same, get_or-set_other}
+use Rattle.std.proofs.Common.{◌≡◌, ◌≢◌, ℕ, ◌+◌, ◌<◌, ◌≤◌, Bool, true, false, cond, ◌==◌, List, [], ◌∷◌, ◌++◌, map, length, take, get_or, slice_index, sum, count_by, refl, sym, ap, subst, ◌∙◌, arith, length-append, get_or-set_same, get_or-set_other}
 use Rattle.std.proofs.Math.ListN.{length-set}
+use Rattle.std.proofs.Math.Seq.{take-length, take-append_seam}
 use Rattle.std.proofs.lemmas.List.{map-append}
 use Rattle.std.proofs.lemmas.List.Elements.{All-push}
 use Rattle.std.proofs.lemmas.List.Sums.{sum_by-append, sum_by-set}
 use Rattle.std.proofs.lemmas.Bool.Decides.{Decides-eqb, nat_tests}
 use Rattle.coord_node.specs.Coordinator.{Coordinator, Event, Answer}
+use Rattle.coord_node.specs.declared.event.Answered.{Answered}
+use Rattle.coord_node.specs.Answers.{Answers}
 use Rattle.coord_node.specs.Steps.{EventRelation, RunBy}
 use Rattle.coord_shards.specs.declared.entry.Entry.{Entry}
 use Rattle.coord_shards.specs.Machine.{NodeStep}
@@ -16,7 +19,7 @@ use Rattle.coord_shards.specs.Shard.{ShardState, kept_with, one_more}
 use Rattle.coord_node.specs.Coordinator as node
 use Rattle.coord_shards.specs.declared.event.Answer as shards
 use Rattle.coord_shards.specs.declared.event.Answer.TheVariants.{Replied, Closes, Done, Refused}
-use Rattle.coord_shards.specs.Steps.{NodeActs, GoesOn, ShardStep}
+use Rattle.coord_shards.specs.Steps.{NodeActs, GoesOn, ShardStep, FrameStep}
 use Rattle.coord_shards.specs.Replay.{Replay, IsShard, RunsTo}
 
 -- a run, and one step behind it
@@ -119,6 +122,22 @@ room-is cap len not_full some =
     let short : cap ≤ len → ⊥ = λ full. not_full (some, full) in
     omega arith
 
+-- a step of a node with an entry's event, an entry behind the others, and one more of its seat's
+pub goes-is : (old : ShardState) (e : Entry) (given : Answer) (after : Coordinator) (kept : List Entry)
+    → e.seat < MOST_SEATS → IsHome old.shards e.event old.number → (0 < old.cap → length old.kept < old.cap)
+    → NodeStep old.present (node_event e.event) given after → kept ≡ kept_with old.cap old.kept e → IsShard old
+    → IsShard (record old { present = after; kept = kept; counts = one_more old.counts e.seat })
+    × GoesOn old e given (record old { present = after; kept = kept; counts = one_more old.counts e.seat })
+goes-is old e given after kept seat home room step is shard = (
+  subst (λ (k : List Entry). IsShard (record old { present = after; kept = k; counts = one_more old.counts e.seat })) (sym is) (IsShard-push old e given after seat home room step shard),
+  record {
+    after = after;
+    step = step;
+    leaves = λ i. record old { present = after; kept = is i; counts = one_more old.counts e.seat };
+    total = sum-one_more old.counts e.seat (subst (λ n. e.seat < n) (sym shard.seats) seat);
+  },
+)
+
 -- what a node did with an entry's event, an entry behind the others, and one more of its seat's
 pub step-is : (old : ShardState) (e : Entry) (answer : shards.Answer) (after : Coordinator) (kept : List Entry)
     → e.seat < MOST_SEATS → IsHome old.shards e.event old.number → (0 < old.cap → length old.kept < old.cap)
@@ -126,26 +145,32 @@ pub step-is : (old : ShardState) (e : Entry) (answer : shards.Answer) (after : C
     → IsShard (record old { present = after; kept = kept; counts = one_more old.counts e.seat })
     × ShardStep old e answer (record old { present = after; kept = kept; counts = one_more old.counts e.seat })
 step-is old e answer after kept seat home room acts is shard =
-    let at : (given : Answer) → NodeStep old.present (node_event e.event) given after
-    → IsShard (record old { present = after; kept = kept; counts = one_more old.counts e.seat })
-    × GoesOn old e given (record old { present = after; kept = kept; counts = one_more old.counts e.seat }) =
-    λ given step. (
-      subst (λ (k : List Entry). IsShard (record old { present = after; kept = k; counts = one_more old.counts e.seat })) (sym is) (IsShard-push old e given after seat home room step shard),
-      record {
-        after = after;
-        step = step;
-        leaves = λ i. record old { present = after; kept = is i; counts = one_more old.counts e.seat };
-        total = sum-one_more old.counts e.seat (subst (λ n. e.seat < n) (sym shard.seats) seat);
-      },
-    ) in
     elim answer as (λ (a : shards.Answer). NodeActs old.present e.event a after
     → IsShard (record old { present = after; kept = kept; counts = one_more old.counts e.seat })
     × ShardStep old e a (record old { present = after; kept = kept; counts = one_more old.counts e.seat })) [
-      | Replied bytes ↦ λ step. at (node.Replied bytes) step
-      | Closes ↦ λ step. at node.Closes step
-      | Done removed ↦ λ step. at (node.Done removed) step
+      | Replied bytes ↦ λ step. goes-is old e (node.Replied bytes) after kept seat home room step is shard
+      | Closes ↦ λ step. goes-is old e node.Closes after kept seat home room step is shard
+      | Done removed ↦ λ step. goes-is old e (node.Done removed) after kept seat home room step is shard
       | Refused ↦ λ none. absurd none
     ] acts
+
+-- a node's answer to a frame, an entry behind the others, and one more of its seat's
+pub frame-is : (old : ShardState) (e : Entry) (kind : Answered) (after : Coordinator) (kept : List Entry) (before bytes : List ℕ)
+    → e.seat < MOST_SEATS → IsHome old.shards e.event old.number → (0 < old.cap → length old.kept < old.cap)
+    → Answers old.present (node_event e.event) kind after before bytes → kept ≡ kept_with old.cap old.kept e → IsShard old
+    → IsShard (record old { present = after; kept = kept; counts = one_more old.counts e.seat })
+    × FrameStep old e kind (record old { present = after; kept = kept; counts = one_more old.counts e.seat }) before bytes
+frame-is old e kind after kept before bytes seat home room answers is shard =
+    let goes = goes-is old e answers.answer after kept seat home room answers.step is shard in
+    (goes.0, record { given = answers.answer; is_answered = answers.is_answered; goes_on = goes.1; bytes = answers.bytes })
+
+-- what was kept before, once one more came behind it
+take-kept : {X : Type 0} (b : Bool) (kept : List X) (x : X) → take (length kept) (cond b kept (kept ++ x ∷ [])) ≡ kept
+take-kept true kept x = take-length kept
+take-kept false kept x = take-append_seam kept (x ∷ [])
+
+pub take-kept_with : {X : Type 0} (cap : ℕ) (kept : List X) (x : X) → take (length kept) (kept_with cap kept x) ≡ kept
+take-kept_with cap kept x = take-kept (cap == 0) kept x
 
 -- unless the event is refused there is one more entry
 pub total-ShardStep : (old : ShardState) (e : Entry) (answer : shards.Answer) (new : ShardState) → ShardStep old e answer new → ¬ (answer ≡ Refused)

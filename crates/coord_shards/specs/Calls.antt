@@ -1,7 +1,9 @@
 -- What a call of a seat comes to.
-use Rattle.std.specs.Prelude.{◌≡◌, ◌⊎◌, ◌+◌, ◌<◌, ℕ, List, All, MatchOption}
-use Rattle.coord_node.specs.Coordinator.{Coordinator, opening}
+use Rattle.std.specs.Prelude.{◌≡◌, ◌⊎◌, ◌+◌, ◌<◌, ℕ, List, ◌++◌, All, MatchOption}
+use Rattle.coord_node.specs.declared.event.Answered.{Answered}
+use Rattle.coord_node.specs.Coordinator.{Coordinator, opening, bytes_of}
 use Rattle.coord_node.specs.Coordinator as node
+use Rattle.coord_node.specs.Answers.{IsAnswered}
 use Rattle.coord_shards.specs.declared.entry.Entry.{Entry}
 use Rattle.coord_shards.specs.declared.event.Event.{Event}
 use Rattle.coord_shards.specs.declared.event.Answer.{Answer}
@@ -44,17 +46,32 @@ abbrev pub SeatCalls : Shape → SeatState → Event → Answer → SeatState �
 SeatCalls shape old event answer new =
     MatchOption (node_answer answer) (new ≡ old) (λ given. IsTaken shape old event given new)
 
--- By the answer of its shard: of the seat's calls there, and of all its calls, there is one more; where the event is refused
--- the seat is as it was.
+-- A frame that was taken: the answer is of this kind, and its bytes were appended.
+pub record TakesFrame (shape : Shape) (old : SeatState) (event : Event) (kind : Answered) (new : SeatState) (before after : List ℕ) : Type 0 where
+  pub given : node.Answer
+  pub is_answered : IsAnswered kind given
+  pub taken : IsTaken shape old event given new
+  pub bytes : after ≡ before ++ bytes_of given
+
+-- of the seat's calls at a shard, and of all its calls, there is one more
+abbrev pub Rises : SeatState → ℕ → SeatState → Type 0
+Rises old home new = (new ≡ record old { by_shard = one_more old.by_shard home }) × (calls_of new ≡ calls_of old + 1)
+
+-- by the answer of its shard the seat's calls rise; where the event is refused the seat is as it was
 abbrev pub SeatRises : SeatState → ℕ → Answer → SeatState → Type 0
-SeatRises old home answer new =
-    MatchOption (node_answer answer) (new ≡ old)
-    (λ given. (new ≡ record old { by_shard = one_more old.by_shard home }) × (calls_of new ≡ calls_of old + 1))
+SeatRises old home answer new = MatchOption (node_answer answer) (new ≡ old) (λ given. Rises old home new)
 
 -- an answer is such, unless the event is refused
 abbrev pub AnsweredInARun : Shape → ℕ → Event → Answer → Type 0
 AnsweredInARun shape home event answer =
     MatchOption (node_answer answer) (Unit {0}) (λ given. IsAnsweredInARun shape home event given)
+
+-- The same for a frame: the answer is of this kind, and its bytes were appended.
+pub record IsFrameAnswered (shape : Shape) (home : ℕ) (event : Event) (kind : Answered) (before after : List ℕ) : Type 0 where
+  pub given : node.Answer
+  pub is_answered : IsAnswered kind given
+  pub in_a_run : IsAnsweredInARun shape home event given
+  pub bytes : after ≡ before ++ bytes_of given
 
 -- fewer shards than 1 or more than may be, or a journal of more entries than it may keep
 abbrev pub IsBad : ℕ → ℕ → Type 0

@@ -12,4 +12,3 @@ pub mod Faults
 pub mod Seat
 pub mod Calls
 pub mod Close
-pub mod Incoming

@@ -1,5 +1,5 @@
 -- What contracts see of a seat.
-use Rattle.std.specs.Prelude.{◌≡◌, ℕ, List, [], sum, slice_index}
+use Rattle.std.specs.Prelude.{◌≡◌, ℕ, ◌-◌, ◌^◌, List, [], sum, slice_index}
 use Rattle.coord_shards.specs.declared.sent.Sent.{Sent}
 
 -- its number, how many of its calls each shard took, and what was sent by these calls, where journals keep entries
@@ -7,6 +7,10 @@ pub record SeatState : Type 0 where
   pub number : ℕ
   pub by_shard : List ℕ
   pub sent : List Sent
+
+-- the most calls of a seat (ours)
+abbrev pub most_calls : ℕ
+most_calls = 2 ^ 64 - 1
 
 -- how many of its calls were taken
 abbrev pub calls_of : SeatState → ℕ

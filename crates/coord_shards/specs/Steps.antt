@@ -1,7 +1,9 @@
 -- What one step of a shard does.
-use Rattle.std.specs.Prelude.{◌≡◌, ℕ, ◌+◌, ◌<◌, ◌≤◌, length, slice_index, sum, MatchOption}
-use Rattle.coord_node.specs.Coordinator.{Coordinator, opening}
+use Rattle.std.specs.Prelude.{◌≡◌, ℕ, ◌+◌, ◌<◌, ◌≤◌, List, ◌++◌, length, slice_index, sum, MatchOption}
+use Rattle.coord_node.specs.declared.event.Answered.{Answered}
+use Rattle.coord_node.specs.Coordinator.{Coordinator, opening, bytes_of}
 use Rattle.coord_node.specs.Coordinator as node
+use Rattle.coord_node.specs.Answers.{IsAnswered}
 use Rattle.coord_shards.specs.declared.entry.Entry.{Entry}
 use Rattle.coord_shards.specs.declared.event.Event.{Event}
 use Rattle.coord_shards.specs.declared.event.Answer.{Answer}
@@ -31,6 +33,13 @@ pub record GoesOn (old : ShardState) (entry : Entry) (given : node.Answer) (new 
 -- what a step does, by its answer: where the event is refused nothing changes
 abbrev pub ShardStep : ShardState → Entry → Answer → ShardState → Type 0
 ShardStep old entry answer new = MatchOption (node_answer answer) (new ≡ old) (λ given. GoesOn old entry given new)
+
+-- A frame's step: the shard goes on by an answer of this kind, whose bytes were appended.
+pub record FrameStep (old : ShardState) (entry : Entry) (kind : Answered) (new : ShardState) (before after : List ℕ) : Type 0 where
+  pub given : node.Answer
+  pub is_answered : IsAnswered kind given
+  pub goes_on : GoesOn old entry given new
+  pub bytes : after ≡ before ++ bytes_of given
 
 -- a journal with as many entries as it may keep; at cap 0 it never is
 abbrev pub IsFull : ShardState → Type 0

@@ -1,5 +1,5 @@
 //! The end of shards.
-ghost use Rattle.std.specs.Prelude.{◌≡◌, ◌⊎◌, All, IfOk, IfErr, sum_by, vec_len};
+ghost use Rattle.std.specs.Prelude.{◌≡◌, ◌⊎◌, ◌+◌, All, IfOk, IfErr, sum_by, vec_len};
 ghost use Rattle.coord_shards.specs.declared.limits.TheConstants.{MOST_SEATS};
 ghost use Rattle.coord_shards.specs.Seat.{calls_of};
 ghost use Rattle.coord_shards.specs.Close.{AgreesWithAll, entries_of};
@@ -31,7 +31,7 @@ impl<A: Ledger, C: Ledger, G> Shards<A, C, G> {
     where
         G: Drop,
         requires entries { A.parts ≡ self.shards }
-        requires calls { C.parts ≡ MOST_SEATS }
+        requires calls { C.parts ≡ MOST_SEATS + self.shards }
         ensures number { IfOk result (λ shards. vec_len shards ≡ self.shards) }
         ensures agree { IfOk result (λ shards. All (AgreesWithAll self.cap seats.items) shards.items) }
         ensures total { IfOk result (λ shards. sum_by entries_of shards.items ≡ sum_by calls_of seats.items) }

@@ -6,6 +6,9 @@ use crate::event::Event;
 use coord_node::{ParsedBody, Stamp};
 use std::alloc::{AllocError, Global};
 
+/// From here on a sum of bytes is taken modulo the number of shards before the next byte: 2^32.
+const LARGE: usize = 0x1_0000_0000;
+
 /// The number of the shard that an event is for, of so many shards.
 ///
 /// A frame's is the sum of the bytes of its request's group id, modulo the number of shards; a frame that can't be read
@@ -46,9 +49,22 @@ fn shard_of_group(group: &str, shards: usize) -> usize
 {
     let mut number = 0;
     for byte in group.as_bytes() {
-        number = sum_modulo(number, usize::from(*byte) % shards, shards);
+        number = plus_byte(number, *byte, shards);
     }
-    number
+    number % shards
+}
+
+/// The sum of a number and a byte, or, where the number is large, what is the same modulo another number.
+fn plus_byte(number: usize, byte: u8, modulus: usize) -> usize
+    requires { 0 < modulus }
+    ensures { result % modulus ≡ (number + byte) % modulus }
+{
+    let byte = usize::from(byte);
+    if number < LARGE {
+        number + byte
+    } else {
+        sum_modulo(number % modulus, byte % modulus, modulus)
+    }
 }
 
 /// The sum of two numbers, modulo a greater one.

@@ -4,7 +4,6 @@
 //! the opening state.
 #![tactic(auto)]
 
-mod books;
 mod close;
 mod compare;
 mod counts;
@@ -14,7 +13,6 @@ mod fault;
 mod gate;
 mod held;
 mod homes;
-mod incoming;
 mod laws;
 pub mod limits;
 mod octets;
@@ -27,7 +25,7 @@ mod shard;
 mod shards;
 
 pub use close::Unclosed;
-pub use coord_node::{Image, Moment, Node, Stamp};
+pub use coord_node::{Answered, Image, Moment, Node, Stamp};
 pub use entry::Entry;
 pub use event::{Answer, Event};
 pub use fault::ShardFault;

@@ -1,10 +1,9 @@
 //! Shards out of their locks.
-ghost use Rattle.std.specs.Prelude.{◌≡◌, ◌⊎◌, ◌+◌, ◌<◌, ◌≤◌, All, Some, IfSome, IfNone, sum_by, map, reverse, length, vec_len, vec_capacity};
+ghost use Rattle.std.specs.Prelude.{◌≡◌, ◌⊎◌, ◌+◌, ◌*◌, ◌<◌, ◌≤◌, All, Some, IfSome, IfNone, sum_by, map, reverse, length, vec_len, vec_capacity};
 ghost use Rattle.coord_shards.specs.declared.limits.TheConstants.{MOST_SHARDS, MOST_SEATS};
-ghost use Rattle.coord_shards.specs.Seat.{calls_of};
+ghost use Rattle.coord_shards.specs.Seat.{calls_of, most_calls};
 ghost use Rattle.coord_shards.specs.Close.{AgreesWithAll, entries_of};
 
-use crate::books::Books;
 use crate::compare::all_agree;
 use crate::fault::ShardFault;
 use crate::held::Held;
@@ -18,9 +17,8 @@ use std::sync::ledger::{Ledger, Share};
 
 /// Shards out of their locks, and room for the locks.
 pub(crate) struct Opened<A: Ledger, C: Ledger, G> {
-    pub(crate) held: Vec<Held<A>>,
-    pub(crate) locks: Vec<Mutex<Held<A>>>,
-    pub(crate) books: Books<A, C>,
+    pub(crate) held: Vec<Held<C>>,
+    pub(crate) locks: Vec<Mutex<Held<C>>>,
     pub(crate) registry: Registry<A, C>,
     pub(crate) plan: Plan,
     pub(crate) gate: G,
@@ -32,7 +30,7 @@ pub(crate) struct Opened<A: Ledger, C: Ledger, G> {
 
 impl<A: Ledger, C: Ledger, G> Opened<A, C, G> {
     /// Takes all shards out of their locks, into a list that has room for them.
-    pub(crate) fn of(shards: Shards<A, C, G>, held: Vec<Held<A>>) -> Opened<A, C, G>
+    pub(crate) fn of(shards: Shards<A, C, G>, held: Vec<Held<C>>) -> Opened<A, C, G>
         requires empty { vec_len held ≡ 0 }
         requires room { shards.shards ≤ vec_capacity held }
         ensures number { vec_len result.held ≡ shards.shards }
@@ -41,7 +39,6 @@ impl<A: Ledger, C: Ledger, G> Opened<A, C, G> {
     {
         let Shards {
             shards: mut locks,
-            books,
             registry,
             plan,
             gate,
@@ -51,7 +48,6 @@ impl<A: Ledger, C: Ledger, G> Opened<A, C, G> {
         Opened {
             held,
             locks,
-            books: books.into_inner(),
             registry: registry.into_inner(),
             plan,
             gate,
@@ -65,7 +61,6 @@ impl<A: Ledger, C: Ledger, G> Opened<A, C, G> {
         let Opened {
             held,
             mut locks,
-            books,
             registry,
             plan,
             gate,
@@ -73,7 +68,6 @@ impl<A: Ledger, C: Ledger, G> Opened<A, C, G> {
         lock_all(held, &mut locks);
         Shards {
             shards: locks,
-            books: Mutex::new(books),
             registry: Mutex::new(registry),
             plan,
             gate,
@@ -97,12 +91,11 @@ impl<A: Ledger, C: Ledger, G> Opened<A, C, G> {
         None
     }
 
-    /// Puts the shares of all shards together, and those of all seats, and gives the shards, in a list that has room for them.
+    /// Puts the shares of all shards and of all seats together, and gives the shards, in a list that has room for them.
     pub(crate) fn settle(self, seats: Vec<Seat<C>>, closed: Vec<Shard>) -> Vec<Shard>
     where
         G: Drop,
-        requires entries { A.parts ≡ vec_len self.held }
-        requires calls { C.parts ≡ MOST_SEATS }
+        requires calls { C.parts ≡ MOST_SEATS + vec_len self.held }
         requires seats { self.registry.given ≡ vec_len seats }
         requires agree { All (λ h. AgreesWithAll self.plan.cap seats.items h.shard) self.held.items }
         requires empty { vec_len closed ≡ 0 }
@@ -114,26 +107,26 @@ impl<A: Ledger, C: Ledger, G> Opened<A, C, G> {
         let Opened {
             held,
             locks: _,
-            mut books,
             registry,
             plan: _,
             gate: _,
         } = self;
         let Registry {
             given: _,
-            seats: mut calls,
-            mut entries,
+            seats: mut share,
+            mut calls,
+            entries: _,
         } = registry;
         let mut closed = closed;
-        take_shards(held, &mut closed, &mut entries);
-        take_seats(seats, &mut calls);
-        books.audit(&mut entries, &mut calls);
+        take_shards(held, &mut closed, &mut share);
+        take_seats(seats, &mut share);
+        calls.audit(&mut share);
         closed
     }
 }
 
 /// Takes the shards out of their locks, last ones first, into a list that has room for them.
-fn unlock_all<A: Ledger>(locks: &mut Vec<Mutex<Held<A>>>, held: &mut Vec<Held<A>>)
+fn unlock_all<C: Ledger>(locks: &mut Vec<Mutex<Held<C>>>, held: &mut Vec<Held<C>>)
     requires empty { vec_len held.old ≡ 0 }
     requires room { vec_len locks.old ≤ vec_capacity held.old }
     ensures number { vec_len held.new ≡ vec_len locks.old }
@@ -149,7 +142,7 @@ fn unlock_all<A: Ledger>(locks: &mut Vec<Mutex<Held<A>>>, held: &mut Vec<Held<A>
 }
 
 /// Puts the shards behind locks, last ones first, in a list that has room for them.
-fn lock_all<A: Ledger>(held: Vec<Held<A>>, locks: &mut Vec<Mutex<Held<A>>>)
+fn lock_all<C: Ledger>(held: Vec<Held<C>>, locks: &mut Vec<Mutex<Held<C>>>)
     requires empty { vec_len locks.old ≡ 0 }
     requires room { vec_len held ≤ vec_capacity locks.old }
     ensures { vec_len locks.new ≡ vec_len held }
@@ -164,18 +157,16 @@ fn lock_all<A: Ledger>(held: Vec<Held<A>>, locks: &mut Vec<Mutex<Held<A>>>)
 }
 
 /// Moves the shards, last ones first, to a list that has room for them, and their shares to one share.
-fn take_shards<A: Ledger>(held: Vec<Held<A>>, closed: &mut Vec<Shard>, entries: &mut Share<A>)
+fn take_shards<C: Ledger>(held: Vec<Held<C>>, closed: &mut Vec<Shard>, calls: &mut Share<C>)
     requires empty { vec_len closed.old ≡ 0 }
     requires room { vec_len held ≤ vec_capacity closed.old }
-    requires parts { entries.old.parts ≡ 0 }
-    requires amount { entries.old.amount ≡ 0 }
     ensures shards { closed.new.items ≡ reverse (map (λ h. h.shard) held.items) }
-    ensures parts { entries.new.parts ≡ vec_len held }
-    ensures amount { entries.new.amount ≡ sum_by entries_of closed.new.items }
+    ensures parts { calls.new.parts ≡ calls.old.parts + vec_len held }
+    ensures amount { calls.new.amount ≡ calls.old.amount + sum_by entries_of closed.new.items }
 {
     let mut held = held;
     while let Some(Held { shard, share }) = held.pop() {
-        entries.merge(share);
+        calls.merge(share);
         match closed.push(shard) {
             Ok(()) => {}
             Err(_) => unreachable!(),
@@ -186,7 +177,7 @@ fn take_shards<A: Ledger>(held: Vec<Held<A>>, closed: &mut Vec<Shard>, entries: 
 /// Moves the shares of seats to one share.
 fn take_seats<C: Ledger>(seats: Vec<Seat<C>>, calls: &mut Share<C>)
     ensures parts { calls.new.parts ≡ calls.old.parts + vec_len seats }
-    ensures amount { calls.new.amount ≡ calls.old.amount + sum_by calls_of seats.items }
+    ensures amount { calls.new.amount + sum_by calls_of seats.items ≡ calls.old.amount + vec_len seats * most_calls }
 {
     let mut seats = seats;
     while let Some(seat) = seats.pop() {

@@ -1,18 +1,17 @@
 //! Who calls shards.
-ghost use Rattle.std.specs.Prelude.{◌≡◌, ◌+◌, ◌-◌, ◌<◌, ◌^◌, ℕ, false, IsTrue, take, slice_index, length};
+ghost use Rattle.std.specs.Prelude.{◌≡◌, ◌↔◌, ◌+◌, ◌<◌, ◌^◌, ℕ, [], ◌∷◌, ◌++◌, false, IsTrue, take, slice_index, length};
 ghost use Rattle.coord_shards.specs.Shard.{kept_with, one_more};
-ghost use Rattle.coord_shards.specs.Seat.{SeatState, calls_of};
+ghost use Rattle.coord_shards.specs.Seat.{SeatState, calls_of, most_calls};
 ghost use Rattle.coord_shards.specs.Seat.{IsNewSeat};
 
-use crate::books::Books;
 use crate::counts::no_counts;
 use crate::event::Event;
 use crate::limits::{MOST_SEATS, MOST_SHARDS};
 use crate::sent::Sent;
+use coord_node::{Moment, ParsedBody, Stamp};
 use std::alloc::Global;
 use std::marker::Model;
 use std::sync::ledger::{Ledger, Share};
-use std::sync::{Mutex, Wait};
 
 /// The right to call shards, for one thread at a time. It is of the shards that gave it out, and of no others.
 #[derive(Drop)]
@@ -25,9 +24,9 @@ pub struct Seat<C: Ledger> {
 }
 
 impl<C: Ledger> Model for Seat<C> {
-    ghost use Rattle.std.specs.Prelude.{◌≡◌, ◌<◌, sum, length};
+    ghost use Rattle.std.specs.Prelude.{◌≡◌, ◌+◌, ◌<◌, sum, length};
     ghost use Rattle.coord_shards.specs.Limits.{MOST_SEATS, MOST_SHARDS};
-    ghost use Rattle.coord_shards.specs.Seat.{SeatState};
+    ghost use Rattle.coord_shards.specs.Seat.{SeatState, most_calls};
     ghost use Rattle.coord_shards.specs.Stored.{seat_code};
 
     ghost Value = { SeatState };
@@ -37,15 +36,15 @@ impl<C: Ledger> Model for Seat<C> {
     ghost view = { λ s. record { number = s.number; by_shard = s.by_shard; sent = s.sent.items } };
 
     ghost invariant = { λ s. (s.number < MOST_SEATS) × (length s.by_shard ≡ MOST_SHARDS) × (s.calls ≡ sum s.by_shard)
-        × (s.share.parts ≡ 1) × (s.share.amount ≡ s.calls) };
+        × (s.share.parts ≡ 1) × (s.share.amount + s.calls ≡ most_calls) };
 }
 
 impl<C: Ledger> Seat<C> {
-    /// A seat with a number and a share, from which nothing was called.
+    /// A seat with a number, and with a share of the most calls that it can make, from which nothing was called.
     pub(crate) fn new(alloc: Global, number: usize, share: Share<C>) -> Seat<C>
         requires number { number < MOST_SEATS }
         requires parts { share.parts ≡ 1 }
-        requires amount { share.amount ≡ 0 }
+        requires amount { share.amount ≡ most_calls }
         ensures { IsNewSeat number result }
     {
         Seat {
@@ -97,7 +96,7 @@ impl<C: Ledger> Seat<C> {
         ensures fits { IsTrue result → calls_of self.old + 1 < 2 ^ 64 }
         ensures no { result ≡ false → self.new ≡ self.old }
     {
-        if self.calls == u64::MAX {
+        if !self.has_room() {
             return false;
         }
         if cap == 0 {
@@ -106,7 +105,49 @@ impl<C: Ledger> Seat<C> {
         let Ok(event) = event.copy(alloc) else {
             return false;
         };
+        self.keep(shard, event)
+    }
+
+    /// Notes the event that a frame is, by a copy of its body, which was read, as [`Seat::note`] notes an event.
+    pub(crate) fn note_frame(
+        &mut self,
+        alloc: Global,
+        cap: usize,
+        shard: usize,
+        parsed: &ParsedBody<'_>,
+        stamp: Stamp,
+        moment: Moment,
+    ) -> bool
+        ensures noted { IsTrue result →
+            self.new ≡ record self.old { sent = kept_with cap self.old.sent (record { shard = shard; event = Event.Frame parsed.now stamp moment }) } }
+        ensures fits { IsTrue result → calls_of self.old + 1 < 2 ^ 64 }
+        ensures no { result ≡ false → self.new ≡ self.old }
+    {
+        if !self.has_room() {
+            return false;
+        }
+        if cap == 0 {
+            return true;
+        }
+        let Ok(event) = Event::of_frame(alloc, parsed, stamp, moment) else {
+            return false;
+        };
+        self.keep(shard, event)
+    }
+
+    /// Puts an event last that a shard is to take. Says whether it could: not where memory is short.
+    fn keep(&mut self, shard: usize, event: Event) -> bool
+        ensures kept { IsTrue result → self.new ≡ record self.old { sent = self.old.sent ++ record { shard = shard; event = event } ∷ [] } }
+        ensures no { result ≡ false → self.new ≡ self.old }
+    {
         self.sent.push(Sent { shard, event }).is_ok()
+    }
+
+    /// Whether one more call can be counted: not where the seat's calls are at their greatest number.
+    fn has_room(&self) -> bool
+        ensures { IsTrue result ↔ (calls_of self.now + 1 < 2 ^ 64) }
+    {
+        u64::MAX != self.calls
     }
 
     /// Forgets what was sent but for the first ones.
@@ -116,14 +157,8 @@ impl<C: Ledger> Seat<C> {
         self.sent.truncate(sent);
     }
 
-    /// Enters a call that a shard took: for the seat, and for the share of the shard.
-    pub(crate) fn enter<A: Ledger, R: Wait>(
-        &mut self,
-        rt: &R,
-        books: &Mutex<Books<A, C>>,
-        share: &mut Share<A>,
-        shard: usize,
-    )
+    /// Enters a call that a shard took, and hands it over to the share of the shard.
+    pub(crate) fn enter(&mut self, share: &mut Share<C>, shard: usize)
         requires fits { calls_of self.old + 1 < 2 ^ 64 }
         requires shard { shard < MOST_SHARDS }
         requires part { 0 < share.old.parts }
@@ -139,15 +174,15 @@ impl<C: Ledger> Seat<C> {
             sent: _,
             share: own,
         } = self;
-        books.lock(rt).enter(share, own);
+        own.transfer(share, 1);
         by_shard[shard] += 1;
         *calls += 1;
     }
 
-    /// The share of the seat, whose amount is the seat's calls.
+    /// The share of the seat, with the calls that the seat could still make.
     pub(crate) fn into_share(self) -> Share<C>
         ensures parts { result.parts ≡ 1 }
-        ensures amount { result.amount ≡ calls_of self }
+        ensures amount { result.amount + calls_of self ≡ most_calls }
     {
         let Seat {
             number: _,

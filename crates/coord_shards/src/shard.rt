@@ -1,15 +1,13 @@
 //! A node with its journal.
-ghost use Rattle.std.specs.Prelude.{◌≡◌, ◌↔◌, ℕ, ◌<◌, ◌≤◌, ◌-◌, ◌^◌, IfOk, OnErr, IsTrue, vec_len, vec_capacity, slice_index};
+ghost use Rattle.std.specs.Prelude.{◌≡◌, ◌↔◌, ℕ, ◌<◌, ◌≤◌, ◌-◌, ◌^◌, IfOk, OnOk, OnErr, IsTrue, vec_len, vec_capacity, slice_index};
 ghost use Rattle.coord_shards.specs.Home.{IsHome};
-ghost use Rattle.coord_shards.specs.Incoming.{event_of};
 ghost use Rattle.coord_shards.specs.Shard.{kept_with};
 ghost use Rattle.coord_shards.specs.Replay.{Replay};
-ghost use Rattle.coord_shards.specs.Steps.{IsOpening, IsFull, NodeActs, ShardStep};
+ghost use Rattle.coord_shards.specs.Steps.{IsOpening, IsFull, NodeActs, ShardStep, FrameStep};
 
 use crate::counts::no_counts;
 use crate::entry::Entry;
 use crate::event::{Answer, Event};
-use crate::incoming::Incoming;
 use crate::limits::MOST_SEATS;
 use crate::octets::Octets;
 use crate::plan::Plan;
@@ -131,48 +129,41 @@ impl Shard {
         answer
     }
 
-    /// Takes what is of this shard from a seat, as [`Shard::step`] takes an event.
-    pub(crate) fn take(&mut self, alloc: Global, seat: usize, incoming: Incoming<'_, '_>) -> Answer
-        requires seat { seat < MOST_SEATS }
-        requires home { IsHome self.old.shards (event_of incoming) self.old.number }
-        ensures step { ShardStep self.old (record { seat = seat; event = event_of incoming.entry }) result self.new }
-    {
-        match incoming {
-            Incoming::Event(event) => self.step(alloc, seat, event),
-            Incoming::Frame(parsed, stamp, moment) => {
-                self.step_frame(alloc, seat, parsed, stamp, moment)
-            }
-        }
-    }
-
-    /// Takes a frame of this shard whose body was read, as [`Shard::step`] takes the event that it is. The body is copied only where
-    /// the journal keeps entries.
-    fn step_frame(
+    /// Takes a frame of this shard whose body was read, as [`Shard::step`] takes the event that it is, and appends the bytes of the
+    /// answer. The body is copied only where the journal keeps entries, and before the node's step.
+    ///
+    /// Fails where [`Shard::step`] refuses. Then nothing has changed.
+    pub(crate) fn step_frame(
         &mut self,
         alloc: Global,
         seat: usize,
         parsed: &ParsedBody<'_>,
         stamp: Stamp,
         moment: Moment,
-    ) -> Answer
+        out: &mut Vec<u8>,
+    ) -> Result<Answered, AllocError>
         requires seat { seat < MOST_SEATS }
         requires home { IsHome self.old.shards (Event.Frame parsed.now stamp moment) self.old.number }
-        ensures step { ShardStep self.old (record { seat = seat; event = Event.Frame parsed.now stamp moment }) result self.new }
+        ensures step { IfOk result (λ kind. FrameStep self.old (record { seat = seat; event = Event.Frame parsed.now stamp moment })
+            kind self.new out.old.items out.new.items) }
+        ensures err { OnErr result ((self.new ≡ self.old) × (out.new.items ≡ out.old.items)) }
     {
-        if self.plan.cap != 0 {
-            return match Event::of_frame(alloc, parsed, stamp, moment) {
-                Ok(event) => self.step(alloc, seat, event),
-                Err(_) => Answer::Refused,
-            };
+        if self.is_full() || self.counts[seat] == u64::MAX {
+            return Err(AllocError);
         }
-        if self.counts[seat] == u64::MAX {
-            return Answer::Refused;
+        let kept = self.journal.len();
+        let cap = self.plan.cap;
+        keep_frame(alloc, &mut self.journal, cap, seat, parsed, stamp, moment)?;
+        match self.node.answer_parsed(alloc, parsed, stamp, moment, out) {
+            Ok(answered) => {
+                self.counts[seat] += 1;
+                Ok(answered)
+            }
+            Err(error) => {
+                self.journal.truncate(kept);
+                Err(error)
+            }
         }
-        let Ok(answer) = answer_frame(alloc, &mut self.node, parsed, stamp, moment) else {
-            return Answer::Refused;
-        };
-        self.counts[seat] += 1;
-        answer
     }
 
     /// Whether the journal has as many entries as it may keep. At cap 0 it never is full.
@@ -243,4 +234,27 @@ fn keep(journal: &mut Vec<Entry>, cap: usize, entry: Entry)
         Ok(()) => {}
         Err(_) => unreachable!(),
     }
+}
+
+/// Puts the entry of a frame whose body was read last into a journal that keeps entries, with a copy of the body. Where memory is
+/// short nothing has changed.
+fn keep_frame(
+    alloc: Global,
+    journal: &mut Vec<Entry>,
+    cap: usize,
+    seat: usize,
+    parsed: &ParsedBody<'_>,
+    stamp: Stamp,
+    moment: Moment,
+) -> Result<(), AllocError>
+    ensures kept { OnOk result (journal.new.items
+        ≡ kept_with cap journal.old.items (record { seat = seat; event = Event.Frame parsed.now stamp moment })) }
+    ensures err { OnErr result (journal.new.items ≡ journal.old.items) }
+{
+    if cap == 0 {
+        return Ok(());
+    }
+    let event = Event::of_frame(alloc, parsed, stamp, moment)?;
+    journal.push(Entry { seat, event })?;
+    Ok(())
 }

@@ -1,23 +1,20 @@
 //! Shards behind locks.
-ghost use Rattle.std.specs.Prelude.{◌≡◌, ◌⊎◌, ◌↔◌, ◌+◌, ◌<◌, ◌≤◌, ◌^◌, ℕ, IfOk, IfErr, OnOk, IsErrOf, vec_len};
+ghost use Rattle.std.specs.Prelude.{◌≡◌, ◌⊎◌, ◌↔◌, ◌+◌, ◌<◌, ◌≤◌, ◌^◌, ℕ, IfOk, IfErr, OnOk, OnErr, IsErrOf, vec_len};
 ghost use Rattle.coord_shards.specs.Home.{IsHome};
-ghost use Rattle.coord_shards.specs.Incoming.{event_of};
 ghost use Rattle.coord_shards.specs.Seat.{IsNewSeat, calls_of};
-ghost use Rattle.coord_shards.specs.Calls.{SeatCalls, SeatRises, AnsweredInARun, IsBad};
+ghost use Rattle.coord_shards.specs.Calls.{SeatCalls, TakesFrame, Rises, SeatRises, AnsweredInARun, IsFrameAnswered, IsBad};
 
-use crate::books::Books;
 use crate::event::{Answer, Event};
 use crate::fault::ShardFault;
 use crate::gate::Gate;
 use crate::held::Held;
 use crate::homes::{home, home_of_frame};
-use crate::incoming::Incoming;
 use crate::limits::{MOST_KEPT, MOST_SEATS, MOST_SHARDS};
 use crate::plan::Plan;
-use crate::registry::Registry;
+use crate::registry::{Registry, fill};
 use crate::seat::Seat;
 use crate::shard::Shard;
-use coord_node::{Moment, ParsedBody, Stamp};
+use coord_node::{Answered, Moment, ParsedBody, Stamp};
 use std::alloc::{AllocError, Global};
 use std::collections::hash_map::RandomState;
 use std::marker::Model;
@@ -27,14 +24,14 @@ use std::sync::{Mutex, Wait};
 /// So many shards, each behind a lock of its own.
 ///
 /// Threads share them by reference, each with a [`Seat`]. What a call does to a shard is one [`Shard::step`] under its lock;
-/// no other lock is held round it.
+/// no other lock is taken for it.
 ///
-/// The ledgers `A`, of entries, and `C`, of calls, exist in proofs alone. They tell these shards from others, so that no seat of
-/// others fits, and their sums say at the end that there are as many entries as calls.
+/// The ledgers `A` and `C` exist in proofs alone. They tell these shards from others, so that no seat of others fits. A unit of `C`
+/// is a call: each seat is given as many as it can make, a call hands one over to its shard, and their sum says at the end that
+/// there are as many entries as calls. `A` is kept, so that no other shards have its name, and counts nothing.
 #[derive(Drop)]
 pub struct Shards<A: Ledger, C: Ledger, G> {
-    pub(crate) shards: Vec<Mutex<Held<A>>>,
-    pub(crate) books: Mutex<Books<A, C>>,
+    pub(crate) shards: Vec<Mutex<Held<C>>>,
     pub(crate) registry: Mutex<Registry<A, C>>,
     pub(crate) plan: Plan,
     pub(crate) gate: G,
@@ -55,7 +52,8 @@ impl<A: Ledger, C: Ledger, G> Model for Shards<A, C, G> {
 impl<A: Ledger, C: Ledger, G> Shards<A, C, G> {
     /// So many shards, of which none has met an event: 1 to 64 of them, with a journal of at most 65,536 entries each.
     ///
-    /// The blanks become the ledgers: one part of the entries' for each shard, and one of the calls' for each seat there can be.
+    /// The blanks become the ledgers: that of the entries has one part for each shard, and that of the calls one for each seat there
+    /// can be, and one for each shard.
     pub fn new(
         alloc: Global,
         shards: usize,
@@ -69,7 +67,7 @@ impl<A: Ledger, C: Ledger, G> Shards<A, C, G> {
     where
         G: Drop,
         requires entries { (entries.name ≡ A.name) × (entries.parts ≡ A.parts) × (entries.parts ≡ shards) }
-        requires calls { (calls.name ≡ C.name) × (calls.parts ≡ C.parts) × (calls.parts ≡ MOST_SEATS) }
+        requires calls { (calls.name ≡ C.name) × (calls.parts ≡ C.parts) × (calls.parts ≡ MOST_SEATS + shards) }
         ensures shape { IfOk result (λ made. made ≡ record { shards = shards; salt = salt; cap = cap }) }
         ensures bad { IsBad shards cap ↔ IsErrOf result ShardFault.BadNumber }
         ensures faults { IfErr result (λ fault. (fault ≡ ShardFault.BadNumber) ⊎ (fault ≡ ShardFault.NoMemory)) }
@@ -78,19 +76,20 @@ impl<A: Ledger, C: Ledger, G> Shards<A, C, G> {
             return Err(ShardFault::BadNumber);
         }
         let plan = Plan { salt, cap, hasher };
-        let (entries, mut parts) = entries.open::<A>();
-        let (calls, seats) = calls.open::<C>();
-        let Ok(held) = locked(alloc, shards, plan, &mut parts) else {
+        let (entries, _) = entries.open::<A>();
+        let (mut calls, mut seats) = calls.open::<C>();
+        fill(&mut calls, &mut seats);
+        let Ok(held) = locked(alloc, shards, plan, &mut seats) else {
             return Err(ShardFault::NoMemory);
         };
         let registry = Registry {
             given: 0,
             seats,
-            entries: parts,
+            calls,
+            entries,
         };
         Ok(Shards {
             shards: held,
-            books: Mutex::new(Books { entries, calls }),
             registry: Mutex::new(registry),
             plan,
             gate,
@@ -139,15 +138,18 @@ impl<A: Ledger, C: Ledger, G> Shards<A, C, G> {
         if !seat.note(alloc, self.plan.cap, number, &event) {
             return Answer::Refused;
         }
-        let answer = self.take(rt, alloc, number, seat, Incoming::Event(event));
+        let answer = self.take(rt, alloc, number, seat, event);
         if answer.is_refused() {
             seat.forget(sent);
         }
         answer
     }
 
-    /// Answers the body of a frame from a seat, as [`Shards::call`] answers the event that it is. The body is read once, and is
-    /// copied only where journals keep entries.
+    /// Answers the body of a frame from a seat, as [`Shards::call`] answers the event that it is: appends the one frame of the reply,
+    /// or closes. The body is read once, and is copied only where journals keep entries.
+    ///
+    /// Fails where memory is short, where the shard's journal is full, and where a count is at its greatest. Then nothing has
+    /// changed.
     pub fn answer<R: Wait>(
         &self,
         rt: &R,
@@ -156,14 +158,18 @@ impl<A: Ledger, C: Ledger, G> Shards<A, C, G> {
         body: &[u8],
         stamp: Stamp,
         moment: Moment,
-    ) -> Answer
+        out: &mut Vec<u8>,
+    ) -> Result<Answered, AllocError>
     where
         G: Gate,
-        ensures call { SeatCalls self.now seat.old (Event.Frame body.now stamp moment) result seat.new }
+        // The frame is taken as `call` takes the event that it is, and the bytes of the answer are appended.
+        ensures taken { IfOk result (λ kind.
+            TakesFrame self.now seat.old (Event.Frame body.now stamp moment) kind seat.new out.old.items out.new.items) }
+        ensures err { OnErr result ((seat.new ≡ seat.old) × (out.new.items ≡ out.old.items)) }
     {
         match ParsedBody::of(alloc, body) {
-            Ok(parsed) => self.answer_parsed(rt, alloc, seat, &parsed, stamp, moment),
-            Err(_) => Answer::Refused,
+            Ok(parsed) => self.answer_parsed(rt, alloc, seat, &parsed, stamp, moment, out),
+            Err(error) => Err(error),
         }
     }
 
@@ -176,40 +182,41 @@ impl<A: Ledger, C: Ledger, G> Shards<A, C, G> {
         parsed: &ParsedBody<'_>,
         stamp: Stamp,
         moment: Moment,
-    ) -> Answer
+        out: &mut Vec<u8>,
+    ) -> Result<Answered, AllocError>
     where
         G: Gate,
-        ensures call { SeatCalls self.now seat.old (Event.Frame parsed.now stamp moment) result seat.new }
+        ensures taken { IfOk result (λ kind.
+            TakesFrame self.now seat.old (Event.Frame parsed.now stamp moment) kind seat.new out.old.items out.new.items) }
+        ensures err { OnErr result ((seat.new ≡ seat.old) × (out.new.items ≡ out.old.items)) }
     {
-        if self.plan.cap != 0 {
-            return match Event::of_frame(alloc, parsed, stamp, moment) {
-                Ok(event) => self.call(rt, alloc, seat, event),
-                Err(_) => Answer::Refused,
-            };
-        }
-        if seat.calls() == u64::MAX {
-            return Answer::Refused;
-        }
         let number = home_of_frame(parsed, self.shards.len());
-        let incoming = Incoming::Frame(parsed, stamp, moment);
-        self.take(rt, alloc, number, seat, incoming)
+        let before = seat.sent().len();
+        if !seat.note_frame(alloc, self.plan.cap, number, parsed, stamp, moment) {
+            return Err(AllocError);
+        }
+        let answered = self.take_frame(rt, alloc, number, seat, parsed, stamp, moment, out);
+        if answered.is_err() {
+            seat.forget(before);
+        }
+        answered
     }
 
-    /// The shard with a number takes what is its own from a seat, under its lock.
+    /// The shard with a number takes an event of its own from a seat, under its lock.
     fn take<R: Wait>(
         &self,
         rt: &R,
         alloc: Global,
         number: usize,
         seat: &mut Seat<C>,
-        incoming: Incoming<'_, '_>,
+        event: Event,
     ) -> Answer
     where
         G: Gate,
-        requires home { IsHome self.now.shards (event_of incoming) number }
+        requires home { IsHome self.now.shards event number }
         requires there { number < self.now.shards }
         requires fits { calls_of seat.old + 1 < 2 ^ 64 }
-        ensures answer { AnsweredInARun self.now number (event_of incoming.entry) result }
+        ensures answer { AnsweredInARun self.now number event result }
         ensures seat { SeatRises seat.old number result seat.new }
     {
         let mut guard = self.shards[number].lock(rt);
@@ -221,22 +228,56 @@ impl<A: Ledger, C: Ledger, G> Shards<A, C, G> {
             return Answer::Refused;
         }
         self.gate.inside(number);
-        held.take(rt, alloc, &self.books, seat, incoming)
+        held.step(alloc, seat, event)
+    }
+
+    /// The shard with a number takes a frame of its own, whose body was read, from a seat, under its lock.
+    fn take_frame<R: Wait>(
+        &self,
+        rt: &R,
+        alloc: Global,
+        number: usize,
+        seat: &mut Seat<C>,
+        parsed: &ParsedBody<'_>,
+        stamp: Stamp,
+        moment: Moment,
+        out: &mut Vec<u8>,
+    ) -> Result<Answered, AllocError>
+    where
+        G: Gate,
+        requires home { IsHome self.now.shards (Event.Frame parsed.now stamp moment) number }
+        requires there { number < self.now.shards }
+        requires fits { calls_of seat.old + 1 < 2 ^ 64 }
+        ensures answered { IfOk result (λ kind.
+            IsFrameAnswered self.now number (Event.Frame parsed.now stamp moment) kind out.old.items out.new.items) }
+        ensures seat { OnOk result (Rises seat.old number seat.new) }
+        ensures err { OnErr result ((seat.new ≡ seat.old) × (out.new.items ≡ out.old.items)) }
+    {
+        let mut locked = self.shards[number].lock(rt);
+        let held = &mut *locked;
+        if !held
+            .shard
+            .is_itself(number, self.shards.len(), self.plan.salt)
+        {
+            return Err(AllocError);
+        }
+        self.gate.inside(number);
+        held.step_frame(alloc, seat, parsed, stamp, moment, out)
     }
 }
 
-/// So many new shards behind locks, each with one part of a share that has as many.
-fn locked<A: Ledger>(
+/// So many new shards behind locks, each with one part of a share that has a part for each seat beside them, and nothing of its
+/// amount.
+fn locked<C: Ledger>(
     alloc: Global,
     shards: usize,
     plan: Plan,
-    parts: &mut Share<A>,
-) -> Result<Vec<Mutex<Held<A>>>, AllocError>
-    requires parts { parts.old.parts ≡ shards }
-    requires amount { parts.old.amount ≡ 0 }
+    parts: &mut Share<C>,
+) -> Result<Vec<Mutex<Held<C>>>, AllocError>
+    requires { parts.old.parts ≡ MOST_SEATS + shards }
     ensures number { IfOk result (λ made. vec_len made ≡ shards) }
-    ensures parts { OnOk result (parts.new.parts ≡ 0) }
-    ensures amount { OnOk result (parts.new.amount ≡ 0) }
+    ensures parts { OnOk result (parts.new.parts ≡ MOST_SEATS) }
+    ensures amount { OnOk result (parts.new.amount ≡ parts.old.amount) }
 {
     let mut made = Vec::with_capacity(alloc, shards)?;
     for number in 0..shards {

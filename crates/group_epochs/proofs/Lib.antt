@@ -11,3 +11,4 @@ pub mod Counted
 pub mod Listed
 pub mod Around
 pub mod Halves
+pub mod Found

@@ -7,6 +7,7 @@ mod counts;
 mod deadlines;
 mod entry;
 mod given;
+mod lookup;
 mod names;
 mod order;
 mod past;
@@ -16,6 +17,7 @@ mod sets;
 mod subscribers;
 mod table;
 
+pub use lookup::place_of;
 pub use names::NewNames;
 pub use past::Past;
 pub use record::Record;

@@ -67,6 +67,8 @@ pub struct Records {
     counts: Counts,
     /// No deadline of a member comes before it.
     earliest: Moment,
+    /// The place of the member that a steady beat was last looked up for.
+    last: usize,
 }
 
 impl Model for Records {
@@ -101,6 +103,7 @@ impl Records {
             past: Past::new(alloc, hasher),
             counts: IndexMap::with_hasher(alloc, hasher),
             earliest: Moment::of_millis(u64::MAX),
+            last: 0,
         }
     }
 
@@ -284,7 +287,7 @@ impl Records {
         ensures room { self.new.room ≡ self.old.room }
         ensures no { result ≡ false → self.new ≡ self.old }
     {
-        if !beat_marked(&mut self.members, id, epoch, stamp, now) {
+        if !beat_marked(&mut self.members, &mut self.last, id, epoch, stamp, now) {
             return false;
         }
         self.earliest = earlier(self.earliest, now.plus(SESSION_TIMEOUT));

@@ -9,6 +9,7 @@ ghost use Rattle.group_epochs.specs.declared.entry.Entry.{Entry as Stored};
 ghost use Rattle.group_epochs.specs.Table.{Adds, IsIdOrder, IsMarkedBefore, IsMemberOrder, IsRank, Rewrites, TakesOut, is_due_at, is_row_due, marked_at, with_away, with_beat, with_record_kept, renumbered, text_at, texts_in};
 
 use crate::entry::{Entry, Table};
+use crate::lookup::place_of;
 use crate::order::{add_place, drop_place, guessed_rank, move_place};
 use crate::record::Record;
 use group_types::{EpochNumber, Moment, Stamp};
@@ -74,9 +75,11 @@ pub fn put(
 }
 
 /// Stores the stamp and the time of a heartbeat that gives nothing else, where the member is marked at the epoch and the stamp
-/// comes after its last one. Says whether it did; if not, nothing has changed. Takes no memory, and one look-up.
+/// comes after its last one. Says whether it did; if not, nothing has changed. Takes no memory, and one look-up, which begins with
+/// the member that was looked up last.
 pub fn beat_marked(
     members: &mut Table,
+    last: &mut usize,
     id: &str,
     epoch: EpochNumber,
     stamp: Stamp,
@@ -87,8 +90,12 @@ pub fn beat_marked(
     ensures yes { IsTrue result → Rewrites members.old members.new id.now (with_beat stamp now) }
     ensures no { result ≡ false → members.new ≡ members.old }
 {
-    let Some(entry) = members.get_mut(id) else {
+    let Some(place) = place_of(members, *last, id) else {
         return false;
+    };
+    *last = place;
+    let Some(entry) = members.get_index_mut(place) else {
+        unreachable!()
     };
     if entry.mark != Some(epoch) || !stamp.is_above(entry.kept.stamp()) {
         return false;

@@ -1,5 +1,5 @@
 -- What a worker's poll has registered.
-use Rattle.std.proofs.Common.{◌≡◌, ◌≢◌, ◌⊎◌, ℕ, ◌+◌, ◌-◌, ◌<◌, Bool, true, false, List, [], ◌∷◌, length, get_or, set, All, inl, inr, ⊎_elim, refl, arith, length-set, get_or-set_other, get_or-set_same, Option}
+use Rattle.std.proofs.Common.{◌≡◌, ◌≢◌, ◌⊎◌, ℕ, ◌+◌, ◌<◌, Bool, true, false, List, [], ◌∷◌, length, get_or, set, All, ⊎_elim, refl, arith, length-set, get_or-set_other, get_or-set_same, Option}
 use Rattle.std.proofs.Common.{Contains}
 use Rattle.std.proofs.lemmas.Bool.{cases_eq}
 use Rattle.std.proofs.lemmas.List.Elements.{All-contains}
@@ -12,39 +12,29 @@ use Rattle.link_futures.specs.Workers.{resting_count, RestingNeed, WorkerNeeds}
 use Rattle.link_futures.proofs.TurnLemmas.{Covers_kept}
 
 module _ {R W : Type 0} (read : R → ℕ → Type 0) (write : W → ℕ → Type 0) where
-  -- each line before a place is registered for what it needs, and in a round that isn't the first every line
-  abbrev pub AreArmed : Context → List (Line R W) → ℕ → Bool → Type 0
-  AreArmed cx lines place is_first = (k : ℕ) (d : Line R W) → k < length lines → (k < place) ⊎ (is_first ≡ false) → Covers cx (LineNeeds read write (get_or lines k d))
+  -- each line before a place is registered for what it needs
+  abbrev pub AreArmed : Context → List (Line R W) → ℕ → Type 0
+  AreArmed cx lines place = (k : ℕ) (d : Line R W) → k < length lines → k < place → Covers cx (LineNeeds read write (get_or lines k d))
 
-  -- the line at the place has had a turn, and goes on
-  pub AreArmed-set : (before after : Context) (lines : List (Line R W)) (place : ℕ) (is_first : Bool) (line : Line R W) → Keeps before after → place < length lines
-      → AreArmed before lines place is_first → Covers after (LineNeeds read write line) → AreArmed after (set lines place line) (place + 1) is_first
-  AreArmed-set before after lines place is_first line keeps inside armed new k d below had =
+  -- the line at the place has had its turn, and goes on
+  pub AreArmed-set : (before after : Context) (lines : List (Line R W)) (place : ℕ) (line : Line R W) → Keeps before after → place < length lines
+      → AreArmed before lines place → Covers after (LineNeeds read write line) → AreArmed after (set lines place line) (place + 1)
+  AreArmed-set before after lines place line keeps inside armed new k d below had =
       let sized : length (set lines place line) ≡ length lines = length-set lines place line in
       ⊎_elim
       (λ (same : k ≡ place). rw (same, get_or-set_same) new)
-      (λ (ne : k ≢ place).
-      rw get_or-set_other
-      (Covers_kept before after _ (armed k d (omega arith) (⊎_elim (λ (h : k < place + 1). inl (omega (arith, ne))) (λ (h : is_first ≡ false). inr h) had)) keeps))
+      (λ (ne : k ≢ place). rw get_or-set_other (Covers_kept before after _ (armed k d (omega arith) (omega (arith, ne))) keeps))
       (cases_eq k place)
 
-  -- the line at the place has had a turn and ended, and the last of the n lines has come in its place
-  pub AreArmed-swap_remove : (before after : Context) (lines left : List (Line R W)) (n place : ℕ) (is_first : Bool) (line : Line R W) → Keeps before after
-      → n ≡ length lines → place < n → length left + 1 ≡ n
-      → ((d : Line R W) → place + 1 < n → get_or left place d ≡ get_or (set lines place line) (n - 1) d)
-      × ((k : ℕ) (d : Line R W) → k ≢ place → k + 1 < n → get_or left k d ≡ get_or (set lines place line) k d)
-      → AreArmed before lines place is_first → AreArmed after left place is_first
-  AreArmed-swap_remove before after lines left n place is_first line keeps many inside fewer by_index armed k d below had =
-      ⊎_elim
-      (λ (same : k ≡ place).
-      let last : get_or left place d ≡ get_or (set lines place line) (n - 1) d = by_index.0 d (omega arith) in
-      let ne : n - 1 ≢ place = omega arith in
-      rw (same, last, get_or-set_other)
-      (Covers_kept before after _ (armed (n - 1) d (omega arith) (⊎_elim (λ (h : k < place). absurd (omega arith)) (λ (h : is_first ≡ false). inr h) had)) keeps))
-      (λ (ne : k ≢ place).
-      let stays : get_or left k d ≡ get_or (set lines place line) k d = by_index.1 k d ne (omega arith) in
-      rw (stays, get_or-set_other) (Covers_kept before after _ (armed k d (omega arith) had) keeps))
-      (cases_eq k place)
+  -- the line at the place has had its turn and ended, and the last of the n lines has come in its place
+  pub AreArmed-swap_remove : (before after : Context) (lines left : List (Line R W)) (n place : ℕ) (line : Line R W) → Keeps before after
+      → n ≡ length lines → length left + 1 ≡ n
+      → ((k : ℕ) (d : Line R W) → k ≢ place → k + 1 < n → get_or left k d ≡ get_or (set lines place line) k d)
+      → AreArmed before lines place → AreArmed after left place
+  AreArmed-swap_remove before after lines left n place line keeps many fewer others armed k d below had =
+      let ne : k ≢ place = omega arith in
+      let stays : get_or left k d ≡ get_or (set lines place line) k d = others k d ne (omega arith) in
+      rw (stays, get_or-set_other) (Covers_kept before after _ (armed k d (omega arith) had) keeps)
 
 first_armed : {R W : Type 0} (read : R → ℕ → Type 0) (write : W → ℕ → Type 0) (lines : List (Line R W)) (after : Context)
     → All (λ line. Covers after (LineNeeds read write line)) lines → 0 < length lines → Covers after (λ s. ⊥)

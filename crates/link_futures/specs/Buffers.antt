@@ -1,6 +1,6 @@
 -- What a line holds back: the bytes of frames that aren't answered, and replies that aren't written.
-use Rattle.std.specs.Prelude.{ℕ, List, refl}
-use Rattle.std.specs.List.{flat_map}
+use Rattle.std.specs.Prelude.{ℕ, List, [], ◌∷◌, take, drop, refl}
+use Rattle.std.specs.List.{flat_map, sum_by}
 use Rattle.std.specs.Coded.{Coded, code_by, coded×, coded_list, coded_ℕ}
 use Rattle.link_futures.specs.declared.outbox.Reply.{Reply}
 
@@ -13,8 +13,14 @@ abbrev pub waiting_code : Coded (List Waiting)
 waiting_code =
     coded_list (code_by (ℕ × List ℕ) (coded× coded_ℕ (coded_list coded_ℕ)) (λ w. (w.frame, w.bytes)) (λ p. record { frame = p.0; bytes = p.1 }) (λ _. refl))
 
-abbrev pub waiting_of : Reply → Waiting
-waiting_of r = record { frame = r.frame; bytes = r.bytes.items }
+-- how many bytes of these replies aren't written
+abbrev pub unsent_of : List Reply → ℕ
+unsent_of replies = sum_by (λ r. r.unsent) replies
+
+-- these replies, whose unwritten bytes stand one behind the other
+abbrev pub waiting_in : List Reply → List ℕ → List Waiting
+waiting_in [] bytes = []
+waiting_in (r ∷ rs) bytes = record { frame = r.frame; bytes = take r.unsent bytes } ∷ waiting_in rs (drop r.unsent bytes)
 
 -- all their bytes in order
 abbrev pub bytes_of_all : List Waiting → List ℕ

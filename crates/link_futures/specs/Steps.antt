@@ -38,10 +38,10 @@ module _ {R W : Type 0} where
     pub stays : old.is_over ≡ true → (new.is_over ≡ true) × (new.reader ≡ old.reader)
     pub others : new ≡ record old { reader = new.reader; inbox = new.inbox; is_over = new.is_over }
 
-  -- a frame at most was answered
-  pub record AnswersOn {D : Type 0} (answers : Answering D) (old : Line R W) (d : D) (new : Line R W) (e : D) : Type 0 where
+  -- at most so many frames were answered
+  pub record AnswersOn {D : Type 0} (answers : Answering D) (most : ℕ) (old : Line R W) (d : D) (new : Line R W) (e : D) : Type 0 where
     pub exchanges : List Exchange
-    pub few : length exchanges ≤ 1
+    pub few : length exchanges ≤ most
     pub room : 0 < length exchanges → HasRoom old
     pub each : All (λ x. IsBody x.body) exchanges
     pub framing : old.inbox ≡ frames_of exchanges ++ new.inbox

@@ -66,14 +66,18 @@ module _ {R W D : Type 0} (reads : Passes R) (is_at_end : R → Type 0) (writes 
     pub ends : new.line.is_over ≡ true → (old.line.is_over ≡ true) ⊎ is_at_end new.line.reader
     pub stays : old.line.is_over ≡ true → (new.line.is_over ≡ true) × (new.line.reader ≡ old.line.reader)
 
-  -- The same of one turn: at most 65,536 bytes are read, and none behind a whole frame or a refused size. At most one frame
-  -- is answered, and none while 64 replies or more than 8,388,608 bytes are unsent.
-  pub record Turns (old new : Session R W D) : Type 0 where
+  -- The same of one turn: at most 65,536 bytes are read, and none behind a whole frame or a refused size. At most so many
+  -- frames are answered, and none where 64 replies or more than 8,388,608 bytes are unsent when the turn begins.
+  pub record TurnsUpTo (most : ℕ) (old new : Session R W D) : Type 0 where
     pub talks : Talks old new
     pub short : length talks.read ≤ 65536
     pub wanted : 0 < length talks.read → IsNext Partial (unanswered old.line)
-    pub few : length talks.exchanges ≤ 1
+    pub few : length talks.exchanges ≤ most
     pub room : 0 < length talks.exchanges → HasRoom old.line
+
+  -- a turn that answers at most one frame
+  abbrev pub Turns : Session R W D → Session R W D → Type 0
+  Turns = TurnsUpTo 1
 
 module _ {R W : Type 0} where
   -- at the reader's end between frames, with all replies written

@@ -18,6 +18,10 @@ use std::marker::Model;
 /// The most bytes of a read on a quiet line. A line that waits for the next frame has no room for more.
 const SMALL_READ: usize = 3_072;
 
+/// The most room that a line keeps while it waits for the next frame: for a small read, and for a short frame that the last one
+/// ended in.
+const KEPT: usize = 3_328;
+
 /// The most bytes of any read.
 pub(crate) const LARGEST_READ: usize = 65_536;
 
@@ -41,10 +45,9 @@ pub(crate) enum Next {
 #[derive(Drop)]
 pub(crate) struct Inbox {
     buffer: BytesMut,
-    /// The most bytes of the next read: twice as many after each that took its most, until the line is quiet.
+    /// The most bytes of the next read: twice as many after each that took its most, and half as many after each that took less
+    /// than a quarter.
     room: usize,
-    /// The buffer may have more room than a quiet line needs.
-    has_grown: bool,
     /// How many of the last reads found nothing, or more than that.
     waits: u8,
     alloc: Global,
@@ -68,7 +71,6 @@ impl Inbox {
         Inbox {
             buffer: BytesMut::new(alloc),
             room: SMALL_READ,
-            has_grown: false,
             waits: 0,
             alloc,
         }
@@ -123,13 +125,27 @@ impl Inbox {
         ensures err { OnErr result ((self.new ≡ self.old) × (reader.new ≡ reader.old)) }
         ensures kept { Keeps cx.old cx.new }
     {
-        self.has_grown = self.has_grown || SMALL_READ < self.room || !self.buffer.is_empty();
+        self.make_room()?;
         let part = read_into(&mut self.buffer, self.room, reader, cx)?;
         self.settle(part);
         Ok(part)
     }
 
-    /// After a read: one that took its most makes the next larger, and a line that is quiet gives its room back.
+    /// Makes the room of the next read, and a little more, where there is none. Where no bytes are there, the next come to the front.
+    fn make_room(&mut self) -> Result<(), AllocError>
+        ensures { self.new ≡ self.old }
+    {
+        if self.buffer.is_empty() {
+            self.buffer.clear();
+        }
+        if self.buffer.capacity() == 0 {
+            self.buffer.reserve(self.room.max(KEPT))?;
+        }
+        Ok(())
+    }
+
+    /// After a read: what it took tells how much the next may take, and a line with nothing to read gives back what is more than it
+    /// keeps.
     fn settle(&mut self, part: Part)
         ensures { self.new ≡ self.old }
     {
@@ -138,15 +154,28 @@ impl Inbox {
                 self.waits = 0;
                 if count == self.room {
                     self.room = (2 * count).min(LARGEST_READ);
+                } else if count < self.room / 4 {
+                    self.room = (self.room / 2).max(SMALL_READ);
                 }
             }
             Part::Waits => {
                 self.waits = self.waits.saturating_add(1);
-                if self.has_grown && self.buffer.is_empty() {
-                    *self = Inbox::new(self.alloc);
-                }
+                self.give_room_back();
             }
             Part::Fault => {}
+        }
+    }
+
+    /// A line that waits, and has no bytes, keeps little room.
+    fn give_room_back(&mut self)
+        ensures { self.new ≡ self.old }
+    {
+        if !self.buffer.is_empty() {
+            return;
+        }
+        self.buffer.clear();
+        if KEPT < self.buffer.capacity() {
+            self.buffer = BytesMut::new(self.alloc);
         }
     }
 }

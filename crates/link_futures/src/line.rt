@@ -34,7 +34,7 @@ pub struct Line<R, W> {
 }
 
 impl<R: ReadPart, W: WriteParts> Line<R, W> {
-    ghost use Rattle.link_futures.specs.Stream.{Turns, WantsBytes, LineNeeds, EndsAs, MetNoFault, LeavesDesk};
+    ghost use Rattle.link_futures.specs.Stream.{Turns, TurnsUpTo, WantsBytes, LineNeeds, EndsAs, MetNoFault, LeavesDesk};
     ghost use Rattle.link_futures.specs.Steps.{IsNewLine, IsAnswerable, ReadsOn, AnswersOn, WritesOn, EndsQuietly};
 
     /// The line of the connection with this number. Takes no memory.
@@ -78,11 +78,29 @@ impl<R: ReadPart, W: WriteParts> Line<R, W> {
         ensures armed { OnPending result (Covers cx.new (LineNeeds R.needs W.needs self.new)) }
         ensures kept { Keeps cx.old cx.new }
     {
+        self.turns(cx, desk, 1)
+    }
+
+    /// A turn that lets the desk answer up to so many frames, one after the other, between its one read and its one write.
+    pub(crate) fn turns<D: Desk>(
+        &mut self,
+        cx: &mut Context<'_>,
+        desk: &mut D,
+        most: usize,
+    ) -> Poll<End>
+        ensures stream { (last : D) × TurnsUpTo R.reads R.is_at_end W.writes D.answers most
+            (record { line = self.old; desk = desk.old }) (record { line = self.new; desk = last })
+            × LeavesDesk D.lacks result last desk.new }
+        ensures ends { IfReady result (λ end. EndsAs R.faults W.faults W.stalls end self.old self.new) }
+        ensures goes_on { OnPending result (MetNoFault R.faults W.faults W.stalls self.old self.new) }
+        ensures armed { OnPending result (Covers cx.new (LineNeeds R.needs W.needs self.new)) }
+        ensures kept { Keeps cx.old cx.new }
+    {
         let reader_waits = match self.read(cx) {
             Ok(waits) => waits,
             Err(end) => return Poll::Ready(end),
         };
-        let Ok(()) = self.answer(desk) else {
+        let Ok(()) = self.answer_each(desk, most) else {
             return Poll::Ready(End::NoMemory);
         };
         let writer_waits = match self.write(cx, desk) {
@@ -102,7 +120,7 @@ impl<R: ReadPart, W: WriteParts> Line<R, W> {
     }
 
     /// Whether a frame is there that may be answered.
-    pub(crate) fn has_frame(&self) -> bool {
+    fn has_frame(&self) -> bool {
         self.answerable().is_some()
     }
 
@@ -132,14 +150,31 @@ impl<R: ReadPart, W: WriteParts> Line<R, W> {
         }
     }
 
-    /// Lets the desk answer the frame at the front, where one is there and there is room for its reply.
-    fn answer<D: Desk>(&mut self, desk: &mut D) -> Result<(), AllocError>
-        ensures ok { OnOk result (AnswersOn D.answers self.old desk.old self.new desk.new) }
+    /// Lets the desk answer up to so many frames, one after the other, until none is there that may be answered, or the replies
+    /// fill a write. Where memory is short for one, those before it are answered.
+    fn answer_each<D: Desk>(&mut self, desk: &mut D, most: usize) -> Result<(), AllocError>
+        ensures ok { OnOk result (AnswersOn D.answers most self.old desk.old self.new desk.new) }
+        ensures err { OnErr result ((last : D) × AnswersOn D.answers most self.old desk.old self.new last
+            × ((desk.new ≡ last) ⊎ D.lacks last desk.new)) }
+    {
+        for _place in 0..most {
+            let Some(len) = self.answerable() else {
+                return Ok(());
+            };
+            self.answer(desk, len)?;
+            if !self.outbox.has_room_in_a_write() {
+                return Ok(());
+            }
+        }
+        Ok(())
+    }
+
+    /// Lets the desk answer the frame at the front, whose body has so many bytes.
+    fn answer<D: Desk>(&mut self, desk: &mut D, len: usize) -> Result<(), AllocError>
+        requires { IsAnswerable self.old len }
+        ensures ok { OnOk result (AnswersOn D.answers 1 self.old desk.old self.new desk.new) }
         ensures err { OnErr result ((self.new ≡ self.old) × ((desk.new ≡ desk.old) ⊎ D.lacks desk.old desk.new)) }
     {
-        let Some(len) = self.answerable() else {
-            return Ok(());
-        };
         let stamp = Stamp {
             connection: self.connection,
             frame: self.answered + 1,

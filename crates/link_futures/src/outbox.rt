@@ -1,14 +1,13 @@
 //! The replies that a line has and hasn't written.
-ghost use Rattle.std.specs.Prelude.{◌≡◌, ℕ, ◌+◌, ◌==◌, ◌<◌, ◌≤◌, [], length, map, take, drop, All, IsTrue, ◌↔◌};
+ghost use Rattle.std.specs.Prelude.{◌≡◌, ◌+◌, ◌==◌, ◌^◌, ◌<◌, ◌≤◌, [], length, take, drop, All, IsTrue, ◌↔◌};
 ghost use Rattle.futures.specs.Task.{Covers, Keeps};
 ghost use Rattle.tokio.specs.Io.Moved.{TakesWritten};
-ghost use Rattle.link_futures.specs.Parts.{count_of, faults_of, stalls_of, OnWaits};
-ghost use Rattle.link_futures.specs.Buffers.{waiting_of, bytes_of_all};
+ghost use Rattle.link_futures.specs.Parts.{faults_of, stalls_of, OnWaits};
+ghost use Rattle.link_futures.specs.Buffers.{bytes_of_all, unsent_of};
 
 use crate::desk::Desk;
 use crate::part::Part;
 use crate::writer::WriteParts;
-use bytes::BytesMut;
 use coord_node::{Answered, Stamp};
 use futures::task::Context;
 use std::alloc::{AllocError, Global};
@@ -22,42 +21,47 @@ const MOST_REPLIES: usize = 64;
 /// The most bytes that are unsent when a frame is answered, without its own.
 const MOST_BYTES: usize = 8_388_608;
 
-/// The most parts of one write.
-const MOST_PARTS: usize = 16;
-
-/// The most bytes that replies have together where one write puts them into one part.
+/// With so many unsent bytes a write is worth its while, and no longer waits for further replies.
 const GATHERED: usize = 4_096;
 
 /// The room of the queue that a line keeps while it has nothing to write.
 const QUIET_REPLIES: usize = 8;
 
-/// The bytes of a reply that aren't written, and the number of its frame.
+/// The room for bytes that a line keeps while it has nothing to write.
+const QUIET_BYTES: usize = 512;
+
+/// A buffer with more bytes is long: once more than half of them are written, the others move to its front.
+const LONG: usize = 4_096;
+
+/// The number of a reply's frame, and how many bytes of the reply aren't written.
 #[derive(Drop)]
 pub(crate) struct Reply {
     frame: u64,
-    bytes: BytesMut,
+    unsent: usize,
 }
 
 /// The replies that a line has and hasn't written, in order. Callers see the list of their bytes and frames' numbers.
 #[derive(Drop)]
 pub(crate) struct Outbox {
-    queue: VecDeque<Reply>,
-    /// How many bytes they have.
-    unsent: usize,
+    replies: VecDeque<Reply>,
+    /// The bytes of all replies, one behind the other.
+    bytes: Vec<u8>,
+    /// So many of the first bytes are written.
+    written: usize,
     alloc: Global,
 }
 
 impl Model for Outbox {
-    ghost use Rattle.std.specs.Prelude.{◌≡◌, ◌<◌, List, map, length, All};
-    ghost use Rattle.link_futures.specs.Buffers.{Waiting, waiting_code, waiting_of, bytes_of_all};
+    ghost use Rattle.std.specs.Prelude.{◌≡◌, ◌+◌, ◌<◌, List, drop, length, All};
+    ghost use Rattle.link_futures.specs.Buffers.{Waiting, waiting_code, waiting_in, unsent_of};
 
     ghost Value = { List Waiting };
 
     ghost coded = { waiting_code };
 
-    ghost view = { λ o. map waiting_of o.queue.items };
+    ghost view = { λ o. waiting_in o.replies.items (drop o.written o.bytes.items) };
 
-    ghost invariant = { λ o. (o.unsent ≡ length (bytes_of_all (map waiting_of o.queue.items))) × All (λ r. 0 < length r.bytes.items) o.queue.items };
+    ghost invariant = { λ o. (o.written + unsent_of o.replies.items ≡ length o.bytes.items) × All (λ r. 0 < r.unsent) o.replies.items };
 }
 
 impl Outbox {
@@ -68,27 +72,37 @@ impl Outbox {
         ensures { result ≡ [] }
     {
         Outbox {
-            queue: VecDeque::new(alloc),
-            unsent: 0,
+            replies: VecDeque::new(alloc),
+            bytes: Vec::new(alloc),
+            written: 0,
             alloc,
         }
     }
 
+    #[tactic(auto, using(crate::proofs::QueueLemmas::waiting_length))]
     pub(crate) fn is_empty(&self) -> bool
         ensures { result ≡ (length self.now == 0) }
     {
-        self.queue.is_empty()
+        self.replies.is_empty()
     }
 
     /// Whether a further frame may be answered.
+    #[tactic(auto, using(crate::proofs::QueueLemmas::waiting_length))]
     pub(crate) fn has_room(&self) -> bool
         ensures { IsTrue result ↔ ((length self.now < 64) × (length (bytes_of_all self.now) ≤ 8388608)) }
     {
-        self.queue.len() < MOST_REPLIES && self.unsent <= MOST_BYTES
+        self.replies.len() < MOST_REPLIES && self.unsent() <= MOST_BYTES
     }
 
-    /// Lets the desk answer a frame's body, and keeps its reply. Where memory is short nothing is kept. The room for the
-    /// reply is made first, and its buffer is the desk's own: once the desk has answered, no memory is needed.
+    /// How many bytes aren't written.
+    fn unsent(&self) -> usize
+        ensures { result ≡ length (bytes_of_all self.now) }
+    {
+        self.bytes.len() - self.written
+    }
+
+    /// Lets the desk answer a frame's body, and keeps its reply behind the others. Where memory is short nothing is kept. The room
+    /// in the queue is made first, and the desk appends to the one buffer: once it has answered, no memory is needed.
     pub(crate) fn answer<D: Desk>(
         &mut self,
         desk: &mut D,
@@ -98,15 +112,14 @@ impl Outbox {
         requires { length (bytes_of_all self.old) ≤ 8388608 }
         ensures { AnswersInto D.answers D.lacks desk.old body.now stamp result desk.new self.old self.new }
     {
-        self.queue.reserve(1)?;
-        let mut out = Vec::new(self.alloc);
-        let answered = desk.answer(body, stamp, &mut out)?;
-        let bytes = BytesMut::from_vec(out);
-        let len = bytes.len();
-        if len > 0 {
-            self.unsent += len;
+        widen(&mut self.replies, &mut self.bytes);
+        self.replies.reserve(1)?;
+        let before = self.bytes.len();
+        let answered = desk.answer(body, stamp, &mut self.bytes)?;
+        let unsent = self.bytes.len() - before;
+        if unsent > 0 {
             let frame = stamp.frame;
-            match self.queue.push_back(Reply { frame, bytes }) {
+            match self.replies.push_back(Reply { frame, unsent }) {
                 Ok(()) => {}
                 Err(_) => unreachable!(),
             }
@@ -114,18 +127,19 @@ impl Outbox {
         Ok(answered)
     }
 
-    /// Whether one write may take all replies, and more.
+    /// Whether so few bytes are unsent that a write may wait for those of further replies.
     pub(crate) fn has_room_in_a_write(&self) -> bool {
-        self.unsent < GATHERED
+        self.unsent() < GATHERED
     }
 
     /// How many of the first replies may be written by now, on a connection.
+    #[tactic(auto, using(crate::proofs::QueueLemmas::waiting_length))]
     pub(crate) fn sendable<D: Desk>(&self, desk: &D, connection: u64) -> usize
         ensures { result ≤ length self.now }
     {
-        let most = self.queue.len();
+        let most = self.replies.len();
         for place in 0..most {
-            let frame = self.queue[place].frame;
+            let frame = self.replies[place].frame;
             if !desk.may_send(Stamp { connection, frame }) {
                 return place;
             }
@@ -147,84 +161,91 @@ impl Outbox {
         ensures registered { OnWaits result (Covers cx.new (W.needs writer.new)) }
         ensures kept { Keeps cx.old cx.new }
     {
-        let part = write_front(&self.queue, count, writer, cx);
-        drop_written(&mut self.queue, part.count());
-        self.unsent -= part.count();
-        self.give_room_back();
+        let from = self.written;
+        let to = from + unsent_by(&self.replies, count);
+        let part = writer.poll_write_parts(cx, &[IoSlice::new(&self.bytes[from..to])]);
+        self.drop_written(part.count());
         part
     }
 
-    /// A line with nothing to write keeps little room.
+    /// Drops the first so many bytes of the replies.
+    fn drop_written(&mut self, count: usize)
+        requires { count ≤ length (bytes_of_all self.old) }
+        ensures { bytes_of_all self.new ≡ drop count (bytes_of_all self.old) }
+    {
+        drop_front(&mut self.replies, count);
+        self.written += count;
+        self.give_room_back();
+    }
+
+    /// Removes the bytes that are written where no others are left, or where they are more than half of a long buffer, so that a
+    /// slow reader doesn't make it grow for ever. A line with nothing to write keeps little room.
     fn give_room_back(&mut self)
         ensures { self.new ≡ self.old }
     {
-        if self.queue.is_empty() && QUIET_REPLIES < self.queue.capacity() {
-            self.queue = VecDeque::new(self.alloc);
+        let is_empty = self.replies.is_empty();
+        if is_empty || (LONG < self.bytes.len() && self.bytes.len() / 2 < self.written) {
+            remove_front(&mut self.bytes, self.written);
+            self.written = 0;
+        }
+        if is_empty && QUIET_BYTES < self.bytes.capacity() {
+            self.bytes = Vec::new(self.alloc);
+        }
+        if is_empty && QUIET_REPLIES < self.replies.capacity() {
+            self.replies = VecDeque::new(self.alloc);
         }
     }
 }
 
-/// Writes once, from so many of the first replies: several short ones as one part, and else each as a part of its own.
-fn write_front<W: WriteParts>(
-    queue: &VecDeque<Reply>,
-    count: usize,
-    writer: &mut W,
-    cx: &mut Context<'_>,
-) -> Part
-    requires { count ≤ length queue.now.items }
-    ensures bound { count_of result ≤ length (bytes_of_all (map waiting_of queue.now.items)) }
-    ensures bytes { W.writes writer.old (take (count_of result) (bytes_of_all (map waiting_of queue.now.items))) writer.new }
-    ensures counted { W.faults writer.new ≡ W.faults writer.old + faults_of result }
-    ensures stalled { W.stalls writer.new ≡ W.stalls writer.old + stalls_of result }
-    ensures registered { OnWaits result (Covers cx.new (W.needs writer.new)) }
-    ensures kept { Keeps cx.old cx.new }
+/// Where one reply waits, and so more frames are under way, makes the room of a whole write at once, if it is to be had.
+fn widen(replies: &mut VecDeque<Reply>, bytes: &mut Vec<u8>)
+    ensures replies { replies.new.items ≡ replies.old.items }
+    ensures bytes { bytes.new.items ≡ bytes.old.items }
 {
-    if 1 < count && queue[0].bytes.len() <= GATHERED {
-        let mut room = [0; GATHERED];
-        let len = gather(queue, count, &mut room);
-        return writer.poll_write_parts(cx, &[IoSlice::new(&room[..len])]);
+    if replies.len() == 1 {
+        let _ = replies.reserve(MOST_REPLIES);
+        let _ = bytes.reserve(GATHERED);
     }
-    let most = count.min(MOST_PARTS);
-    let mut parts = [IoSlice::new(&[]); MOST_PARTS];
-    for place in 0..most {
-        parts[place] = IoSlice::new(queue[place].bytes.as_slice());
-    }
-    writer.poll_write_parts(cx, &parts[..most])
 }
 
-/// Copies the bytes of as many of so many first replies as fit to the front of a room. Says how many bytes these are.
-fn gather(queue: &VecDeque<Reply>, count: usize, room: &mut [u8]) -> usize
-    requires { count ≤ length queue.now.items }
-    ensures bound { result ≤ length room.new }
-    ensures bytes { (n : ℕ) × (take result room.new ≡ bytes_of_all (map waiting_of (take n queue.now.items))) }
+/// How many bytes of so many of the first replies aren't written.
+fn unsent_by(replies: &VecDeque<Reply>, count: usize) -> usize
+    requires there { count ≤ length replies.now.items }
+    requires fits { unsent_of replies.now.items < 2 ^ 64 }
+    ensures { result ≡ unsent_of (take count replies.now.items) }
 {
-    let mut len = 0;
+    let mut unsent = 0;
     for place in 0..count {
-        let bytes = queue[place].bytes.as_slice();
-        if room.len() - len < bytes.len() {
-            return len;
-        }
-        room[len..len + bytes.len()].copy_from_slice(bytes);
-        len += bytes.len();
+        unsent += replies[place].unsent;
     }
-    len
+    unsent
 }
 
-/// Drops the first so many bytes of the replies.
-fn drop_written(queue: &mut VecDeque<Reply>, count: usize)
-    requires there { count ≤ length (bytes_of_all (map waiting_of queue.old.items)) }
-    requires some { All (λ r. 0 < length r.bytes.items) queue.old.items }
-    ensures bytes { bytes_of_all (map waiting_of queue.new.items) ≡ drop count (bytes_of_all (map waiting_of queue.old.items)) }
-    ensures some { All (λ r. 0 < length r.bytes.items) queue.new.items }
+/// Takes so many bytes as written from the first replies, and drops those of which none is left.
+fn drop_front(replies: &mut VecDeque<Reply>, count: usize)
+    requires there { count ≤ unsent_of replies.old.items }
+    requires some { All (λ r. 0 < r.unsent) replies.old.items }
+    ensures unsent { unsent_of replies.new.items + count ≡ unsent_of replies.old.items }
+    ensures some { All (λ r. 0 < r.unsent) replies.new.items }
 {
     let mut left = count;
-    while let Some(reply) = queue.front() {
-        let len = reply.bytes.len();
-        if left < len {
-            queue[0].bytes.advance(left);
+    while let Some(reply) = replies.front() {
+        let unsent = reply.unsent;
+        if left < unsent {
+            replies[0].unsent = unsent - left;
             return;
         }
-        left -= len;
-        let _ = queue.pop_front();
+        left -= unsent;
+        let _ = replies.pop_front();
     }
+}
+
+/// Removes so many of the first bytes.
+fn remove_front(bytes: &mut Vec<u8>, count: usize)
+    requires { count ≤ length bytes.old.items }
+    ensures { bytes.new.items ≡ drop count bytes.old.items }
+{
+    let len = bytes.len();
+    bytes.as_mut_slice().copy_within(count..len, 0);
+    bytes.truncate(len - count);
 }

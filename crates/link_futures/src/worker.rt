@@ -17,12 +17,12 @@ use std::alloc::Global;
 /// So many lines have turns and none of them rests: to give them all a turn costs less than to wake one.
 const FEW_LINES: usize = 16;
 
-/// How many further turns a poll gives all its lines together at most, so that one that has much to be answered doesn't keep
-/// the others, or arrivals, waiting.
-const MOST_TURNS: usize = 128;
+/// How many further frames a poll lets all its lines answer together at most, behind one of each, so that a line that has much
+/// to be answered doesn't keep the others, or arrivals, waiting.
+const MOST_FRAMES: usize = 128;
 
-/// Many lines over one desk. A poll looks once for an arrival and gives each line one turn, and those that have a frame waiting
-/// further ones, in turn, so no line waits for another to end; but where there are many, a line that waits for its reader
+/// Many lines over one desk. A poll looks once for an arrival and gives each line one turn, in which it answers a frame and its
+/// share of some further ones, so no line waits for another to end; but where there are many, a line that waits for its reader
 /// alone rests until it is woken. It is ready, with the number of lines that have ended, once arrivals have ended and no line
 /// is left.
 #[derive(Drop)]
@@ -137,8 +137,8 @@ impl<R: ReadPart, W: WriteParts, A: Stream<Item = Line<R, W>>, D: Desk> Future f
 
     ghost needs = { λ w. WorkerNeeds A.needs R.needs W.needs w.arrivals w.is_closed w.lines.items w.resting.lines };
 
-    /// Looks once for an arrival, and gives each line that doesn't rest one turn, and those that have a frame waiting further
-    /// ones.
+    /// Looks once for an arrival, and gives each line that doesn't rest one turn, in which it answers a frame and its share of
+    /// some further ones.
     fn poll(&mut self, cx: &mut Context<'_>) -> Poll<u64> {
         let has_come = self.poll_arrival(cx);
         let has_woken = self.wake(cx);
@@ -188,8 +188,8 @@ fn keep<L: Drop>(lines: &mut Vec<L>, line: Option<L>) {
     }
 }
 
-/// Gives each line one turn, and those that have a frame waiting further ones, in so many rounds that all lines together have
-/// at most `MOST_TURNS` of these. Those that end are dropped, and the others are registered for what they need.
+/// Gives each line a turn, one line behind the other, so that the replies of one go out while the next is answered. Each answers
+/// one frame and its share of `MOST_FRAMES`. Those that end are dropped, and the others are registered for what they need.
 fn take_turns<R: ReadPart, W: WriteParts, D: Desk>(
     lines: &mut Vec<Line<R, W>>,
     cx: &mut Context<'_>,
@@ -198,40 +198,14 @@ fn take_turns<R: ReadPart, W: WriteParts, D: Desk>(
     ensures armed { All (λ line. Covers cx.new (LineNeeds R.needs W.needs line)) lines.new.items }
     ensures kept { Keeps cx.old cx.new }
 {
-    turn_each(lines, cx, desk, true);
-    for _ in 0..MOST_TURNS / lines.len().max(1) {
-        if !turn_each(lines, cx, desk, false) {
-            return;
-        }
-    }
-}
-
-/// One round: gives each line one turn, or, where it isn't the first, each that has a frame waiting. Those that end are dropped,
-/// and the others are registered for what they need. Says whether any line had a turn.
-fn turn_each<R: ReadPart, W: WriteParts, D: Desk>(
-    lines: &mut Vec<Line<R, W>>,
-    cx: &mut Context<'_>,
-    desk: &mut D,
-    is_first: bool,
-) -> bool
-    requires armed { is_first ≡ false → All (λ line. Covers cx.old (LineNeeds R.needs W.needs line)) lines.old.items }
-    ensures armed { All (λ line. Covers cx.new (LineNeeds R.needs W.needs line)) lines.new.items }
-    ensures kept { Keeps cx.old cx.new }
-{
-    let mut has_turned = false;
+    let share = MOST_FRAMES / lines.len().max(1) + 1;
     let mut place = 0;
     while place < lines.len() {
-        if !is_first && !lines[place].has_frame() {
-            place += 1;
-            continue;
-        }
-        has_turned = true;
-        match lines[place].turn(cx, desk) {
+        match lines[place].turns(cx, desk, share) {
             Poll::Pending => place += 1,
             Poll::Ready(_) => {
                 let _ = lines.swap_remove(place);
             }
         }
     }
-    has_turned
 }

@@ -1,5 +1,5 @@
 //! `coord serve`: the server over sockets of this machine.
-ghost use Rattle.std.specs.Prelude.{◌≡◌, ◌≤◌, ◌<◌};
+ghost use Rattle.std.specs.Prelude.{◌≡◌, ◌+◌, ◌≤◌, ◌<◌};
 
 use crate::service::Service;
 use coord_server::{
@@ -82,7 +82,7 @@ where
     };
     print(writer, "listening", u64::from(port))?;
     let salt = moments.first().millis();
-    let (entries, calls) = (Blank::new(shards as u64), Blank::new(SEATS));
+    let (entries, calls) = (Blank::new(shards as u64), Blank::new(SEATS + shards as u64));
     let served = serve_over::<Brand, Brand, _, R>(
         rt, service, keys, salt, socket, &moments, entries, calls,
     )?;
@@ -106,7 +106,7 @@ where
     M: Moments + Clone + Send,
     R: Wait + Threads + Clock + Net + RandomSource + AllocGlobal + Sync,
     requires entries { (entries.name ≡ A.name) × (entries.parts ≡ A.parts) × (entries.parts ≡ service.shards) }
-    requires calls { (calls.name ≡ C.name) × (calls.parts ≡ C.parts) × (calls.parts ≡ 256) }
+    requires calls { (calls.name ≡ C.name) × (calls.parts ≡ C.parts) × (calls.parts ≡ 256 + service.shards) }
 {
     let shards = Shards::<A, C, AlwaysOpen>::new(
         rt.alloc(),

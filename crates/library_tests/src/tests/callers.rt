@@ -44,7 +44,7 @@ fn history<R: Threads + Wait + Sync>(
     alloc: Global,
     hasher: RandomState,
 ) -> Result<String, AllocError> {
-    two_callers::<Brand, Brand, R>(rt, alloc, hasher, Blank::new(2), Blank::new(256))
+    two_callers::<Brand, Brand, R>(rt, alloc, hasher, Blank::new(2), Blank::new(258))
 }
 
 /// What two callers and the shards that they called come to.
@@ -56,7 +56,7 @@ fn two_callers<A: Ledger + Sync, C: Ledger + Sync, R: Threads + Wait + Sync>(
     calls: Blank,
 ) -> Result<String, AllocError>
     requires entries { (entries.name ≡ A.name) × (entries.parts ≡ A.parts) × (entries.parts ≡ 2) }
-    requires calls { (calls.name ≡ C.name) × (calls.parts ≡ C.parts) × (calls.parts ≡ 256) }
+    requires calls { (calls.name ≡ C.name) × (calls.parts ≡ C.parts) × (calls.parts ≡ 258) }
 {
     let made = Shards::<A, C, AlwaysOpen>::new(
         alloc, 2, 0, 65_536, hasher, AlwaysOpen, entries, calls,
@@ -344,7 +344,7 @@ fn sums<R: Threads + Wait + Sync>(
     alloc: Global,
     hasher: RandomState,
 ) -> Result<String, AllocError> {
-    four_callers::<Brand, Brand, R>(rt, alloc, hasher, Blank::new(4), Blank::new(256))
+    four_callers::<Brand, Brand, R>(rt, alloc, hasher, Blank::new(4), Blank::new(260))
 }
 
 /// What four callers and the shards that they called come to.
@@ -356,7 +356,7 @@ fn four_callers<A: Ledger + Sync, C: Ledger + Sync, R: Threads + Wait + Sync>(
     calls: Blank,
 ) -> Result<String, AllocError>
     requires entries { (entries.name ≡ A.name) × (entries.parts ≡ A.parts) × (entries.parts ≡ 4) }
-    requires calls { (calls.name ≡ C.name) × (calls.parts ≡ C.parts) × (calls.parts ≡ 256) }
+    requires calls { (calls.name ≡ C.name) × (calls.parts ≡ C.parts) × (calls.parts ≡ 260) }
 {
     let made = Shards::<A, C, AlwaysOpen>::new(alloc, 4, 0, 0, hasher, AlwaysOpen, entries, calls);
     let shards = made.map_err(|_| AllocError)?;

@@ -298,7 +298,7 @@ where
         Ok(moments) => moments,
         Err(error) => return Err(ServerFault::System(error)),
     };
-    let (entries, calls) = (Blank::new(2), Blank::new(256));
+    let (entries, calls) = (Blank::new(2), Blank::new(258));
     sockets_over::<Brand, Brand, G, _, R>(rt, gate, &moments, plan, client, entries, calls)
 }
 
@@ -325,7 +325,7 @@ where
         + AllocGlobal
         + Sync,
     requires entries { (entries.name ≡ A.name) × (entries.parts ≡ A.parts) × (entries.parts ≡ 2) }
-    requires calls { (calls.name ≡ C.name) × (calls.parts ≡ C.parts) × (calls.parts ≡ 256) }
+    requires calls { (calls.name ≡ C.name) × (calls.parts ≡ C.parts) × (calls.parts ≡ 258) }
     requires plan { 0 < plan.workers }
 {
     let shards = shards_over::<A, C, G, _, R>(rt, gate, moments, entries, calls)?;
@@ -384,7 +384,7 @@ where
     M: Moments + Clone,
     R: Wait + Clock + RandomSource + AllocGlobal,
     requires entries { (entries.name ≡ A.name) × (entries.parts ≡ A.parts) × (entries.parts ≡ 2) }
-    requires calls { (calls.name ≡ C.name) × (calls.parts ≡ C.parts) × (calls.parts ≡ 256) }
+    requires calls { (calls.name ≡ C.name) × (calls.parts ≡ C.parts) × (calls.parts ≡ 258) }
 {
     let hasher = RandomState::new(rt)?;
     let shards = Shards::<A, C, G>::new(rt.alloc(), 2, 0, 0, hasher, gate, entries, calls)?;
@@ -419,7 +419,7 @@ where
         Ok(moments) => moments,
         Err(error) => return Err(ServerFault::System(error)),
     };
-    let (entries, calls) = (Blank::new(2), Blank::new(256));
+    let (entries, calls) = (Blank::new(2), Blank::new(258));
     memory_over::<Brand, Brand, G, _, R>(rt, gate, &moments, plan, frames, entries, calls)
 }
 
@@ -440,7 +440,7 @@ where
     M: Moments + Clone + Send,
     R: Wait + Threads + Clock + Net + RandomSource + AllocGlobal + Sync,
     requires entries { (entries.name ≡ A.name) × (entries.parts ≡ A.parts) × (entries.parts ≡ 2) }
-    requires calls { (calls.name ≡ C.name) × (calls.parts ≡ C.parts) × (calls.parts ≡ 256) }
+    requires calls { (calls.name ≡ C.name) × (calls.parts ≡ C.parts) × (calls.parts ≡ 258) }
     requires plan { 0 < plan.workers }
 {
     let shards = shards_over::<A, C, G, _, R>(rt, gate, moments, entries, calls)?;

@@ -1,12 +1,13 @@
 //! Shards, their seats and their journals, with answers worked out by hand from KIP-848 and from what the crate says of
 //! homes, caps and seats.
-ghost use Rattle.std.specs.Prelude.{◌≡◌};
+ghost use Rattle.std.specs.Prelude.{◌≡◌, ◌+◌, ◌≤◌};
 
 use super::frames::{join_body, put_answer};
 use super::groups::image_of;
 use super::tables::{self, cut, part_words};
 use coord_shards::{
-    AlwaysOpen, Answer, Event, Moment, Octets, Seat, Shard, ShardFault, Shards, Stamp, home,
+    AlwaysOpen, Answer, Answered, Event, Moment, Octets, Seat, Shard, ShardFault, Shards, Stamp,
+    home,
 };
 use std::alloc::{AllocError, Global};
 use std::collections::hash_map::RandomState;
@@ -90,12 +91,15 @@ fn answer<R: Wait>(
 ) -> Result<String, AllocError> {
     let (size, steps) = words.split_once("; ").unwrap_or((words, ""));
     let (shards, cap) = cut(size);
+    let shards: usize = tables::number(shards);
     let question = Question {
-        shards: tables::number(shards),
+        // No row asks for more.
+        shards: shards.min(65),
         cap: tables::number(cap),
         steps,
     };
-    let (entries, calls) = (Blank::new(question.shards as u64), Blank::new(256));
+    let shards = question.shards as u64;
+    let (entries, calls) = (Blank::new(shards), Blank::new(256 + shards));
     told::<Brand, Brand, R>(rt, alloc, hasher, question, entries, calls)
 }
 
@@ -109,7 +113,7 @@ fn told<A: Ledger, C: Ledger, R: Wait>(
     calls: Blank,
 ) -> Result<String, AllocError>
     requires entries { (entries.name ≡ A.name) × (entries.parts ≡ A.parts) × (entries.parts ≡ question.shards) }
-    requires calls { (calls.name ≡ C.name) × (calls.parts ≡ C.parts) × (calls.parts ≡ 256) }
+    requires calls { (calls.name ≡ C.name) × (calls.parts ≡ C.parts) × (calls.parts ≡ 256 + question.shards) }
 {
     let mut out = String::new(alloc);
     let Question { shards, cap, steps } = question;
@@ -231,14 +235,13 @@ fn send<A: Ledger, C: Ledger, R: Wait>(
     }
     let (_, group) = cut(step.words);
     let body = body(alloc, group)?;
-    Ok(shards.answer(
-        rt,
-        alloc,
-        seat,
-        body.as_slice(),
-        stamp(step.number),
-        Moment::of_millis(0),
-    ))
+    let (body, stamp, moment) = (body.as_slice(), stamp(step.number), Moment::of_millis(0));
+    let mut out = Vec::new(alloc);
+    match shards.answer(rt, alloc, seat, body, stamp, moment, &mut out) {
+        Ok(Answered::Replied) => Ok(Answer::Replied(Octets::of(out))),
+        Ok(Answered::Closes) => Ok(Answer::Closes),
+        Err(_) => Ok(Answer::Refused),
+    }
 }
 
 /// The event of a step.
@@ -292,7 +295,7 @@ fn close<A: Ledger, C: Ledger>(
     out: &mut String,
 ) -> Result<(), AllocError>
     requires entries { A.parts ≡ shards.shards }
-    requires calls { C.parts ≡ 256 }
+    requires calls { C.parts ≡ 256 + shards.shards }
 {
     part_words(out)?;
     out.push('|')?;
@@ -320,7 +323,7 @@ fn close_all<A: Ledger, C: Ledger>(
     out: &mut String,
 ) -> Result<(), AllocError>
     requires entries { A.parts ≡ shards.shards }
-    requires calls { C.parts ≡ 256 }
+    requires calls { C.parts ≡ 256 + shards.shards }
 {
     match shards.close(alloc, seats) {
         Ok(closed) => put_shards(&closed, out),

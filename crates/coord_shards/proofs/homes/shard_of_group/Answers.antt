@@ -1,5 +1,5 @@
-use Rattle.std.proofs.Common.{◌≡◌, ◌+◌, ◌%◌, sum, take, sym, ap, ◌∙◌}
-use Rattle.std.proofs.Math.Nat.{mod-lt, mod-add-mod, add-mod-mod}
+use Rattle.std.proofs.Common.{◌+◌, ◌%◌, sum, take, get_or, sym, ap, ◌∙◌}
+use Rattle.std.proofs.Math.Nat.{mod-add-mod}
 use Rattle.std.proofs.lemmas.List.Sums.{sum_by_more}
 use Rattle.coord_shards.proofs.homes.shard_of_group.Goals as goal
 
@@ -9,11 +9,9 @@ loop-byte-preserved c =
     let bytes = c.as_bytes-byte-items.result.now in
     let i = c.loop-byte.byte-index in
     let so_far = sum (take i bytes) in
-    let is : c.sum_modulo-number.result ≡ sum (take (i + 1) bytes) % n =
-    c.sum_modulo-number.ensures
-    ∙ ap (λ a. (a + c.from.result % n) % n) c.loop-byte.invariant.0
-    ∙ add-mod-mod (so_far % n) c.from.result n
-    ∙ mod-add-mod so_far n c.from.result
-    ∙ ap (λ b. (so_far + b) % n) c.from.ensures
-    ∙ ap (λ a. a % n) (sym (sum_by_more (λ b. b) bytes i 0 c.loop-byte-test.true)) in
-    (is, rw is (mod-lt _ c.requires))
+    let byte = get_or bytes i 0 in
+    c.plus_byte-number.ensures
+    ∙ sym (mod-add-mod c.loop-byte.number n byte)
+    ∙ ap (λ a. (a + byte) % n) c.loop-byte.invariant
+    ∙ mod-add-mod so_far n byte
+    ∙ ap (λ a. a % n) (sym (sum_by_more (λ b. b) bytes i 0 c.loop-byte-test.true))

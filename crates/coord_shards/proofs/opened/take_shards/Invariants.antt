@@ -8,8 +8,8 @@ invariant-loop-shard g l =
       shards : l.closed.items ++ reverse (map (λ h. h.shard) l.held.items) ≡ reverse (map (λ h. h.shard) l.initial.held.items);
       all : vec_len l.closed + vec_len l.held ≡ vec_len l.initial.held;
       room : vec_len l.initial.held ≤ vec_capacity l.closed;
-      parts : l.entries.parts ≡ vec_len l.closed;
-      amount : l.entries.amount ≡ sum_by entries_of l.closed.items;
+      parts : l.calls.parts ≡ l.initial.calls.parts + vec_len l.closed;
+      amount : l.calls.amount ≡ l.initial.calls.amount + sum_by entries_of l.closed.items;
     }
 
 abbrev pub decreases-loop-shard : goal.decreases-loop-shard

@@ -8,13 +8,14 @@ use Rattle.group_types.specs.Topics.{Topics}
 use Rattle.group_types.specs.HeartbeatStep.{Arrival, HeartbeatStep}
 use Rattle.group_epochs.specs.Request.{arrival_of}
 use Rattle.group_core.specs.Outcome.{answer_of}
+use Rattle.group_epochs.proofs.Found.{set_value_at-itself}
 use Rattle.coord_node.specs.declared.kept.Kept.{Kept}
 use Rattle.coord_node.specs.Coordinator.{Coordinator, Groups}
 use Rattle.coord_node.specs.Kept.{IsKept}
 use Rattle.coord_node.specs.NodeView.{groups_of}
 use Rattle.coord_node.specs.Steps.{with_group}
 use Rattle.coord_node.proofs.AnswerLemmas.{at_present}
-use Rattle.coord_node.proofs.GroupLemmas.{as_map-set, get-as_map, OfEach-at, OfEach-set, length-set_value_at, set_value_at-itself, absent_entry}
+use Rattle.coord_node.proofs.GroupLemmas.{as_map-set, get-as_map, OfEach-at, OfEach-set, length-set_value_at, absent_entry}
 use Rattle.coord_node.proofs.node.Node.outcome_of.Goals as goal
 
 abbrev group_in : Kept → Group

@@ -7,13 +7,14 @@ use Rattle.group_types.specs.Group.{Group}
 use Rattle.group_types.specs.Topics.{Topics}
 use Rattle.group_epochs.specs.Request.{commit_of}
 use Rattle.group_core.specs.Commits.{Commits}
+use Rattle.group_epochs.proofs.Found.{set_value_at-itself}
 use Rattle.coord_node.specs.declared.kept.Kept.{Kept}
 use Rattle.coord_node.specs.Coordinator.{Coordinator, Groups}
 use Rattle.coord_node.specs.Kept.{IsKept}
 use Rattle.coord_node.specs.NodeView.{groups_of}
 use Rattle.coord_node.specs.Steps.{with_group}
 use Rattle.coord_node.proofs.CommitLemmas.{commits_at_absent, commits_at_present}
-use Rattle.coord_node.proofs.GroupLemmas.{as_map-set, get-as_map, OfEach-at, OfEach-set, length-set_value_at, set_value_at-itself, absent_entry}
+use Rattle.coord_node.proofs.GroupLemmas.{as_map-set, get-as_map, OfEach-at, OfEach-set, length-set_value_at, absent_entry}
 use Rattle.coord_node.proofs.node.Node.reply_of_commit.Goals as goal
 
 abbrev group_in : Kept → Group
