@@ -103,6 +103,12 @@ def shown(answer, edit, named):
     return f"{word}: {why}" if why else word
 
 
+def faults_in(answers, named):
+    """A line for each edit that failed."""
+    bad = [edit for edit, answer in answers.items() if answer[0] != LEFT_OUT and not is_good(answer, edit, named)]
+    return sorted(f"{edit.label}: {shown(answers[edit], edit, named)}" for edit in bad)
+
+
 def tally(answers, named):
     left = sum(answer[0] == LEFT_OUT for answer in answers.values())
     passed = sum(is_good(answer, edit, named) for edit, answer in answers.items())

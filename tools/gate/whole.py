@@ -28,13 +28,13 @@ LAST_LINE = re.compile(r"(\d+) passed, (\d+) failed")
 
 
 class Gate:
-    """One run of the gate: what has passed and failed so far."""
+    """One run of the gate: what has passed and failed so far, and which parts of it failed, a line each."""
 
     def __init__(self, root, room):
         self.root, self.room = root, room
         self.clock = schedule.Clock(minutes())
         self.passed = self.failed = 0
-        self.left = []
+        self.left, self.faults = [], []
         self.tree = None
 
     def say(self, line):
@@ -44,6 +44,8 @@ class Gate:
     def count(self, what, passed, failed):
         self.passed, self.failed = self.passed + passed, self.failed + failed
         self.say(f"{what}: {passed} passed, {failed} failed")
+        if failed:
+            self.faults.append(f"{what}: {failed} failed")
 
     def run(self, command):
         """Runs every step with `command` as the prover of the whole tree, and returns the exit status."""
@@ -140,14 +142,17 @@ class Gate:
         answers, tally = runner.run(tried, named)
         self.left = sorted(edit.label for edit, answer in answers.items() if answer[0] == sweep.LEFT_OUT)
         self.count("edits", tally.passed, tally.failed + bad)
+        self.faults += sweep.faults_in(answers, named)
 
     def sum_up(self):
-        """Says what was left out, and prints the last line."""
+        """Says what was left out and what failed, and prints the last line."""
         for label in self.left:
             self.say(f"left out: {label}")
         if self.left:
             why = f"{self.clock.minutes:g} minutes are over ({MINUTES_NAME})"
             self.say(f"{len(self.left)} edits were left out, since {why}")
+        for fault in self.faults:
+            self.say(f"failed: {fault}")
         left = f", {len(self.left)} left out" if self.left else ""
         print(f"{self.passed} passed, {self.failed} failed{left}", flush=True)
         return 1 if self.failed or not self.passed else 0

@@ -1,5 +1,5 @@
 //! A frame's body that has been read.
-ghost use Rattle.std.specs.Prelude.{◌≡◌, IfOk, length};
+ghost use Rattle.std.specs.Prelude.{◌≡◌, IfOk};
 ghost use Rattle.std.specs.Option.{option_copied};
 ghost use Rattle.coord_node.specs.Parsed.{IsGroupOf};
 

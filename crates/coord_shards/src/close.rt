@@ -30,7 +30,6 @@ impl<A: Ledger, C: Ledger, G> Shards<A, C, G> {
     pub fn close(self, alloc: Global, seats: Vec<Seat<C>>) -> Result<Vec<Shard>, Unclosed<A, C, G>>
     where
         G: Drop,
-        requires entries { A.parts ≡ self.shards }
         requires calls { C.parts ≡ MOST_SEATS + self.shards }
         ensures number { IfOk result (λ shards. vec_len shards ≡ self.shards) }
         ensures agree { IfOk result (λ shards. All (AgreesWithAll self.cap seats.items) shards.items) }

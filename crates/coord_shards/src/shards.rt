@@ -52,8 +52,8 @@ impl<A: Ledger, C: Ledger, G> Model for Shards<A, C, G> {
 impl<A: Ledger, C: Ledger, G> Shards<A, C, G> {
     /// So many shards, of which none has met an event: 1 to 64 of them, with a journal of at most 65,536 entries each.
     ///
-    /// The blanks become the ledgers: that of the entries has one part for each shard, and that of the calls one for each seat there
-    /// can be, and one for each shard.
+    /// The blanks become the ledgers: that of the calls has one part for each seat there can be and one for each shard, and that
+    /// of the entries any number, since nothing is counted in it.
     pub fn new(
         alloc: Global,
         shards: usize,
@@ -66,7 +66,7 @@ impl<A: Ledger, C: Ledger, G> Shards<A, C, G> {
     ) -> Result<Shards<A, C, G>, ShardFault>
     where
         G: Drop,
-        requires entries { (entries.name ≡ A.name) × (entries.parts ≡ A.parts) × (entries.parts ≡ shards) }
+        requires entries { (entries.name ≡ A.name) × (entries.parts ≡ A.parts) }
         requires calls { (calls.name ≡ C.name) × (calls.parts ≡ C.parts) × (calls.parts ≡ MOST_SEATS + shards) }
         ensures shape { IfOk result (λ made. made ≡ record { shards = shards; salt = salt; cap = cap }) }
         ensures bad { IsBad shards cap ↔ IsErrOf result ShardFault.BadNumber }

@@ -45,8 +45,8 @@ pub(crate) enum Next {
 #[derive(Drop)]
 pub(crate) struct Inbox {
     buffer: BytesMut,
-    /// The most bytes of the next read: twice as many after each that took its most, and half as many after each that took less
-    /// than a quarter.
+    /// The most bytes of the next read: twice as many after each that took its most, half as many after each that took less
+    /// than a quarter, and few once the line is quiet.
     room: usize,
     /// How many of the last reads found nothing, or more than that.
     waits: u8,
@@ -160,6 +160,9 @@ impl Inbox {
             }
             Part::Waits => {
                 self.waits = self.waits.saturating_add(1);
+                if self.is_quiet() {
+                    self.room = SMALL_READ;
+                }
                 self.give_room_back();
             }
             Part::Fault => {}

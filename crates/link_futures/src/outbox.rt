@@ -109,7 +109,6 @@ impl Outbox {
         body: &[u8],
         stamp: Stamp,
     ) -> Result<Answered, AllocError>
-        requires { length (bytes_of_all self.old) ≤ 8388608 }
         ensures { AnswersInto D.answers D.lacks desk.old body.now stamp result desk.new self.old self.new }
     {
         widen(&mut self.replies, &mut self.bytes);

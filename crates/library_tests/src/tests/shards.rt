@@ -294,7 +294,6 @@ fn close<A: Ledger, C: Ledger>(
     seats: Vec<Seat<C>>,
     out: &mut String,
 ) -> Result<(), AllocError>
-    requires entries { A.parts ≡ shards.shards }
     requires calls { C.parts ≡ 256 + shards.shards }
 {
     part_words(out)?;
@@ -322,7 +321,6 @@ fn close_all<A: Ledger, C: Ledger>(
     seats: Vec<Seat<C>>,
     out: &mut String,
 ) -> Result<(), AllocError>
-    requires entries { A.parts ≡ shards.shards }
     requires calls { C.parts ≡ 256 + shards.shards }
 {
     match shards.close(alloc, seats) {
