@@ -17,14 +17,13 @@ use std::alloc::Global;
 /// So many lines have turns and none of them rests: to give them all a turn costs less than to wake one.
 const FEW_LINES: usize = 16;
 
-/// How many further frames a poll lets all its lines answer together at most, behind one of each, so that a line that has much
-/// to be answered doesn't keep the others, or arrivals, waiting.
-const MOST_FRAMES: usize = 128;
+/// How many frames a line answers in a turn at most, so that one that has much to be answered doesn't keep the others, or arrivals,
+/// waiting. As many replies may wait for its writer.
+const MOST_FRAMES: usize = 64;
 
-/// Many lines over one desk. A poll looks once for an arrival and gives each line one turn, in which it answers a frame and its
-/// share of some further ones, so no line waits for another to end; but where there are many, a line that waits for its reader
-/// alone rests until it is woken. It is ready, with the number of lines that have ended, once arrivals have ended and no line
-/// is left.
+/// Many lines over one desk. A poll looks once for an arrival and gives each line one turn, in which it answers what it has read,
+/// up to `MOST_FRAMES`, so no line waits for another to end; but where there are many, a line that waits for its reader alone
+/// rests until it is woken. It is ready, with the number of lines that have ended, once arrivals have ended and no line is left.
 #[derive(Drop)]
 pub struct Worker<A: Stream, D> {
     arrivals: A,
@@ -137,8 +136,7 @@ impl<R: ReadPart, W: WriteParts, A: Stream<Item = Line<R, W>>, D: Desk> Future f
 
     ghost needs = { λ w. WorkerNeeds A.needs R.needs W.needs w.arrivals w.is_closed w.lines.items w.resting.lines };
 
-    /// Looks once for an arrival, and gives each line that doesn't rest one turn, in which it answers a frame and its share of
-    /// some further ones.
+    /// Looks once for an arrival, and gives each line that doesn't rest one turn.
     fn poll(&mut self, cx: &mut Context<'_>) -> Poll<u64> {
         let has_come = self.poll_arrival(cx);
         let has_woken = self.wake(cx);
@@ -188,8 +186,8 @@ fn keep<L: Drop>(lines: &mut Vec<L>, line: Option<L>) {
     }
 }
 
-/// Gives each line a turn, one line behind the other, so that the replies of one go out while the next is answered. Each answers
-/// one frame and its share of `MOST_FRAMES`. Those that end are dropped, and the others are registered for what they need.
+/// Gives each line a turn, one line behind the other, so that the replies of one go out while the next is answered. Those that end
+/// are dropped, and the others are registered for what they need.
 fn take_turns<R: ReadPart, W: WriteParts, D: Desk>(
     lines: &mut Vec<Line<R, W>>,
     cx: &mut Context<'_>,
@@ -198,10 +196,9 @@ fn take_turns<R: ReadPart, W: WriteParts, D: Desk>(
     ensures armed { All (λ line. Covers cx.new (LineNeeds R.needs W.needs line)) lines.new.items }
     ensures kept { Keeps cx.old cx.new }
 {
-    let share = MOST_FRAMES / lines.len().max(1) + 1;
     let mut place = 0;
     while place < lines.len() {
-        match lines[place].turns(cx, desk, share) {
+        match lines[place].turns(cx, desk, MOST_FRAMES) {
             Poll::Pending => place += 1,
             Poll::Ready(_) => {
                 let _ = lines.swap_remove(place);
