@@ -1,5 +1,5 @@
 //! A reader and a writer over memory that follow a list of what each poll does.
-ghost use Rattle.std.specs.Prelude.{◌≡◌, ◌<◌, ◌≤◌, [], ◌++◌, length, take, IfOk, refl};
+ghost use Rattle.std.specs.Prelude.{◌≡◌, ◌<◌, ◌≤◌, [], ◌++◌, length, take, IfOk, refl, vec_capacity};
 ghost use Rattle.std.proofs.Common.{rules};
 ghost use Rattle.std.proofs.lemmas.Grind.{common_steps};
 ghost use Rattle.std.specs.Io.Slices.{io_slices_bytes};
@@ -91,6 +91,7 @@ impl Drain {
     /// A writer that has taken no byte. All its memory is taken here.
     pub fn new(alloc: Global, room: usize, acts: VecDeque<PollAct>) -> Result<Drain, AllocError>
         ensures nothing { IfOk result (λ drain. drain.taken.items ≡ []) }
+        ensures room { IfOk result (λ drain. room ≤ vec_capacity drain.taken) }
         ensures acts { IfOk result (λ drain. drain.acts ≡ acts) }
     {
         let taken = Vec::with_capacity(alloc, room)?;
