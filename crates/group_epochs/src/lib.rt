@@ -17,8 +17,14 @@ mod sets;
 mod subscribers;
 mod table;
 
+pub use group_types::{
+    AssignorName, Epoch, EpochNumber, MemberId, Moment, NameSet, PartSet, Stamp,
+};
+pub use kip_msgs::HeartbeatRequest;
 pub use lookup::place_of;
 pub use names::NewNames;
 pub use past::Past;
+pub use range_assign::{Subs, Subscriber};
 pub use record::Record;
 pub use records::{NewMember, Records};
+pub use topic_meta::{Image, View};

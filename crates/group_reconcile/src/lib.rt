@@ -12,4 +12,5 @@ mod table;
 mod verdict;
 
 pub use grants::Grants;
+pub use group_types::{EpochNumber, MemberId, PartSet, Partition, Wanted};
 pub use verdict::Verdict;

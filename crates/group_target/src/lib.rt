@@ -6,5 +6,7 @@
 
 mod target;
 
+pub use group_types::{AssignorName, EpochNumber, MemberId, PartSet, Wanted};
 pub use range_assign::{Subs, Subscriber};
 pub use target::Target;
+pub use topic_meta::View;

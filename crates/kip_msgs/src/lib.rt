@@ -25,6 +25,7 @@ pub use commit::{
     CommitRequestTopic,
 };
 pub use fault::MsgFault;
+pub use flex_wire::{TaggedField, TaggedFields, WireFault};
 pub use header::{RequestHeader, ResponseHeader};
 pub use heartbeat::{Assignment, HeartbeatReply, HeartbeatRequest, TopicPartitions};
 pub use laws::{one_body_a_message, one_reply_a_body, one_request_a_body};

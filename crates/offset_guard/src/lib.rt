@@ -13,4 +13,7 @@ mod store;
 mod topic_offsets;
 
 pub use committed::Committed;
+pub use group_epochs::Records;
+pub use kip_msgs::{CommitReply, CommitRequest};
 pub use offsets::Offsets;
+pub use topic_meta::Image;

@@ -12,8 +12,10 @@ mod spread;
 mod subs;
 
 pub use assignor::Assignor;
+pub use group_types::{AssignorName, MemberId, NameSet, PartSet, Partition};
 pub use laws::{range_is_lawful, subscribed_partitions_have_an_owner};
 pub use marks::marks_of;
 pub use range::Range;
 pub use spread::{Share, Spread};
 pub use subs::{Subs, Subscriber};
+pub use topic_meta::{View, ViewTopic};

@@ -12,6 +12,7 @@ mod topic;
 mod view;
 mod view_topic;
 
+pub use group_types::NameSet;
 pub use image::Image;
 pub use image_fault::ImageFault;
 pub use topic::TopicEntry;

@@ -26,8 +26,10 @@ mod takers;
 mod uniform;
 mod wheel;
 
+pub use group_types::{AssignorName, MemberId, NameSet, PartSet, Partition};
 pub use laws::{
     lawful_and_even_owners_stay, uniform_is_even, uniform_is_lawful, uniform_is_one_spread,
 };
 pub use range_assign::{Assignor, Share, Spread, Subs, Subscriber};
+pub use topic_meta::{View, ViewTopic};
 pub use uniform::Uniform;
