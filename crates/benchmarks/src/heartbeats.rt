@@ -17,8 +17,6 @@ const SIZES: [u16; 4] = [10, 100, 1_000, 10_000];
 const BEATS: u32 = 200_000;
 
 const RUNS: u32 = 5;
-/// How many heartbeats there are where nothing is timed.
-const COUNTED: u32 = 10;
 
 /// Prints what steady heartbeats give, or how long one takes in groups of several sizes: the members send heartbeats in an
 /// order that looks random, over a topic of two partitions, and nothing is new in any of them.
@@ -41,7 +39,7 @@ pub fn print_heartbeats(
 
 fn print_counts(rt: &(impl AllocGlobal + Print), hasher: RandomState) -> Result<(), Fault> {
     let (mut settled, bodies) = settled_with(rt, hasher, SIZES[0])?;
-    let given = settled.answer_in_turn(rt.alloc(), &bodies, COUNTED)?;
+    let given = settled.answer_in_turn(rt.alloc(), &bodies, 10)?;
     let size = usize::from(SIZES[0]);
     rt.println(counts_line(rt.alloc(), "10 of them", size, given)?)?;
     Ok(())
@@ -54,7 +52,7 @@ fn print_times(
 ) -> Result<(), Fault> {
     let (mut settled, bodies) = settled_with(rt, hasher, members)?;
     let mut nanoseconds = u64::MAX;
-    for _ in 0..RUNS {
+    for _ in 0..5 {
         nanoseconds = nanoseconds.min(time_of(rt, &mut settled, &bodies)?);
     }
     let pace = Pace {
