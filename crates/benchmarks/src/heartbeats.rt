@@ -40,8 +40,7 @@ pub fn print_heartbeats(
 fn print_counts(rt: &(impl AllocGlobal + Print), hasher: RandomState) -> Result<(), Fault> {
     let (mut settled, bodies) = settled_with(rt, hasher, SIZES[0])?;
     let given = settled.answer_in_turn(rt.alloc(), &bodies, 10)?;
-    let size = usize::from(SIZES[0]);
-    rt.println(counts_line(rt.alloc(), "10 of them", size, given)?)?;
+    rt.println(counts_line(rt.alloc(), "10 of them", 10, given)?)?;
     Ok(())
 }
 
