@@ -80,17 +80,17 @@ where
         Ok(moments) => moments,
         Err(error) => return Err(ServeFault::Clock(error)),
     };
-    print(writer, "listening", u64::from(port))?;
     let salt = moments.first().millis();
     let (entries, calls) = (Blank::new(shards as u64), Blank::new(SEATS + shards as u64));
-    let served = serve_over::<Brand, Brand, _, R>(
-        rt, service, keys, salt, socket, &moments, entries, calls,
+    let announce = || print(writer, "listening", u64::from(port));
+    let served = serve_over::<Brand, Brand, _, R, _>(
+        rt, service, keys, salt, socket, &moments, entries, calls, announce,
     )?;
-    print(writer, "served", served)
+    Ok(print(writer, "served", served)?)
 }
 
 /// Serves the connections of a socket over new shards with a salt. Gives their number.
-fn serve_over<A, C, M, R>(
+fn serve_over<A, C, M, R, F>(
     rt: &R,
     service: Service,
     keys: RandomState,
@@ -99,12 +99,15 @@ fn serve_over<A, C, M, R>(
     moments: &M,
     entries: Blank,
     calls: Blank,
+    announce: F,
 ) -> Result<u64, ServerFault>
 where
     A: Ledger + Send + Sync,
     C: Ledger + Send + Sync,
     M: Moments + Clone + Send,
     R: Wait + Threads + Clock + Net + RandomSource + AllocGlobal + Sync,
+    F: FnOnce() -> io::Result<()>,
+    requires announce { F.pre announce }
     requires entries { (entries.name ≡ A.name) × (entries.parts ≡ A.parts) × (entries.parts ≡ service.shards) }
     requires calls { (calls.name ≡ C.name) × (calls.parts ≡ C.parts) × (calls.parts ≡ 256 + service.shards) }
 {
@@ -124,7 +127,7 @@ where
         connections: service.connections,
         expires: true,
     };
-    serve_sockets(rt, &shards, socket, moments, plan)
+    serve_sockets(rt, &shards, socket, moments, plan, announce)
 }
 
 /// Gives every shard its topics.
@@ -146,13 +149,22 @@ where
 }
 
 /// Prints a line of a word and a number, and flushes it.
-fn print<W: Write>(writer: &mut W, word: &str, number: u64) -> Result<(), ServeFault> {
-    writeln!(writer, "{word} {number}").map_err(ServeFault::Write)?;
-    writer.flush().map_err(ServeFault::Write)
+fn print<W: Write>(writer: &mut W, word: &str, number: u64) -> io::Result<()> {
+    writeln!(writer, "{word} {number}")?;
+    writer.flush()
+}
+
+impl From<io::Error> for ServeFault {
+    fn from(error: io::Error) -> ServeFault {
+        ServeFault::Write(error)
+    }
 }
 
 impl From<ServerFault> for ServeFault {
     fn from(fault: ServerFault) -> ServeFault {
-        ServeFault::Server(fault)
+        match fault {
+            ServerFault::Announce(error) => ServeFault::Write(error),
+            other => ServeFault::Server(other),
+        }
     }
 }
