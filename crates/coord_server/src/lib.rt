@@ -1,8 +1,9 @@
 //! The server: connections over sockets, or over anything else that is read and written, whose frames shards answer.
 //!
 //! An acceptor numbers the connections and hands them to the workers in turn; a worker gives each of its lines its turns,
-//! over a desk that calls the shards from a seat of its own; an expiry worker lets the time of the shards go on. Start from
-//! [`serve`], and from [`serve_sockets`] for a listening socket.
+//! over a desk that calls the shards from a seat of its own; an expiry worker lets the time of the shards go on. Each worker has
+//! a thread and an event loop of its own, and the acceptor has the calling thread. Start from [`serve`], and from
+//! [`serve_sockets`] for a listening socket.
 #![tactic(auto)]
 
 mod acceptor;
@@ -37,6 +38,7 @@ pub use fault::ServerFault;
 pub use handed::{Handed, Post, worker_of};
 pub use link_futures::Moments;
 pub use listener::Listener;
+pub use mio::{Registry, Token};
 pub use own_loop::OwnLoop;
 pub use plan::Plan;
 pub use retried::Retried;

@@ -1,11 +1,11 @@
 //! `coord serve`: the server over sockets of this machine.
-ghost use Rattle.std.specs.Prelude.{◌≡◌, ◌+◌, ◌≤◌, ◌<◌};
+ghost use Rattle.std.specs.Prelude.{◌≡◌, ◌+◌, ◌≤◌, ◌<◌, IfOk};
 
 use crate::service::Service;
 use coord_server::{
-    AlwaysOpen, ClockMoments, Moments, Plan, ServerFault, Shards, ShardsDesk, serve_sockets,
+    AlwaysOpen, ClockMoments, Moments, ServerFault, Shards, ShardsDesk, serve_sockets,
 };
-use std::alloc::AllocGlobal;
+use std::alloc::{AllocGlobal, Global};
 use std::collections::hash_map::RandomState;
 use std::io;
 use std::io::Write;
@@ -110,24 +110,33 @@ where
     requires announce { F.pre announce }
     requires entries { (entries.name ≡ A.name) × (entries.parts ≡ A.parts) × (entries.parts ≡ service.shards) }
     requires calls { (calls.name ≡ C.name) × (calls.parts ≡ C.parts) × (calls.parts ≡ 256 + service.shards) }
+    ensures { IfOk result (λ served. served ≡ service.connections) }
 {
-    let shards = Shards::<A, C, AlwaysOpen>::new(
-        rt.alloc(),
-        service.shards,
-        salt,
-        0,
-        keys,
-        AlwaysOpen,
-        entries,
-        calls,
-    )?;
+    let shards = shards_of::<A, C>(rt.alloc(), service.shards, salt, keys, entries, calls)?;
     set_image(rt, &shards, moments.clone()?, &service.image)?;
-    let plan = Plan {
-        workers: service.workers,
-        connections: service.connections,
-        expires: true,
-    };
-    serve_sockets(rt, &shards, socket, moments, plan, announce)
+    serve_sockets(rt, &shards, socket, moments, service.plan(), announce)
+}
+
+/// So many new shards with a salt, which keep no journals.
+fn shards_of<A, C>(
+    alloc: Global,
+    shards: usize,
+    salt: u64,
+    keys: RandomState,
+    entries: Blank,
+    calls: Blank,
+) -> Result<Shards<A, C, AlwaysOpen>, ServerFault>
+where
+    A: Ledger,
+    C: Ledger,
+    requires entries { (entries.name ≡ A.name) × (entries.parts ≡ A.parts) }
+    requires calls { (calls.name ≡ C.name) × (calls.parts ≡ C.parts) × (calls.parts ≡ 256 + shards) }
+    ensures { IfOk result (λ made. made ≡ record { shards = shards; salt = salt; cap = 0 }) }
+{
+    let gate = AlwaysOpen;
+    Ok(Shards::<A, C, AlwaysOpen>::new(
+        alloc, shards, salt, 0, keys, gate, entries, calls,
+    )?)
 }
 
 /// Gives every shard its topics.
