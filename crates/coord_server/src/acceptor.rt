@@ -3,7 +3,7 @@ ghost use Rattle.std.specs.Prelude.{◌≡◌, ◌+◌, ◌<◌, ◌≤◌, vec_
 ghost use Rattle.coord_server.specs.Posts.{ArePosts};
 
 use crate::bell::Bell;
-use crate::entrance::{Accepted, Entrance, Incoming};
+use crate::entrance::{Accepted, Entrance, Incoming, Watch};
 use crate::fault::ServerFault;
 use crate::handed::{Handed, Post};
 use std::sync::Wait;
@@ -45,8 +45,7 @@ impl<'a, S: Incoming<K>, K: Drop> Acceptor<'a, S, K> {
         }
     }
 
-    /// Takes so many connections, and waits until all workers have ended, which hear that no more connections come. Gives how many
-    /// it took.
+    /// Takes so many connections, and then no more: the workers hear of it. Waits until they all have ended. Gives how many it took.
     ///
     /// It stops, with a fault, where a thread has ended with a fault, and where the system refuses to wait.
     pub fn run<R: Wait>(self, rt: &R) -> Result<u64, ServerFault>
@@ -55,15 +54,17 @@ impl<'a, S: Incoming<K>, K: Drop> Acceptor<'a, S, K> {
         let mut acceptor = self;
         acceptor.accept_all(rt)?;
         let Acceptor {
-            mut entrance,
+            entrance,
             posts,
             accepted,
             most: _,
             bell,
         } = acceptor;
+        let Entrance { watch, incoming } = entrance;
         let workers = posts.len();
+        drop(incoming);
         drop(posts);
-        wait_for_workers(rt, &mut entrance, bell, workers)?;
+        wait_for_workers(rt, watch, bell, workers)?;
         Ok(accepted)
     }
 
@@ -80,7 +81,7 @@ impl<'a, S: Incoming<K>, K: Drop> Acceptor<'a, S, K> {
             if self.bell.has_failed() {
                 return Err(ServerFault::Stopped);
             }
-            self.entrance.wait(wait)?;
+            self.entrance.watch.wait(wait)?;
         }
         unreachable!()
     }
@@ -115,12 +116,13 @@ impl<'a, S: Incoming<K>, K: Drop> Acceptor<'a, S, K> {
 }
 
 /// Waits until so many workers have ended.
-fn wait_for_workers<S: Drop, R: Wait>(
+fn wait_for_workers<R: Wait>(
     rt: &R,
-    entrance: &mut Entrance<S>,
+    watch: Watch,
     bell: &Bell,
     workers: usize,
 ) -> Result<(), ServerFault> {
+    let mut watch = watch;
     for _ in rt.forever() {
         if bell.has_failed() {
             return Err(ServerFault::Stopped);
@@ -128,7 +130,7 @@ fn wait_for_workers<S: Drop, R: Wait>(
         if bell.ended() >= workers as u64 {
             return Ok(());
         }
-        entrance.wait(None)?;
+        watch.wait(None)?;
     }
     unreachable!()
 }

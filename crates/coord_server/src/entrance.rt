@@ -49,16 +49,32 @@ impl<K> Accepted<K> {
     }
 }
 
-/// Where connections come in, and where the bell is heard.
+/// Who waits for connections and for the bell.
 #[derive(Drop)]
-pub struct Entrance<S> {
+pub struct Watch {
     poll: Poll,
     events: Events,
-    incoming: S,
+}
+
+impl Watch {
+    /// Waits for a connection, for the bell, or for so long.
+    pub fn wait(&mut self, limit: Option<Duration>) -> Result<(), ServerFault> {
+        match self.poll.poll(&mut self.events, limit) {
+            Ok(()) => Ok(()),
+            Err(error) => Err(ServerFault::Incoming(error)),
+        }
+    }
+}
+
+/// The place where connections come in.
+#[derive(Drop)]
+pub struct Entrance<S> {
+    pub watch: Watch,
+    pub incoming: S,
 }
 
 impl<S: Drop> Entrance<S> {
-    /// An entrance for what comes from there.
+    /// A place for what comes from there.
     pub fn new<K, R>(rt: &R, incoming: S) -> Result<Entrance<S>, ServerFault>
     where
         R: Net + AllocGlobal,
@@ -68,24 +84,13 @@ impl<S: Drop> Entrance<S> {
         let poll = Poll::new(rt)?;
         incoming.register(poll.registry(), INCOMING)?;
         let events = Events::with_capacity(rt.alloc(), 4)?;
-        Ok(Entrance {
-            poll,
-            events,
-            incoming,
-        })
+        let watch = Watch { poll, events };
+        Ok(Entrance { watch, incoming })
     }
 
-    /// A bell that ends a wait of this entrance.
+    /// A bell that ends a wait for connections.
     pub fn bell(&self) -> Result<Bell, ServerFault> {
-        Ok(Bell::new(Waker::new(self.poll.registry(), BELL)?))
-    }
-
-    /// Waits for a connection, for the bell, or for so long.
-    pub fn wait(&mut self, limit: Option<Duration>) -> Result<(), ServerFault> {
-        match self.poll.poll(&mut self.events, limit) {
-            Ok(()) => Ok(()),
-            Err(error) => Err(ServerFault::Incoming(error)),
-        }
+        Ok(Bell::new(Waker::new(self.watch.poll.registry(), BELL)?))
     }
 
     /// Looks for a connection.

@@ -32,7 +32,7 @@ pub use clock::ClockMoments;
 pub use connection::Connection;
 pub use coord_shards::{AlwaysOpen, Gate, Image, Moment, Shards, Stamp};
 pub use desk::ShardsDesk;
-pub use entrance::{Accepted, Entrance, Incoming};
+pub use entrance::{Accepted, Entrance, Incoming, Watch};
 pub use expiry::Expiry;
 pub use fault::ServerFault;
 pub use handed::{Handed, Post, worker_of};
