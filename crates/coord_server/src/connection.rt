@@ -11,6 +11,7 @@ use tokio::reactor::Handle;
 /// A connection that is at no event loop yet.
 pub trait Connection: Drop {
     type Reader: ReadPart + Send;
+
     type Writer: WriteParts + Send;
 
     /// What is read and what is written, at the event loop of this handle.
@@ -20,6 +21,7 @@ pub trait Connection: Drop {
 /// A socket. It has TCP_NODELAY, since a reply is not to wait for the next one.
 impl Connection for TcpStream {
     type Reader = Counted<Retried<OwnedReadHalf>>;
+
     type Writer = Counted<Retried<OwnedWriteHalf>>;
 
     fn open(self, handle: &Handle) -> io::Result<(Self::Reader, Self::Writer)> {
@@ -36,6 +38,7 @@ impl Connection for TcpStream {
 /// A reader and a writer that need no event loop, as those over memory.
 impl<R: ReadPart + Send, W: WriteParts + Send> Connection for (R, W) {
     type Reader = R;
+
     type Writer = W;
 
     fn open(self, _handle: &Handle) -> io::Result<(R, W)>
