@@ -68,7 +68,7 @@ impl<'a> Board<'a> {
         requires board { IsBoard self.now }
         requires within { at < length self.now.places.items }
         ensures class { IsOfClass self.now at result }
-        ensures within { result < length self.now.takers.items }
+        ensures below { result < length self.now.takers.items }
     {
         self.classes[self.places[at].topic]
     }
