@@ -129,7 +129,7 @@ IsQueued-of board draft at class wheel is (place, is_place, is_class) of =
 
 -- the first in the queue
 pub record IsFirstIn (board : Board) (draft : Draft) (at class : ℕ) (wheel : Wheel) (k m : ℕ) : Type 0 where
-  pub queued : IsQueued board draft at topic wheel
+  pub queued : IsQueued board draft at class wheel
   pub is_taker : slice_get queued.is_at.takers.items k ≡ Some m
   pub least : IsLeast draft.counts.items queued.is_at.takers.items m
   pub member : Subscriber
@@ -137,13 +137,13 @@ pub record IsFirstIn (board : Board) (draft : Draft) (at class : ℕ) (wheel : W
   pub within : m < length draft.counts.items
   pub room : k < length wheel.counts.items
 
-pub first-within : (board : Board) (draft : Draft) (at class k : ℕ) (wheel : Wheel) → (queued : IsQueued board draft at topic wheel) → IsLeastAt (counts_of draft.counts.items queued.is_at.takers.items) k → k < length queued.is_at.takers.items
-first-within board draft at topic k wheel queued least =
+pub first-within : (board : Board) (draft : Draft) (at class k : ℕ) (wheel : Wheel) → (queued : IsQueued board draft at class wheel) → IsLeastAt (counts_of draft.counts.items queued.is_at.takers.items) k → k < length queued.is_at.takers.items
+first-within board draft at class k wheel queued least =
     let long = length-map queued.is_at.takers.items (λ u. get_or draft.counts.items u 0) in let low = least.within in omega arith
 
-pub IsFirstIn-of : (board : Board) (draft : Draft) (at class k m : ℕ) (wheel : Wheel) → IsDraft board draft → (queued : IsQueued board draft at topic wheel) → IsLeastAt (counts_of draft.counts.items queued.is_at.takers.items) k
-    → slice_get queued.is_at.takers.items k ≡ Some m → IsFirstIn board draft at topic wheel k m
-IsFirstIn-of board draft at topic k m wheel are queued least is_m =
+pub IsFirstIn-of : (board : Board) (draft : Draft) (at class k m : ℕ) (wheel : Wheel) → IsDraft board draft → (queued : IsQueued board draft at class wheel) → IsLeastAt (counts_of draft.counts.items queued.is_at.takers.items) k
+    → slice_get queued.is_at.takers.items k ≡ Some m → IsFirstIn board draft at class wheel k m
+IsFirstIn-of board draft at class k m wheel are queued least is_m =
     let takers = queued.is_at.takers.items in
     let is_least = IsLeast-ranked draft.counts.items takers k m least is_m in
     let (s, is_s) = least-within (members_on board) queued.is_at.topic.0 draft.counts.items takers m queued.is_at.are_takers is_least in

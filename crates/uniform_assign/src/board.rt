@@ -87,7 +87,7 @@ fn places_of(alloc: Global, topics: &[ViewTopic]) -> Result<Vec<Place>, AllocErr
 }
 
 /// How many partitions the topics have together, so that room for them is taken once.
-pub(crate) fn partition_count(topics: &[ViewTopic]) -> usize {
+fn partition_count(topics: &[ViewTopic]) -> usize {
     let mut all = 0usize;
     for topic in topics {
         all = all.saturating_add(topic.count as usize);
