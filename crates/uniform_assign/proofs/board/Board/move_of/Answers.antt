@@ -73,3 +73,100 @@ module _ (board : Board) (draft : Draft) (is : IsBoard board) (are : IsDraft boa
           fewer = omega arith;
         },
       )
+
+pub returns-in_err-from : goal.returns-in_err-from
+returns-in_err-from c =
+    let owners = c.args.draft.now.owners.items in
+    let within : c.args.at < length owners = let many = c.requires.draft.as_many_owners in let low = c.requires.within in omega arith in
+    subst (IsMoveOf c.args.self.now c.args.draft.now c.args.at) (sym c.from_residual.ensures)
+    (no_owner-stays c.args.self.now c.args.draft.now c.requires.board c.requires.draft c.args.at (read owners c.args.at c.index.result.now within c.index.ensures ∙ ap Some c.in_err-from.was))
+
+pub returns-in_err-first : goal.returns-in_err-first
+returns-in_err-first c =
+    let board = c.args.self.now in
+    let draft = c.args.draft.now in
+    let class = c.class_at-class.result in
+    let ranking = c.index-rankings-class.result in
+    let is_read = IsRead-of board draft c.args.rankings.now class ranking None c.requires.rankings c.class_at-class.ensures.below c.index-rankings-class.is c.in_err-first.ensures in
+    subst (IsMoveOf board draft c.args.at) (sym c.from_residual-in_err-first.ensures) (nobody board draft c.requires.board c.requires.draft c.args.at class c.class_at-class.ensures.class is_read)
+
+pub overflow_add-first : goal.overflow_add-first
+overflow_add-first c =
+    let board = c.args.self.now in
+    let draft = c.args.draft.now in
+    let class = c.class_at-class.result in
+    let ranking = c.index-rankings-class.result in
+    let rank = c.in_ok-first.first in
+    let is_read = IsRead-of board draft c.args.rankings.now class ranking (Some rank) c.requires.rankings c.class_at-class.ensures.below c.index-rankings-class.is c.in_ok-first.ensures in
+    let first = first_taker board draft c.requires.board c.requires.draft c.args.at class c.class_at-class.ensures.class rank is_read in
+    let few = count-le draft.owners.items draft.counts.items first.member c.requires.draft.counts first.within in
+    let count = first.count in
+    let ok = draft.owners.ok in
+    let small = draft.owners.small in
+    omega arith
+
+pub index-requires-2 : goal.index-requires-2
+index-requires-2 c =
+    let draft = c.args.draft.now in
+    let owners = draft.owners.items in
+    let within : c.args.at < length owners = let many = c.requires.draft.as_many_owners in let low = c.requires.within in omega arith in
+    let low = c.requires.draft.counts.within c.args.at c.in_ok-from.from (read owners c.args.at c.index.result.now within c.index.ensures ∙ ap Some c.in_ok-from.was) in
+    let ok = draft.counts.ok in
+    omega arith
+
+pub index-requires-then-first-index-2 : goal.index-requires-then-first-index-2
+index-requires-then-first-index-2 c =
+    let board = c.args.self.now in
+    let draft = c.args.draft.now in
+    let class = c.class_at-class.result in
+    let ranking = c.index-rankings-class.result in
+    let rank = c.in_ok-first.first in
+    let is_read = IsRead-of board draft c.args.rankings.now class ranking (Some rank) c.requires.rankings c.class_at-class.ensures.below c.index-rankings-class.is c.in_ok-first.ensures in
+    let first = first_taker board draft c.requires.board c.requires.draft c.args.at class c.class_at-class.ensures.class rank is_read in
+    let v = c.index-then-first-index.result.now in
+    let is_v = read board.takers.items class v c.class_at-class.ensures.below c.index-then-first-index.ensures in
+    let same : is_read.takers ≡ v = same_Some is_read.takers v (sym is_read.are_takers ∙ is_v) in
+    let inside = slice_get_within is_read.takers.items rank.place first.member first.is_member in
+    let longs = ap (λ (w : Vec ℕ). length w.items) same in
+    let ok = v.ok in
+    omega arith
+
+pub returns-then-first-index : goal.returns-then-first-index
+returns-then-first-index c =
+    let board = c.args.self.now in
+    let draft = c.args.draft.now in
+    let owners = draft.owners.items in
+    let class = c.class_at-class.result in
+    let ranking = c.index-rankings-class.result in
+    let rank = c.in_ok-first.first in
+    let is_read = IsRead-of board draft c.args.rankings.now class ranking (Some rank) c.requires.rankings c.class_at-class.ensures.below c.index-rankings-class.is c.in_ok-first.ensures in
+    let first = first_taker board draft c.requires.board c.requires.draft c.args.at class c.class_at-class.ensures.class rank is_read in
+    let v = c.index-then-first-index.result.now in
+    let to = c.index-then-first-index-2.result.now in
+    let is_v = read board.takers.items class v c.class_at-class.ensures.below c.index-then-first-index.ensures in
+    let same : is_read.takers ≡ v = same_Some is_read.takers v (sym is_read.are_takers ∙ is_v) in
+    let inside = slice_get_within is_read.takers.items rank.place first.member first.is_member in
+    let longs = ap (λ (w : Vec ℕ). length w.items) same in
+    let is_to = ap (λ (w : Vec ℕ). slice_get w.items rank.place) same ∙ read v.items rank.place to (omega arith) c.index-then-first-index-2.ensures in
+    let within : c.args.at < length owners = let many = c.requires.draft.as_many_owners in let low = c.requires.within in omega arith in
+    let owns = read owners c.args.at c.index.result.now within c.index.ensures ∙ ap Some c.in_ok-from.was in
+    let from_in = c.requires.draft.counts.within c.args.at c.in_ok-from.from owns in
+    let mine = get_or_read draft.counts.items c.in_ok-from.from c.index-2.result.now from_in c.index-2.ensures 0 in
+    let fewer = c.if-first-index.true in
+    moves board draft c.requires.board c.requires.draft c.args.at class c.class_at-class.ensures.class c.in_ok-from.from to rank owns is_read is_to (omega arith)
+
+pub returns-else-first-index : goal.returns-else-first-index
+returns-else-first-index c =
+    let board = c.args.self.now in
+    let draft = c.args.draft.now in
+    let owners = draft.owners.items in
+    let class = c.class_at-class.result in
+    let ranking = c.index-rankings-class.result in
+    let rank = c.in_ok-first.first in
+    let is_read = IsRead-of board draft c.args.rankings.now class ranking (Some rank) c.requires.rankings c.class_at-class.ensures.below c.index-rankings-class.is c.in_ok-first.ensures in
+    let within : c.args.at < length owners = let many = c.requires.draft.as_many_owners in let low = c.requires.within in omega arith in
+    let owns = read owners c.args.at c.index.result.now within c.index.ensures ∙ ap Some c.in_ok-from.was in
+    let from_in = c.requires.draft.counts.within c.args.at c.in_ok-from.from owns in
+    let mine = get_or_read draft.counts.items c.in_ok-from.from c.index-2.result.now from_in c.index-2.ensures 0 in
+    let near = c.if-first-index.false in
+    stays board draft c.requires.board c.requires.draft c.args.at class c.class_at-class.ensures.class c.in_ok-from.from rank owns is_read (omega arith)
