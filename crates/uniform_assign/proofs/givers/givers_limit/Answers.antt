@@ -26,8 +26,8 @@ loop-ranking-preserved c = λ board counts are k j m takers low is_takers is_m.
     let is_ranking = slice_get_read rankings (length rankings) n ranking refl c.loop-ranking-test.true c.ranking-item.is in
     elim c.match-first.branch [
       | in-Some w ↦
-          let less = w.least_of_two.ensures.first in
-          let more = w.least_of_two.ensures.second in
+          let less = w.least_of_two-limit.ensures.first in
+          let more = w.least_of_two-limit.ensures.second in
           let sum = w.saturating_add.ensures in
           let is = w.limit-is in
           elim (cases_lt k n) [

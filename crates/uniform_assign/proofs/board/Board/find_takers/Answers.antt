@@ -20,7 +20,7 @@ returns-clause-board c =
     let found = subst (λ (xs : List (Vec ℕ)). AreClasses xs classes takers) c.deref.ensures.value c.in_ok-found.ensures in
     let are = subst (λ (topics : List (Text × Topic)). AreTakers topics (members_on board) lists) c.topics.ensures.all c.in_ok-lists.ensures.takers in
     record {
-      bare = c.requires;
+      bare = record { sound = c.requires.sound; apart = c.requires.apart; sorted = c.requires.sorted; places = c.requires.places };
       takers = AreClassTakers-of (finite.entries board.view.now) (members_on board) lists classes takers are found;
       rise = AllRise-classes lists classes takers c.in_ok-lists.ensures.rise found;
     }
