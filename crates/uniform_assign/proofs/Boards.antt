@@ -1,5 +1,5 @@
 -- The places and the takers of a board.
-use Rattle.std.proofs.Common.{◌≡◌, ℕ, ◌<◌, List, [], ◌∷◌, length, get_or, map, refl, sym, ap, subst, ◌∙◌, arith, Some}
+use Rattle.std.proofs.Common.{◌≡◌, ℕ, ◌<◌, List, [], ◌∷◌, length, get_or, map, refl, sym, ap, ◌∙◌, Some}
 use Rattle.std.specs.FinMap as finite
 use Rattle.std.specs.Global.{Vec}
 use Rattle.std.specs.List.{All, slice_get}
@@ -14,7 +14,7 @@ use Rattle.uniform_assign.specs.declared.board.Board.{Board}
 use Rattle.uniform_assign.specs.Boards.{AreTakersOf, IsBare, IsBoard, members_on, shown_place}
 use Rattle.uniform_assign.specs.Drafts.{IsLeast}
 use Rattle.uniform_assign.proofs.Drawn.{AreApart}
-use Rattle.uniform_assign.proofs.Lists.{option_map-from, some_at, slice_get-map_at, slice_get-map_from}
+use Rattle.uniform_assign.proofs.Lists.{option_map-from, slice_get-map_at, slice_get-map_from}
 use Rattle.uniform_assign.proofs.Apart.{AreApart-view}
 
 -- what a board has at a place in partition order

@@ -1,12 +1,11 @@
 -- What can move, in the spread that a draft shows.
 use Rattle.std.proofs.Common.{◌≡◌, ℕ, ◌<◌, ◌≤◌, ◌+◌, List, [], ◌∷◌, ◌++◌, length, get_or, set as set_at, refl, sym, ap, subst, ◌∙◌, arith, Option, Some, None, length-set}
 use Rattle.std.specs.Global.{Vec}
-use Rattle.std.specs.FinMap as finite
 use Rattle.std.specs.List.{slice_get}
 use Rattle.std.proofs.lemmas.Option.{same_Some, slice_get_within}
 use Rattle.group_types.specs.declared.partition.Partition.{Partition}
 use Rattle.group_types.specs.Text.{Text}
-use Rattle.group_types.specs.Topics.{Topic, Topics}
+use Rattle.group_types.specs.Topics.{Topics}
 use Rattle.group_types.specs.Assignors.{Subscriber, subscribers_of}
 use Rattle.group_types.specs.Owners.{Spread}
 use Rattle.group_types.specs.Uniform.{AreMoves, IsFewest, IsLevel, IsNextMove, in_partition_order}

@@ -1,5 +1,5 @@
 -- The move that follows, as it is looked for member by member in their order.
-use Rattle.std.proofs.Common.{◌≡◌, ℕ, zero, suc, ◌<◌, ◌≤◌, ◌+◌, List, [], ◌∷◌, ◌++◌, length, get_or, set as set_at, slice_get, sym, ap, subst, arith, inl, inr, Option, Some, None, sum_by}
+use Rattle.std.proofs.Common.{◌≡◌, ℕ, zero, suc, ◌<◌, ◌≤◌, ◌+◌, List, [], ◌∷◌, ◌++◌, length, get_or, set as set_at, slice_get, sym, ap, subst, arith, inl, inr, Some, None, sum_by}
 use Rattle.uniform_assign.specs.declared.board.Board.{Board}
 use Rattle.uniform_assign.specs.declared.draft.Draft.{Draft}
 use Rattle.uniform_assign.specs.declared.level.Move.{Move}

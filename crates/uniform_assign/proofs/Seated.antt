@@ -1,5 +1,5 @@
 -- The members' places among the takers, class by class.
-use Rattle.std.proofs.Common.{◌≡◌, ◌⊎◌, ℕ, zero, suc, ◌<◌, ◌+◌, List, [], ◌∷◌, ◌++◌, length, set as set_at, slice_get, refl, sym, ap, subst, ◌∙◌, arith, inl, inr, Some, length-set}
+use Rattle.std.proofs.Common.{◌≡◌, ◌⊎◌, ℕ, zero, suc, ◌+◌, List, [], ◌∷◌, ◌++◌, length, set as set_at, slice_get, refl, sym, ap, subst, ◌∙◌, arith, inl, inr, Some, length-set}
 use Rattle.std.specs.Global.{Vec}
 use Rattle.std.specs.List.{All}
 use Rattle.std.proofs.lemmas.Bool.{cases_lt}
@@ -7,7 +7,7 @@ use Rattle.std.proofs.lemmas.Option.{same_Some, slice_get_within}
 use Rattle.uniform_assign.specs.declared.board.Board.{Board}
 use Rattle.uniform_assign.specs.declared.seats.Seat.{Seat}
 use Rattle.uniform_assign.specs.Boards.{members_on}
-use Rattle.uniform_assign.specs.Seats.{AddsSeats, AreSeats, AreSeatsOf, IsSeatIn, IsSeatOf, Seated}
+use Rattle.uniform_assign.specs.Seats.{AddsSeats, AreSeats, AreSeatsOf, IsSeatIn, Seated}
 use Rattle.uniform_assign.proofs.Counts.{cases_equal}
 use Rattle.uniform_assign.proofs.Kept.{slice_get-set_other, slice_get-set_same}
 use Rattle.uniform_assign.proofs.Lists.{pushed_at, slice_get-append_cases, slice_get-append_left}

@@ -63,7 +63,12 @@ impl Board<'_> {
         while let Some(next) = self.next_move(alloc, draft, rankings, &mut order, &mut piles)? {
             self.gain(alloc, &mut piles, next.to, next.partition)?;
             draft.give(next.partition, next.to);
-            self.renew(rankings, &seats[next.from], next.from, draft.counts[next.from]);
+            self.renew(
+                rankings,
+                &seats[next.from],
+                next.from,
+                draft.counts[next.from],
+            );
             self.renew(rankings, &seats[next.to], next.to, draft.counts[next.to]);
             order.set(next.from, draft.counts[next.from]);
             order.set(next.to, draft.counts[next.to]);

@@ -1,7 +1,6 @@
-use Rattle.std.proofs.Common.{◌+◌, ◌<◌, length, get_or, refl, sym, ap, subst, ◌∙◌, arith}
-use Rattle.std.specs.Global.{Vec}
+use Rattle.std.proofs.Common.{length, get_or, refl, subst, arith}
 use Rattle.std.proofs.lemmas.Option.{slice_get-get_or, slice_get_read}
-use Rattle.uniform_assign.specs.Seats.{AddsSeats, Seated}
+use Rattle.uniform_assign.specs.Seats.{AddsSeats}
 use Rattle.uniform_assign.proofs.Seated.{AddsSeats-more, AddsSeats-none}
 use Rattle.uniform_assign.proofs.seats.add_seats.Goals as goal
 

@@ -1,4 +1,4 @@
-use Rattle.std.proofs.Common.{◌≡◌, ℕ, List, subst}
+use Rattle.std.proofs.Common.{ℕ, List, subst}
 use Rattle.std.specs.FinMap as finite
 use Rattle.std.specs.Global.{Vec}
 use Rattle.group_types.specs.Text.{Text}

@@ -1,8 +1,6 @@
-use Rattle.std.proofs.Common.{◌+◌, length, get_or, refl, sym, subst, arith}
-use Rattle.std.specs.Global.{Vec}
+use Rattle.std.proofs.Common.{length, get_or, refl, arith}
 use Rattle.std.proofs.lemmas.Option.{slice_get-get_or, slice_get_read, slice_get_within}
-use Rattle.uniform_assign.specs.declared.ranking.Ranking.{Ranking}
-use Rattle.uniform_assign.proofs.Queued.{AreRenewed, AreRenewed-all, AreRenewed-more, AreRenewed-none, nodes-renewed}
+use Rattle.uniform_assign.proofs.Queued.{AreRenewed-all, AreRenewed-more, AreRenewed-none, nodes-renewed}
 use Rattle.uniform_assign.proofs.board.Board.renew.Goals as goal
 
 pub loop-seat-init : goal.loop-seat-init

@@ -1,10 +1,9 @@
-use Rattle.std.proofs.Common.{◌≡◌, ◌<◌, ◌+◌, ℕ, List, length, refl, sym, ap, subst, ◌∙◌, arith}
+use Rattle.std.proofs.Common.{◌≡◌, ◌<◌, ℕ, List, length, refl, sym, subst, arith}
 use Rattle.std.specs.List.{All}
 use Rattle.std.proofs.lemmas.Option.{slice_get_read}
-use Rattle.uniform_assign.specs.Boards.{members_on}
 use Rattle.uniform_assign.specs.Seats.{AddsSeats, AreSeats}
 use Rattle.uniform_assign.proofs.Boards.{takers_within}
-use Rattle.uniform_assign.proofs.Seated.{AreSeats-more, AreSeats-none}
+use Rattle.uniform_assign.proofs.Seated.{AreSeats-more}
 use Rattle.uniform_assign.proofs.board.Board.seats.Goals as goal
 
 pub add_seats-requires : goal.add_seats-requires
