@@ -124,7 +124,7 @@ class Lines:
     @staticmethod
     def counted(kind, words, count):
         if len(words) != count:
-            raise BadLine(f"{shown(kind)} has {count} words behind it, not {len(words)}")
+            raise BadLine(f"{shown(kind)} wants {count} word{'s' * (count != 1)} behind it and has {len(words)}")
         return words
 
     def add_client(self, name, group, instance, assignor, rebalance, topics):
