@@ -30,9 +30,8 @@ def run(name: str, asked: argparse.Namespace, lines: Callable[[Story, Script], I
     """Prints the lines that are made of a story, and gives the status."""
     try:
         script = Script(asked.script, output(asked))
-        sys.stdout.reconfigure(encoding="utf-8")  # type: ignore[union-attr]
         for line in lines(tell(script), script):
-            print(line)
+            sys.stdout.buffer.write(f"{line}\n".encode())
         sys.stdout.flush()
     except NoScript as wrong:
         print(f"tools/{name}: {wrong}", file=sys.stderr)

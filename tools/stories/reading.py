@@ -37,13 +37,15 @@ class NoScript(Exception):
 
 @dataclasses.dataclass(frozen=True)
 class Played:
-    """A line with its words, what it prints, and the script as the rules have played it up to this line."""
+    """A line with its words, what it prints, and the script as the rules have played it up to this line: whether the output
+    has agreed with them so far."""
 
     number: int
     words: list[str]
     found: tuple[Optional[str], ...]
     fault: Optional[int]
     rules: Lines
+    agrees: bool
 
 
 @dataclasses.dataclass(frozen=True)
@@ -134,6 +136,7 @@ class Script:
 
     def acts(self) -> Iterator[Played]:
         """The lines behind those of clients."""
+        agrees = True
         for number, line in enumerate(self.lines, 1):
             ruled = self.rule(number, line)
             if ruled is not None:
@@ -141,7 +144,8 @@ class Script:
                 wanted = f"line {number} of the script"
                 printed = self.output.next(wanted, ruled)
                 found = self.output.matched(f"{REFUSED}|{PRINTED[words[0]]}", printed, wanted).groups()
-                yield Played(number, words, found[1:], int(found[0]) if found[0] else None, self.rules)
+                agrees = agrees and printed == ruled
+                yield Played(number, words, found[1:], int(found[0]) if found[0] else None, self.rules, agrees)
 
     def report(self) -> list[Reported]:
         """The last lines, one for each client."""

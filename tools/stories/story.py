@@ -6,12 +6,13 @@ import dataclasses
 import uuid
 from typing import Callable, Optional
 
-from rules.client import GONE, Client
+from rules.client import GONE, INSIDE, Client
 from rules.lines import image_of, topic_of
 from rules.messages import read_heartbeat_reply
+from rules.world import World
 from stories import events, names
 from stories.events import AGAIN, AT_ONCE, LATE, Event, Partitions
-from stories.reading import NoScript, Played, Script
+from stories.reading import NoScript, Played, Reported, Script
 
 # A member's id, where its client has one, isn't in what lines print.
 SOME_ID = "id"
@@ -30,12 +31,14 @@ class Person:
 
 @dataclasses.dataclass(frozen=True)
 class Standing:
-    """Where a client stands: what it holds, and what of it a reply still showed it."""
+    """Where a client stands: what it holds, and what of it the latest assignment still has. It may be removed from its group
+    without having heard of it."""
 
     state: str
     epoch: int
     holds: Partitions
     shown: Partitions
+    is_removed: bool = False
 
 
 @dataclasses.dataclass(frozen=True)
@@ -53,7 +56,7 @@ class Story:
     people: list[Person]
     topics: names.Topics
     steps: list[Step]
-    ids: list[str]
+    report: list[Reported]
 
     @property
     def last(self) -> tuple[Standing, ...]:
@@ -108,8 +111,9 @@ class Teller:
     def number(self, name: str) -> int:
         return next(at for at, client in enumerate(self.clients) if client.name == name)
 
-    def stand(self) -> tuple[Standing, ...]:
-        self.standings = tuple(standing_of(*pair) for pair in zip(self.clients, self.standings))
+    def stand(self, played: Played) -> tuple[Standing, ...]:
+        removed = [played.agrees and is_removed(played.rules.world, client) for client in played.rules.world.clients]
+        self.standings = tuple(map(standing_of, self.clients, self.standings, removed))
         return self.standings
 
     # -- lines
@@ -221,11 +225,17 @@ class Teller:
     }
 
 
-def standing_of(client: Client, before: Standing) -> Standing:
+def is_removed(world: World, client: Client) -> bool:
+    """The client takes itself for a member, and its coordinator has no record of it."""
+    group = world.node.groups.get(client.group)
+    return client.place == INSIDE and group is not None and client.id not in group.records
+
+
+def standing_of(client: Client, before: Standing, removed: bool) -> Standing:
     """Where a client stands. Sets that are as before aren't copied."""
     holds = before.holds if client.own == before.holds else frozenset(client.own)
     shown = before.shown if client.shown == before.shown else frozenset(client.shown)
-    now = Standing(client.state(), client.epoch, holds, shown)
+    now = Standing(client.state(), client.epoch, holds, shown, removed)
     return before if now == before else now
 
 
@@ -261,8 +271,8 @@ def tell(script: Script) -> Story:
     teller, played = Teller(), []
     for it in script.acts():
         teller.start(it)
-        played.append((it, teller.event(it), teller.stand()))
+        played.append((it, teller.event(it), teller.stand(it)))
     report = script.report()
     topics = topics_of(script)
     steps = [Step(it.number, line_text(it.words, topics), event, standings) for it, event, standings in played]
-    return Story([*map(person_of, script.rules.clients)], topics, steps, [it.member for it in report])
+    return Story([*map(person_of, script.rules.clients)], topics, steps, report)

@@ -81,7 +81,8 @@ class Tale:
         standing = step.standings[client]
         if standing.state in ("outside", "gone"):
             return standing.state
-        return self.topics.text(standing.holds, LONGEST_HOLDING)
+        holds = self.topics.text(standing.holds, LONGEST_HOLDING)
+        return f"{holds} (removed)" if standing.is_removed else holds
 
 
 def beside(*words: str) -> str:
@@ -113,7 +114,7 @@ def table(story: Story) -> Iterator[str]:
     for at, standing in enumerate(story.last):
         epoch = f" at epoch {standing.epoch}" if standing.epoch else ""
         holds = f", holds {story.topics.text(standing.holds)}" if standing.holds else ""
-        yield f"{tale.name(at)} is {standing.state}{epoch}, id {story.ids[at]}{holds}"
+        yield f"{tale.name(at)} is {standing.state}{epoch}, id {story.report[at].member}{holds}"
 
 
 def columns(rows: list[list[str]]) -> Iterator[str]:
