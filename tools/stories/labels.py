@@ -12,7 +12,7 @@ from stories.story import OUT, Standing, Step, Story
 Part = Tuple[str, str]
 Label = List[Part]
 
-WORD, ERROR, MARK, GOOD, QUIET = "word", "error", "mark", "good", "quiet"
+WORD, ERROR, MARK, GOOD, QUIET, TOLD = "word", "error", "mark", "good", "quiet", "told"
 # The longest text of a message, of a client and of the coordinator, in characters.
 LONGEST_MESSAGE, LONGEST_OWN, LONGEST_TOLD = 34, 26, 70
 KINDS = {"join": "join", "short": "heartbeat", "owned": "heartbeat", "full": "full heartbeat", "leave": "leaves", "away": "goes away"}
@@ -26,7 +26,7 @@ class Row:
     client: int = -1
     message: Label = dataclasses.field(default_factory=list)
     own: Label = dataclasses.field(default_factory=list)
-    told: str = ""
+    told: Label = dataclasses.field(default_factory=list)
 
 
 class Labels:
@@ -58,10 +58,10 @@ class Labels:
             place = shortened(f"{event.topic}/{event.index}", LONGEST_MESSAGE - 12)
             return Row(event.client, [(f"commit {place} at {event.offset}", WORD)])
         if isinstance(event, events.GaveUp):
-            return Row(event.client, own=[("stops waiting", QUIET)])
+            return Row(event.client, own=[("times out", QUIET)])
         if isinstance(event, events.Released):
             return Row(event.client, own=self.released(event, step))
-        return Row(told=shortened(self.told(event), LONGEST_TOLD))
+        return Row(told=[(shortened(self.told(event), LONGEST_TOLD), QUIET if isinstance(event, events.Refused) else TOLD)])
 
     def sent(self, event: events.Sent) -> Label:
         owned = "" if event.owned is None else f", owns {self.topics.text(event.owned) if event.owned else 'nothing'}"
@@ -107,12 +107,12 @@ class Labels:
         if isinstance(event, events.Ticked):
             return f"{moment_text(event.moment)}: {counted(event.removed, 'member')} removed"
         if isinstance(event, events.Settled):
-            return "three rounds of full heartbeats, nothing is lost"
+            return "three rounds of full heartbeats, none of them lost"
         return f"refused: {fault_name(event.fault)}" if isinstance(event, events.Refused) else ""
 
 
 def marked(mark: str, label: Label) -> Label:
-    return [(f"{mark}:\u00a0", MARK), *label] if mark and label else [(mark, MARK)] if mark else label
+    return [(f"{mark}:", MARK), *label] if mark and label else [(mark, MARK)] if mark else label
 
 
 def pill_of(now: Standing, before: Standing, event: Optional[events.Event]) -> str:

@@ -5,7 +5,7 @@ from __future__ import annotations
 from typing import Iterator, List, Sequence
 
 from stories import events
-from stories.labels import Label, Labels, Row, pill_of
+from stories.labels import TOLD, Label, Labels, pill_of
 from stories.layout import BESIDE, COMMIT, GAP, LABEL_SIZE, LONGEST_SCRIPT, MARGIN, REMOVED, REPLY, REVOKES, ROW, SCRIPT_SIZE, SURELY, Flight, Holder, Layout
 from stories.names import shortened
 from stories.story import OUT, Standing, Story
@@ -91,7 +91,7 @@ class Picture:
         right = self.layout.lanes_end
         for at, row in enumerate(self.rows):
             y = self.layout.row(at)
-            if row.told:
+            if row.told and row.told[0][1] == TOLD:
                 self.canvas.rect(MARGIN / 2, y - 10, right - MARGIN / 2, 20, BAND, 'rx="4"')
             else:
                 self.canvas.line([(self.layout.script_end + 6, y), (right, y)], GUIDE, 1)
@@ -100,7 +100,7 @@ class Picture:
     def draw_lanes(self) -> None:
         self.canvas.line([(self.layout.coordinator, 40), (self.layout.coordinator, self.end)], SLATE, LANE)
         for client in range(len(self.layout.lanes)):
-            look, since = "outside", 40.0
+            look, since = "outside", self.layout.top - 9 if self.under(client) else 40.0
             for at, step in enumerate(self.story.steps):
                 now = look_of(step.standings[client])
                 if now != look:
@@ -186,7 +186,7 @@ class Picture:
         source = (self.edge(flight.client, flight.start), y) if up else (self.home(flight.client), y)
         if flight.kind == COMMIT:
             self.canvas.circle(source, 3.2, color(flight.client))
-        turn = (x, y + (ROW * 0.6 if up else 7.0))
+        turn = (x, y + (ROW * 0.5 if up else 7.0))
         if flight.is_lost:
             self.canvas.line([source, turn], color(flight.client), 1.5)
             return self.canvas.cross(turn, RED)
@@ -245,7 +245,7 @@ class Picture:
             if row.own:
                 self.draw_label(row.client, at, row.own, y + 4, row.client not in self.layout.left)
             if row.told:
-                self.draw_told(row, y)
+                self.draw_told(row.told, y)
 
     def draw_label(self, client: int, at: int, label: Label, y: float, to_right: bool) -> None:
         pill = self.pills[at][client]
@@ -253,11 +253,13 @@ class Picture:
         x = self.layout.lanes[client]
         self.canvas.spans(x + away if to_right else x - away, y, label, "start" if to_right else "end")
 
-    def draw_told(self, row: Row, y: float) -> None:
-        width = text_width(row.told, LABEL_SIZE) + 20
+    def draw_told(self, told: Label, y: float) -> None:
+        """What happens at the coordinator alone, or that nothing happens."""
+        words, kind = told[0]
+        width = text_width(words, LABEL_SIZE) + 20
         left = max(self.layout.coordinator - width / 2, self.layout.script_end + GAP)
-        self.canvas.rect(left, y - 9, width, 18, GROUND, f'rx="9" stroke="{SLATE}"')
-        self.canvas.text(left + width / 2, y + 4, row.told, "told", "middle")
+        self.canvas.rect(left, y - 9, width, 18, GROUND, f'rx="9" stroke="{SLATE}"' if kind == TOLD else 'rx="9"')
+        self.canvas.text(left + width / 2, y + 4, words, kind, "middle")
 
     # -- below
 
@@ -286,6 +288,11 @@ class Picture:
             self.canvas.circle((x + 4, y), 3.2, SLATE)
             self.canvas.arrow([(x + 4, y), (x + 34, y)], SLATE, 1.6)
             x = self.draw_said(x + 40, y, "offset commit")
+        hows = {holder.how for column in self.layout.columns for *_, holders in column.segments for holder in holders}
+        for how, words in ((REVOKES, "to be revoked"), (REMOVED, "removed, and doesn't know yet")):
+            if how in hows:
+                self.canvas.rect(x, y - 6, 16, 12, SLATE, f'rx="3" fill-opacity="{PALE[how]}"')
+                x = self.draw_said(x + 22, y, words)
         return y + 18 if x > MARGIN else self.end + 44
 
     def draw_said(self, x: float, y: float, words: str) -> float:

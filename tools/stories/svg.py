@@ -27,6 +27,8 @@ WIDTHS = {
     944: "W",
 }
 WIDTH = {character: width for width, characters in WIDTHS.items() for character in characters}
+# What stands between the parts of a text.
+SPACE = ' dx="4"'
 OTHER_WIDTH, BOLD, MONO_WIDTH = 600, 1.08, 0.61
 
 
@@ -76,7 +78,8 @@ class Canvas:
         place = f'<text x="{number(x)}" y="{number(y)}"{side}'
         if len(parts) == 1:
             return self.add(f'{place} class="{parts[0][1]}">{escape(parts[0][0])}</text>')
-        inner = "".join(f'<tspan class="{kind}">{escape(words)}</tspan>' for words, kind in parts)
+        spaces = ["", *[SPACE] * (len(parts) - 1)]
+        inner = "".join(f'<tspan class="{kind}"{space}>{escape(words)}</tspan>' for (words, kind), space in zip(parts, spaces))
         self.add(f"{place}>{inner}</text>")
 
     def arrow(self, points: Sequence[Point], color: str, width: float, dash: str = "") -> None:

@@ -2,6 +2,7 @@
 
 from __future__ import annotations
 
+import sys
 from typing import Iterator
 
 from stories import events
@@ -22,8 +23,7 @@ class Tale:
     def name(self, client: int) -> str:
         return shortened(self.story.people[client].name, LONGEST_HOLDING)
 
-    def outcome(self, at: int) -> str:
-        step = self.story.steps[at]
+    def outcome(self, step: Step) -> str:
         event = step.event
         if isinstance(event, events.Sent):
             return self.sent(event)
@@ -61,7 +61,7 @@ class Tale:
     def alone(self, event: events.Event, step: Step) -> str:
         """What happens at one place, without a message."""
         if isinstance(event, events.GaveUp):
-            return f"{self.name(event.client)}: waits for no reply any more"
+            return f"{self.name(event.client)}: its request times out"
         if isinstance(event, events.Released):
             holds = event.partition in step.standings[event.client].holds
             return f"{self.name(event.client)}: {'keeps' if holds else 'has revoked'} {self.topics.partition(event.partition)}"
@@ -75,7 +75,7 @@ class Tale:
             return f"it is {moment_text(event.moment)}, {counted(event.removed, 'member')} removed"
         if isinstance(event, events.Refused):
             return f"refused: {fault_name(event.fault)}"
-        return "three rounds of full heartbeats, and no message is lost"
+        return "three rounds of full heartbeats, none of them lost"
 
     def holding(self, step: Step, client: int) -> str:
         standing = step.standings[client]
@@ -100,21 +100,26 @@ def head(person: Person) -> str:
 
 
 def table(story: Story) -> Iterator[str]:
-    """The lines of the table: the clients, each line of the script, and where the clients stand at the end."""
-    tale = Tale(story)
-    people = range(len(story.people))
+    """The clients, each line of the script, and where the clients stand at the end."""
     yield from map(head, story.people)
-    rows = [["line", "act", "what comes of it", *(f"{tale.name(at)} holds" for at in people)]]
-    for at, step in enumerate(story.steps):
-        outcome = shortened(tale.outcome(at), LONGEST_OUTCOME)
-        rows.append([str(step.line), shortened(step.text, LONGEST_LINE), outcome, *(tale.holding(step, it) for it in people)])
     yield ""
-    yield from columns(rows)
+    yield from part(story, range(1, sys.maxsize))
     yield ""
     for at, standing in enumerate(story.last):
         epoch = f" at epoch {standing.epoch}" if standing.epoch else ""
         holds = f", holds {story.topics.text(standing.holds)}" if standing.holds else ""
-        yield f"{tale.name(at)} is {standing.state}{epoch}, id {story.report[at].member}{holds}"
+        yield f"{shortened(story.people[at].name, LONGEST_HOLDING)} is {standing.state}{epoch}, id {story.report[at].member}{holds}"
+
+
+def part(story: Story, lines: range) -> Iterator[str]:
+    """Some lines of the script, each with what comes of it and with who holds what after it."""
+    tale, people = Tale(story), range(len(story.people))
+    rows = [["line", "act", "what comes of it", *(f"{tale.name(at)} holds" for at in people)]]
+    for step in story.steps:
+        if step.line in lines:
+            outcome = shortened(tale.outcome(step), LONGEST_OUTCOME)
+            rows.append([str(step.line), shortened(step.text, LONGEST_LINE), outcome, *(tale.holding(step, it) for it in people)])
+    return columns(rows)
 
 
 def columns(rows: list[list[str]]) -> Iterator[str]:
