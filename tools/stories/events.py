@@ -83,7 +83,9 @@ class Brought:
 
 @dataclasses.dataclass(frozen=True)
 class ImageSet:
-    topics: List[Tuple[str, int]]
+    """The topics by their ids, each with the number of its partitions."""
+
+    topics: List[Tuple[bytes, int]]
 
 
 @dataclasses.dataclass(frozen=True)

@@ -97,11 +97,10 @@ class Labels:
     def own(self, word: str, partitions: events.Partitions, kind: str) -> Part:
         return shortened(f"{word} {self.topics.text(partitions)}", LONGEST_OWN), kind
 
-    @staticmethod
-    def told(event: events.Event) -> str:
+    def told(self, event: events.Event) -> str:
         """What happens at the coordinator, without a message."""
         if isinstance(event, events.ImageSet):
-            return ", ".join(f"{name}: {counted(count, 'partition')}" for name, count in event.topics) or "no topics"
+            return ", ".join(f"{self.topics.label(topic)}: {counted(count, 'partition')}" for topic, count in event.topics) or "no topics"
         if isinstance(event, events.ClockSet):
             return moment_text(event.moment)
         if isinstance(event, events.Ticked):

@@ -128,7 +128,7 @@ class Teller:
             raise NoScript(f"line {played.number}: this output isn't the script's: it has no such client or message") from None
 
     def image(self, words: list[str], _found: list[str], _played: Played) -> Event:
-        return events.ImageSet([(names.printable(name), count) for name, (_, count) in image_of(words).items()])
+        return events.ImageSet([*image_of(words).values()])
 
     def clock(self, words: list[str], _found: list[str], _played: Played) -> Event:
         self.time += 1

@@ -68,7 +68,7 @@ class Tale:
         if isinstance(event, events.Committed):
             return f"{self.name(event.client)}: commit {event.commit}, {event.topic}/{event.index} at offset {event.offset}"
         if isinstance(event, events.ImageSet):
-            return ", ".join(f"{name} has {counted(count, 'partition')}" for name, count in event.topics) or "no topics"
+            return ", ".join(f"{self.topics.label(topic)} has {counted(count, 'partition')}" for topic, count in event.topics) or "no topics"
         if isinstance(event, events.ClockSet):
             return f"it is {moment_text(event.moment)}"
         if isinstance(event, events.Ticked):
