@@ -3,15 +3,17 @@
 from __future__ import annotations
 
 import dataclasses
-from typing import Dict, List, Tuple
+from typing import Tuple
 
 from stories import events
-from stories.labels import Label, Row
+from stories.labels import QUIET, WORD, Label, Row, under_name
 from stories.names import Partition
 from stories.story import Standing, Story
 from stories.svg import MONO_WIDTH, text_width
 
 ROW, MARGIN = 28.0, 20.0
+# Where the heads of lanes end, and how high a line below a head is.
+HEAD_END, UNDER = 52.0, 13.0
 SCRIPT_SIZE, LABEL_SIZE = 10.5, 11.0
 LONGEST_SCRIPT = 30
 # How far a label is from its lane, and a lane from what is beside it.
@@ -31,7 +33,9 @@ class Flight:
     client: int
     kind: str
     start: int
-    arrivals: List[Tuple[int, str]] = dataclasses.field(default_factory=list)
+    # To a client that has quit, which takes no reply.
+    is_idle: bool = False
+    arrivals: list[tuple[int, str]] = dataclasses.field(default_factory=list)
     track: int = -1
 
     @property
@@ -55,24 +59,21 @@ class Flights:
     """The messages of a story."""
 
     def __init__(self, story: Story):
-        self.pools: Dict[str, Dict[int, Flight]] = {REQUEST: {}, REPLY: {}, COMMIT: {}}
+        self.pools: dict[str, dict[int, Flight]] = {REQUEST: {}, REPLY: {}, COMMIT: {}}
         self.settled = 0
-        # A client that has quit takes no reply.
-        self.quits: set[int] = set()
         for row, step in enumerate(story.steps):
-            self.see(row, step.event)
+            self.see(row, step.event, step.standings)
 
-    def see(self, row: int, event: events.Event) -> None:
+    def see(self, row: int, event: events.Event, standings: tuple[Standing, ...]) -> None:
         if isinstance(event, events.Sent):
             self.pools[REQUEST][event.request] = Flight(event.client, REQUEST, row)
-            if event.kind in ("leave", "away"):
-                self.quits.add(event.client)
         elif isinstance(event, events.Committed):
             self.pools[COMMIT][event.commit] = Flight(event.client, COMMIT, row)
         elif isinstance(event, events.Delivered):
             self.arrives(REQUEST, event.client, event.request, row, event.mark)
             if event.reply is not None:
-                self.pools[REPLY][event.reply.number] = Flight(event.client, REPLY, row)
+                is_idle = standings[event.client].state == "gone"
+                self.pools[REPLY][event.reply.number] = Flight(event.client, REPLY, row, is_idle)
         elif isinstance(event, events.Taken):
             self.arrives(REPLY, event.client, event.reply, row, event.mark)
         elif isinstance(event, events.Brought):
@@ -85,14 +86,14 @@ class Flights:
         flight = self.pools[kind].setdefault(number, Flight(client, kind, self.settled))
         flight.arrivals.append((row, mark))
 
-    def all(self) -> List[Flight]:
+    def all(self) -> list[Flight]:
         flights = [flight for pool in self.pools.values() for flight in pool.values()]
-        shown = [it for it in flights if not (it.kind == REPLY and it.is_lost and it.client in self.quits)]
+        shown = [it for it in flights if not (it.is_idle and it.is_lost)]
         return sorted(shown, key=lambda it: (it.start, it.kind))
 
     def on_tracks(self, clients: set[int]) -> int:
         """Gives those of some clients that wait a track each, and says how many tracks there are."""
-        ends: List[int] = []
+        ends: list[int] = []
         for flight in self.all():
             if flight.client in clients and flight.waits:
                 free = next((at for at, end in enumerate(ends) if end <= flight.start), len(ends))
@@ -120,13 +121,13 @@ class Column:
 
     group: str
     label: str
-    segments: List[Segment]
+    segments: list[Segment]
 
 
-def columns_of(story: Story) -> Tuple[List[Column], int]:
+def columns_of(story: Story) -> tuple[list[Column], int]:
     """The bars of the partitions that somebody holds at some time, and how many there are beyond those that are shown."""
-    held: set[Tuple[str, Partition]] = set()
-    seen: List[object] = [None] * len(story.people)
+    held: set[tuple[str, Partition]] = set()
+    seen: list[object] = [None] * len(story.people)
     for step in story.steps:
         for at, standing in enumerate(step.standings):
             if seen[at] is not standing.holds:
@@ -138,7 +139,7 @@ def columns_of(story: Story) -> Tuple[List[Column], int]:
 
 def column_of(story: Story, group: str, partition: Partition) -> Column:
     members = [at for at, person in enumerate(story.people) if person.group == group]
-    segments: List[Segment] = []
+    segments: list[Segment] = []
     for row, step in enumerate(story.steps):
         standings = [(at, step.standings[at]) for at in members]
         holders = tuple(Holder(at, how_held(it, partition)) for at, it in standings if partition in it.holds)
@@ -154,17 +155,17 @@ def how_held(standing: Standing, partition: Partition) -> str:
 
 
 def label_width(label: Label) -> float:
-    return sum(text_width(text, LABEL_SIZE, kind not in ("word", "quiet")) for text, kind in label)
+    return sum(text_width(text, LABEL_SIZE, kind not in (WORD, QUIET)) for text, kind in label)
 
 
-def widest(labels: List[Label]) -> float:
+def widest(labels: list[Label]) -> float:
     return max([0.0, *map(label_width, labels)])
 
 
 class Layout:
     """Places from left to right: the script, the clients' lanes with the coordinator's in the middle, the bars."""
 
-    def __init__(self, story: Story, rows: List[Row], scripts: List[str]):
+    def __init__(self, story: Story, rows: list[Row], scripts: list[str]):
         self.flights = Flights(story)
         self.columns, self.more_columns = columns_of(story)
         count = len(story.people)
@@ -176,9 +177,10 @@ class Layout:
         self.lanes = [0.0] * count
         self.coordinator = 0.0
         self.place_lanes()
-        self.groups = len({person.group for person in story.people})
+        self.groups = sorted({person.group for person in story.people})
         self.place_bars()
-        self.top = 0.0
+        self.under = [under_name(person, len(self.groups)) for person in story.people]
+        self.top = HEAD_END + UNDER * max([1, *map(len, self.under)])
 
     def place_lanes(self) -> None:
         """Beside a lane is room for its messages on the coordinator's side, and for the client's own words on the other."""
@@ -201,7 +203,7 @@ class Layout:
         """The room between two lanes on one side of the coordinator: the outer one's messages, and the inner one's own words."""
         return max(self.messages[outer], self.owns[inner], LEAST_GUTTER) + 2 * ON_LANE
 
-    def gutter(self, nearest: int, clients: List[int]) -> float:
+    def gutter(self, nearest: int, clients: list[int]) -> float:
         """The room between the coordinator and the nearest lane: labels, and the tracks of all clients of that side."""
         tracks = self.flights.on_tracks(set(clients))
         words = max(self.messages[nearest], LEAST_GUTTER) + BESIDE
@@ -210,7 +212,7 @@ class Layout:
     def place_bars(self) -> None:
         """A bar is as wide as what it is called."""
         x = self.lanes_end + GAP
-        self.bars: List[Tuple[float, float]] = []
+        self.bars: list[tuple[float, float]] = []
         for at, column in enumerate(self.columns):
             if at and column.group != self.columns[at - 1].group:
                 x += GAP

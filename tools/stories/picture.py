@@ -2,12 +2,15 @@
 
 from __future__ import annotations
 
-from typing import Iterator, List, Sequence
+import pathlib
+from typing import Iterator, Sequence
+from xml.sax.saxutils import escape
 
 from stories import events
 from stories.labels import TOLD, Label, Labels, pill_of
-from stories.layout import BESIDE, COMMIT, GAP, LABEL_SIZE, LONGEST_SCRIPT, MARGIN, REMOVED, REPLY, REVOKES, ROW, SCRIPT_SIZE, SURELY, Flight, Holder, Layout
-from stories.names import shortened
+from stories.layout import BESIDE, GAP, LABEL_SIZE, LONGEST_SCRIPT, MARGIN, ROW, SCRIPT_SIZE, UNDER, Flight, Holder, Layout
+from stories.layout import COMMIT, REMOVED, REPLY, REVOKES, SURELY
+from stories.names import printable, shortened
 from stories.story import OUT, Standing, Story
 from stories.svg import MONO, SANS, Canvas, Point, number, text_width
 
@@ -28,9 +31,9 @@ text {{ font-family: {SANS}; font-size: {LABEL_SIZE}px; fill: {INK} }}
 .told {{ fill: {SLATE} }}
 .bar {{ font-weight: bold; fill: #ffffff }}
 """
-# Dashes of messages that come late, and not for the first time.
 # How pale a bar is while its holder is to revoke it, and where it was removed.
 PALE = {REVOKES: 0.5, REMOVED: 0.25}
+# Dashes of messages that come late, and not for the first time.
 DASHES = {events.AT_ONCE: "", events.LATE: "7 4", events.AGAIN: "2 3"}
 HEAD, PILL, LANE = 22.0, 16.0, 4.0
 
@@ -51,11 +54,10 @@ class Picture:
         self.rows = Labels(story).rows()
         self.scripts = [shortened(step.text, LONGEST_SCRIPT) for step in story.steps]
         self.layout = Layout(story, self.rows, self.scripts)
-        self.layout.top = 52.0 + 13 * max([1, *(len(self.under(it)) for it in range(len(story.people)))])
         self.end = self.layout.row(len(story.steps)) - ROW / 2 + 12
         self.pills = self.pills_of()
 
-    def pills_of(self) -> List[List[str]]:
+    def pills_of(self) -> list[list[str]]:
         """For each row and client what is written on its lane."""
         before: Sequence[Standing] = tuple(OUT for _ in self.story.people)
         pills = []
@@ -77,7 +79,7 @@ class Picture:
         bottom = self.draw_legend()
         width, height = number(self.layout.width), number(bottom)
         yield f'<svg xmlns="http://www.w3.org/2000/svg" width="{width}" height="{height}" viewBox="0 0 {width} {height}" role="img">'
-        yield f"<title>{self.title}</title>"
+        yield f"<title>{escape(printable(self.title))}</title>"
         yield f"<style>{STYLE}</style>"
         box = f'width="{number(self.layout.width - 1)}" height="{number(bottom - 1)}"'
         yield f'<rect x="0.5" y="0.5" {box} rx="8" fill="{GROUND}" stroke="{EDGE}"/>'
@@ -100,7 +102,7 @@ class Picture:
     def draw_lanes(self) -> None:
         self.canvas.line([(self.layout.coordinator, 40), (self.layout.coordinator, self.end)], SLATE, LANE)
         for client in range(len(self.layout.lanes)):
-            look, since = "outside", self.layout.top - 9 if self.under(client) else 40.0
+            look, since = "outside", self.layout.top - 9 if self.layout.under[client] else 40.0
             for at, step in enumerate(self.story.steps):
                 now = look_of(step.standings[client])
                 if now != look:
@@ -119,27 +121,20 @@ class Picture:
             self.canvas.line(ends, "#aab2bd", 1.5, "2 4")
 
     def draw_heads(self) -> None:
-        people = self.story.people
-        groups = sorted({f"group {it.group}" for it in people})
-        assignors = sorted({f"assignor {it.assignor}" for it in people if it.assignor is not None})
-        shared = groups[:1] * (len(groups) == 1) + assignors[:1] * (len(assignors) == 1)
+        assignors = sorted({person.assignor for person in self.story.people if person.assignor is not None})
+        shared = [f"group {it}" for it in self.layout.groups if len(self.layout.groups) == 1]
+        shared += [f"assignor {it}" for it in assignors if len(assignors) == 1]
         self.canvas.text(MARGIN, 33, shortened(", ".join(shared), LONGEST_SCRIPT), "title")
         self.draw_head(self.layout.coordinator, "coordinator", SLATE, [])
-        for client, person in enumerate(people):
-            self.draw_head(self.layout.lanes[client], shortened(person.name, 12), color(client), self.under(client))
+        for client, person in enumerate(self.story.people):
+            self.draw_head(self.layout.lanes[client], shortened(person.name, 12), color(client), self.layout.under[client])
 
-    def under(self, client: int) -> List[str]:
-        """What stands below a client's name."""
-        person = self.story.people[client]
-        under = [f"static, {shortened(person.instance, 12)}"] if person.instance is not None else []
-        return under + ([f"group {shortened(person.group, 12)}"] if self.layout.groups > 1 else [])
-
-    def draw_head(self, x: float, name: str, fill: str, under: List[str]) -> None:
+    def draw_head(self, x: float, name: str, fill: str, under: list[str]) -> None:
         width = max(34.0, text_width(name, 13, True) + 20)
         self.canvas.rect(x - width / 2, 18, width, HEAD, fill, 'rx="5"')
         self.canvas.text(x, 33.5, name, "name", "middle")
         for at, line in enumerate(under):
-            self.canvas.text(x, 55 + 13 * at, line, "quiet", "middle")
+            self.canvas.text(x, 55 + UNDER * at, line, "quiet", "middle")
 
     # -- bars
 
@@ -150,7 +145,7 @@ class Picture:
         self.canvas.text(self.layout.bars[0][0], 33, f"held by{more}", "title")
         for at, (column, (x, width)) in enumerate(zip(self.layout.columns, self.layout.bars)):
             self.canvas.text(x + width / 2, 55, column.label, "word", "middle")
-            if self.layout.groups > 1:
+            if len(self.layout.groups) > 1:
                 self.canvas.text(x + width / 2, 68, shortened(column.group, 8), "quiet", "middle")
             self.canvas.rect(x, self.layout.top, width, self.end - self.layout.top, BAND, 'rx="3"')
             for start, end, holders in column.segments:
@@ -181,28 +176,28 @@ class Picture:
         return self.layout.coordinator + (-LANE if client in self.layout.left else LANE)
 
     def draw_flight(self, flight: Flight) -> None:
-        y, x = self.layout.row(flight.start), self.layout.track(flight)
-        up = flight.kind != REPLY
-        source = (self.edge(flight.client, flight.start), y) if up else (self.home(flight.client), y)
+        """A message as an arrow, by its track where it isn't received at once, and an arrow for each time that it comes again."""
+        hue, x, y = color(flight.client), self.layout.track(flight), self.layout.row(flight.start)
+        is_reply = flight.kind == REPLY
+        source = (self.home(flight.client) if is_reply else self.edge(flight.client, flight.start), y)
+        turn = (x, y + (7.0 if is_reply else ROW * 0.5))
         if flight.kind == COMMIT:
-            self.canvas.circle(source, 3.2, color(flight.client))
-        turn = (x, y + (ROW * 0.5 if up else 7.0))
+            self.canvas.circle(source, 3.2, hue)
         if flight.is_lost:
-            self.canvas.line([source, turn], color(flight.client), 1.5)
+            self.canvas.line([source, turn], hue, 1.6)
             return self.canvas.cross(turn, RED)
         (first, mark), *others = flight.arrivals
         target = self.target(flight, first)
-        if first > flight.start + 1:
-            path = [source, turn, (x, self.leave(flight, first)), target]
+        if first == flight.start + 1:
+            path, since = [source, target], y + ROW * (x - source[0]) / (target[0] - source[0])
         else:
-            path = [source, target]
-            turn = (x, y + (target[1] - y) * (x - source[0]) / (target[0] - source[0]))
-        self.canvas.arrow(path, color(flight.client), 1.6, DASHES[mark])
-        since = max(turn[1], path[-2][1]) if first > flight.start + 1 else turn[1]
+            since = self.leave(flight, first)
+            path = [source, turn, (x, since), target]
+        self.canvas.arrow(path, hue, 1.6, DASHES[mark])
         for row, mark in others:
-            points = [(x, since), (x, self.leave(flight, row)), self.target(flight, row)]
-            self.canvas.arrow(points, color(flight.client), 1.6, DASHES[mark])
-            since = self.leave(flight, row)
+            leave = self.leave(flight, row)
+            self.canvas.arrow([(x, since), (x, leave), self.target(flight, row)], hue, 1.6, DASHES[mark])
+            since = leave
 
     def target(self, flight: Flight, row: int) -> Point:
         x = self.edge(flight.client, row) if flight.kind == REPLY else self.home(flight.client)
@@ -273,12 +268,16 @@ class Picture:
 
     def draw_legend(self) -> float:
         """The marks that this picture has, and the height of the whole."""
+        x, y = MARGIN, self.end + 58
+        x = self.draw_bar_legend(self.draw_message_legend(x, y), y)
+        return y + 18 if x > MARGIN else self.end + 44
+
+    def draw_message_legend(self, x: float, y: float) -> float:
         flights = self.layout.flights.all()
         marks = {mark for it in flights for _, mark in it.arrivals}
-        x, y = MARGIN, self.end + 58
-        for words, dash in (("late", DASHES[events.LATE]), ("delivered again", DASHES[events.AGAIN])):
-            if words.split()[-1] in marks:
-                self.canvas.arrow([(x, y), (x + 34, y)], SLATE, 1.6, dash)
+        for mark, words in ((events.LATE, "late"), (events.AGAIN, "delivered again")):
+            if mark in marks:
+                self.canvas.arrow([(x, y), (x + 34, y)], SLATE, 1.6, DASHES[mark])
                 x = self.draw_said(x + 40, y, words)
         if any(it.is_lost for it in flights):
             self.canvas.line([(x, y), (x + 20, y)], SLATE, 1.6)
@@ -288,17 +287,21 @@ class Picture:
             self.canvas.circle((x + 4, y), 3.2, SLATE)
             self.canvas.arrow([(x + 4, y), (x + 34, y)], SLATE, 1.6)
             x = self.draw_said(x + 40, y, "offset commit")
+        return x
+
+    def draw_bar_legend(self, x: float, y: float) -> float:
         hows = {holder.how for column in self.layout.columns for *_, holders in column.segments for holder in holders}
         for how, words in ((REVOKES, "to be revoked"), (REMOVED, "removed, and doesn't know yet")):
             if how in hows:
                 self.canvas.rect(x, y - 6, 16, 12, SLATE, f'rx="3" fill-opacity="{PALE[how]}"')
                 x = self.draw_said(x + 22, y, words)
-        return y + 18 if x > MARGIN else self.end + 44
+        return x
 
     def draw_said(self, x: float, y: float, words: str) -> float:
         self.canvas.text(x, y + 4, words, "quiet")
         return x + text_width(words, LABEL_SIZE) + 24
 
 
-def picture(title: str, story: Story) -> Iterator[str]:
-    return Picture(title, story).document()
+def picture(script: str, story: Story) -> Iterator[str]:
+    """The lines of the picture of a story, which has the title of its script's file."""
+    return Picture(pathlib.PurePath(script).stem.replace("-", " "), story).document()

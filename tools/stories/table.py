@@ -6,12 +6,11 @@ import sys
 from typing import Iterator
 
 from stories import events
-from stories.names import code_name, counted, fault_name, moment_text, shortened
+from stories.names import KINDS, code_name, counted, fault_name, moment_text, shortened
 from stories.story import Person, Step, Story
 
 # The longest cell of each column, in characters.
 LONGEST_LINE, LONGEST_OUTCOME, LONGEST_HOLDING = 40, 60, 30
-KINDS = {"join": "join", "short": "heartbeat", "owned": "heartbeat", "full": "full heartbeat", "leave": "leave", "away": "goes away"}
 
 
 class Tale:
@@ -68,7 +67,8 @@ class Tale:
         if isinstance(event, events.Committed):
             return f"{self.name(event.client)}: commit {event.commit}, {event.topic}/{event.index} at offset {event.offset}"
         if isinstance(event, events.ImageSet):
-            return ", ".join(f"{self.topics.label(topic)} has {counted(count, 'partition')}" for topic, count in event.topics) or "no topics"
+            topics = [f"{self.topics.label(topic)} has {counted(count, 'partition')}" for topic, count in event.topics]
+            return ", ".join(topics) or "no topics"
         if isinstance(event, events.ClockSet):
             return f"it is {moment_text(event.moment)}"
         if isinstance(event, events.Ticked):
@@ -96,7 +96,8 @@ def head(person: Person) -> str:
     static = f", static as {person.instance}" if person.instance is not None else ""
     assignor = f", assignor {person.assignor}" if person.assignor is not None else ""
     topics = shortened(", ".join(person.topics), LONGEST_OUTCOME) or "no topics"
-    return f"{shortened(person.name, LONGEST_HOLDING)}: group {shortened(person.group, LONGEST_HOLDING)}{static}{assignor}, subscribes {topics}"
+    name, group = shortened(person.name, LONGEST_HOLDING), shortened(person.group, LONGEST_HOLDING)
+    return f"{name}: group {group}{static}{assignor}, subscribes {topics}"
 
 
 def table(story: Story) -> Iterator[str]:
@@ -132,10 +133,10 @@ def columns(rows: list[list[str]]) -> Iterator[str]:
 
 def numbers(story: Story, script: list[str]) -> Iterator[str]:
     """The script as it stands, and beside each line the numbers of the messages that are made in it."""
-    beside = {step.line: number_text(step.event, story) for step in story.steps}
-    width = max((len(line) for number, line in enumerate(script, 1) if beside.get(number)), default=0)
+    made = {step.line: number_text(step.event, story) for step in story.steps}
+    width = max((len(line) for number, line in enumerate(script, 1) if made.get(number)), default=0)
     for number, line in enumerate(script, 1):
-        yield f"{line.ljust(width)}  {beside.get(number, '')}".rstrip()
+        yield f"{line.ljust(width)}  {made[number]}" if made.get(number) else line
 
 
 def number_text(event: events.Event, story: Story) -> str:
