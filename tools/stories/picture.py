@@ -42,6 +42,11 @@ def look_of(standing: Standing) -> str:
     return REMOVED if standing.is_removed else standing.state
 
 
+def is_double(holders: Sequence[Holder]) -> bool:
+    """Two members hold a partition, neither of them removed. By the rules that is never so."""
+    return sum(holder.how != REMOVED for holder in holders) > 1
+
+
 def color(client: int) -> str:
     return COLORS[client % len(COLORS)]
 
@@ -161,7 +166,7 @@ class Picture:
             name = shortened(self.story.people[holder.client].name, 3)
             if text_width(name, LABEL_SIZE, True) < share and bottom - top > 16:
                 self.canvas.text(left + share / 2, top + 15, name, "bar" if holder.how == SURELY else "pale", "middle")
-        if sum(holder.how != REMOVED for holder in holders) > 1:
+        if is_double(holders):
             self.canvas.rect(x - 1.5, top, width + 3, bottom - top, "none", f'rx="3" stroke="{RED}" stroke-width="1.5"')
 
     # -- messages
@@ -295,6 +300,9 @@ class Picture:
             if how in hows:
                 self.canvas.rect(x, y - 6, 16, 12, SLATE, f'rx="3" fill-opacity="{PALE[how]}"')
                 x = self.draw_said(x + 22, y, words)
+        if any(is_double(holders) for column in self.layout.columns for *_, holders in column.segments):
+            self.canvas.rect(x, y - 6, 16, 12, "none", f'rx="3" stroke="{RED}" stroke-width="1.5"')
+            x = self.draw_said(x + 22, y, "two members at once")
         return x
 
     def draw_said(self, x: float, y: float, words: str) -> float:

@@ -2,6 +2,7 @@
 
 from __future__ import annotations
 
+import itertools
 import sys
 from typing import Iterator
 
@@ -106,10 +107,25 @@ def table(story: Story) -> Iterator[str]:
     yield ""
     yield from part(story, range(1, sys.maxsize))
     yield ""
+    yield from doubles(story)
     for at, standing in enumerate(story.last):
         epoch = f" at epoch {standing.epoch}" if standing.epoch else ""
         holds = f", holds {story.topics.text(standing.holds)}" if standing.holds else ""
         yield f"{shortened(story.people[at].name, LONGEST_HOLDING)} is {standing.state}{epoch}, id {story.report[at].member}{holds}"
+
+
+def doubles(story: Story) -> Iterator[str]:
+    """Where two members of a group, neither of them removed, come to hold a partition. By the rules there is none."""
+    pairs = [it for it in itertools.combinations(range(len(story.people)), 2) if len({story.people[at].group for at in it}) == 1]
+    before: dict[tuple[int, ...], events.Partitions] = {}
+    for step in story.steps:
+        for pair in pairs:
+            one, other = (step.standings[at] for at in pair)
+            both = one.holds & other.holds if not (one.is_removed or other.is_removed) else frozenset()
+            if both - before.get(pair, frozenset()):
+                names = " and ".join(story.people[at].name for at in pair)
+                yield f"line {step.line}: {names} both hold {story.topics.text(both)}"
+            before[pair] = both
 
 
 def part(story: Story, lines: range) -> Iterator[str]:
