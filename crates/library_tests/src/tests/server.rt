@@ -4,10 +4,9 @@ ghost use Rattle.std.specs.Prelude.{◌≡◌, ◌<◌};
 use super::groups::image_of;
 use super::streams::written;
 use coord_server::{
-    AlwaysOpen, Arrivals, ClockMoments, Gate, Moments, Plan, ServerFault, Shards, ShardsDesk,
-    Stamp, serve, serve_sockets,
+    AlwaysOpen, ClockMoments, Gate, Incoming, Moments, Plan, Registry, ServerFault, Shards,
+    ShardsDesk, Stamp, Token, serve, serve_sockets,
 };
-use futures::task::{Context, Poll};
 use futures::test::MockTask;
 use link_futures::{Counted, Feed};
 use std::alloc::{AllocError, AllocGlobal, Global};
@@ -25,7 +24,6 @@ use std::thread::Threads;
 use std::time::{Clock, Duration};
 use std::{io, thread};
 use tokio::io::{DuplexStream, duplex};
-use tokio::runtime::Runtime;
 
 /// A frame of 30 bytes: "Request Header v2" with API key 68, version 0, correlation id 7 and no client id, and a join of
 /// group `g` that names topic `t`: no member id, epoch 0, no instance id, no rack, a rebalance timeout of 60,000 ms, no
@@ -363,7 +361,7 @@ where
         rt,
         move ||
             requires { 0 < plan.workers }
-        { serve_sockets(rt, shards, socket, moments, plan) },
+        { serve_sockets(rt, shards, socket, moments, plan, || Ok(())) },
         move || read_or_knock(rt, gate, address, connections, order),
     );
     Ok((served?, right?))
@@ -466,8 +464,7 @@ where
     R: Wait + Threads + Clock + Net + RandomSource + AllocGlobal + Sync,
     requires { 0 < plan.workers }
 {
-    let mut runtime = Runtime::with_worker_threads(rt, plan.workers.saturating_add(1))?;
-    serve(rt, &mut runtime, shards, Listed { lines }, moments, plan)
+    serve(rt, shards, Listed { lines }, moments, plan, || Ok(()))
 }
 
 /// How many of the replies are right that were written into pipes whose other ends are gone.
@@ -552,11 +549,16 @@ struct Listed {
     lines: VecDeque<MemoryLine>,
 }
 
-impl Arrivals<Counted<Feed>, Counted<DuplexStream>> for Listed {
-    ghost needs = { λ _ _. ⊥ };
+impl Incoming<MemoryLine> for Listed {
+    fn register(&mut self, _registry: &Registry, _token: Token) -> io::Result<()> {
+        Ok(())
+    }
 
-    fn poll_arrival(&mut self, _cx: &mut Context<'_>) -> Poll<Option<MemoryLine>> {
-        Poll::Ready(self.lines.pop_front())
+    fn accept(&mut self) -> io::Result<MemoryLine> {
+        match self.lines.pop_front() {
+            Some(line) => Ok(line),
+            None => Err(io::Error::from(io::ErrorKind::WouldBlock)),
+        }
     }
 }
 
