@@ -7,48 +7,19 @@ from typing import Iterator, Sequence
 from xml.sax.saxutils import escape
 
 from stories import events
+from stories.arrows import Arrows
+from stories.columns import REMOVED, SURELY, Holder, is_double
 from stories.labels import TOLD, Label, Labels, pill_of
-from stories.layout import BESIDE, GAP, LABEL_SIZE, LONGEST_SCRIPT, MARGIN, ROW, SCRIPT_SIZE, UNDER, Flight, Holder, Layout
-from stories.layout import COMMIT, REMOVED, REPLY, REVOKES, SURELY
+from stories.layout import BESIDE, GAP, LABEL_SIZE, LONGEST_SCRIPT, MARGIN, ROW, UNDER, Layout
+from stories.legend import Legend
+from stories.look import BAND, EDGE, GROUND, GUIDE, HEAD, LANE, PALE, PILL, QUIET, RED, SLATE, STYLE, color, pill_width
 from stories.names import printable, shortened
 from stories.story import OUT, Standing, Story
-from stories.svg import MONO, SANS, Canvas, Point, number, text_width
-
-GROUND, EDGE, BAND, GUIDE = "#fcfcfd", "#d0d7de", "#eff2f6", "#eef1f4"
-INK, QUIET, SLATE, RED = "#24292f", "#6b7480", "#4a5361", "#c3212f"
-COLORS = ("#2463c4", "#c2620a", "#1f7f46", "#7a3fc0", "#b8316f", "#0b7d84", "#85571f", "#5b6b16")
-STYLE = f"""
-text {{ font-family: {SANS}; font-size: {LABEL_SIZE}px; fill: {INK} }}
-.word, .quiet, .error, .mark, .good {{ paint-order: stroke; stroke: {GROUND}; stroke-width: 3px; stroke-linejoin: round }}
-.quiet {{ fill: {QUIET} }}
-.error {{ fill: {RED}; font-weight: bold }}
-.mark {{ fill: #96600a; font-weight: bold; font-style: italic }}
-.good {{ fill: #1a7f37; font-weight: bold }}
-.line {{ font-family: {MONO}; font-size: {SCRIPT_SIZE}px; fill: {SLATE} }}
-.title {{ font-size: 12px; fill: {SLATE} }}
-.name {{ font-size: 13px; font-weight: bold; fill: #ffffff }}
-.pill {{ font-size: 10px; font-weight: bold; fill: #ffffff }}
-.told {{ fill: {SLATE} }}
-.bar {{ font-weight: bold; fill: #ffffff }}
-"""
-# How pale a bar is while its holder is to revoke it, and where it was removed.
-PALE = {REVOKES: 0.5, REMOVED: 0.25}
-# Dashes of messages that come late, and not for the first time.
-DASHES = {events.AT_ONCE: "", events.LATE: "7 4", events.AGAIN: "2 3"}
-HEAD, PILL, LANE = 22.0, 16.0, 4.0
+from stories.svg import Canvas, number, text_width
 
 
 def look_of(standing: Standing) -> str:
     return REMOVED if standing.is_removed else standing.state
-
-
-def is_double(holders: Sequence[Holder]) -> bool:
-    """Two members hold a partition, neither of them removed. By the rules that is never so."""
-    return sum(holder.how != REMOVED for holder in holders) > 1
-
-
-def color(client: int) -> str:
-    return COLORS[client % len(COLORS)]
 
 
 class Picture:
@@ -75,13 +46,14 @@ class Picture:
         self.draw_rows()
         self.draw_lanes()
         self.draw_bars()
+        arrows = Arrows(self.canvas, self.layout, self.pills)
         for flight in self.layout.flights.all():
-            self.draw_flight(flight)
+            arrows.draw(flight)
         self.draw_marks()
         self.draw_words()
         self.draw_heads()
         self.draw_ends()
-        bottom = self.draw_legend()
+        bottom = Legend(self.canvas, self.layout, self.end + 58).draw()
         width, height = number(self.layout.width), number(bottom)
         yield f'<svg xmlns="http://www.w3.org/2000/svg" width="{width}" height="{height}" viewBox="0 0 {width} {height}" role="img">'
         yield f"<title>{escape(printable(self.title))}</title>"
@@ -126,10 +98,7 @@ class Picture:
             self.canvas.line(ends, "#aab2bd", 1.5, "2 4")
 
     def draw_heads(self) -> None:
-        assignors = sorted({person.assignor for person in self.story.people if person.assignor is not None})
-        shared = [f"group {it}" for it in self.layout.groups if len(self.layout.groups) == 1]
-        shared += [f"assignor {it}" for it in assignors if len(assignors) == 1]
-        self.canvas.text(MARGIN, 33, shortened(", ".join(shared), LONGEST_SCRIPT), "title")
+        self.canvas.text(MARGIN, 33, self.layout.shared, "title")
         self.draw_head(self.layout.coordinator, "coordinator", SLATE, [])
         for client, person in enumerate(self.story.people):
             self.draw_head(self.layout.lanes[client], shortened(person.name, 12), color(client), self.layout.under[client])
@@ -169,48 +138,7 @@ class Picture:
         if is_double(holders):
             self.canvas.rect(x - 1.5, top, width + 3, bottom - top, "none", f'rx="3" stroke="{RED}" stroke-width="1.5"')
 
-    # -- messages
-
-    def edge(self, client: int, row: int) -> float:
-        """Where messages of a client begin and end: beside its lane, and beside what is written on it."""
-        pill = self.pills[row][client]
-        away = self.pill_width(pill) / 2 + 1 if pill else LANE
-        return self.layout.lanes[client] + (away if client in self.layout.left else -away)
-
-    def home(self, client: int) -> float:
-        return self.layout.coordinator + (-LANE if client in self.layout.left else LANE)
-
-    def draw_flight(self, flight: Flight) -> None:
-        """A message as an arrow, by its track where it isn't received at once, and an arrow for each time that it comes again."""
-        hue, x, y = color(flight.client), self.layout.track(flight), self.layout.row(flight.start)
-        is_reply = flight.kind == REPLY
-        source = (self.home(flight.client) if is_reply else self.edge(flight.client, flight.start), y)
-        turn = (x, y + (7.0 if is_reply else ROW * 0.5))
-        if flight.kind == COMMIT:
-            self.canvas.circle(source, 3.2, hue)
-        if flight.is_lost:
-            self.canvas.line([source, turn], hue, 1.6)
-            return self.canvas.cross(turn, RED)
-        (first, mark), *others = flight.arrivals
-        target = self.target(flight, first)
-        if first == flight.start + 1:
-            path, since = [source, target], y + ROW * (x - source[0]) / (target[0] - source[0])
-        else:
-            since = self.leave(flight, first)
-            path = [source, turn, (x, since), target]
-        self.canvas.arrow(path, hue, 1.6, DASHES[mark])
-        for row, mark in others:
-            leave = self.leave(flight, row)
-            self.canvas.arrow([(x, since), (x, leave), self.target(flight, row)], hue, 1.6, DASHES[mark])
-            since = leave
-
-    def target(self, flight: Flight, row: int) -> Point:
-        x = self.edge(flight.client, row) if flight.kind == REPLY else self.home(flight.client)
-        return x, self.layout.row(row)
-
-    def leave(self, flight: Flight, row: int) -> float:
-        """Where a message leaves its track."""
-        return self.layout.row(row) - (ROW * 0.6 if flight.kind == REPLY else 7.0)
+    # -- words on lanes
 
     def draw_marks(self) -> None:
         """What is written on lanes, and where the coordinator closes a connection."""
@@ -224,12 +152,8 @@ class Picture:
                 if pill:
                     self.draw_pill(self.layout.lanes[client], y, pill, color(client))
 
-    @staticmethod
-    def pill_width(words: str) -> float:
-        return text_width(words, 10, True) + 12
-
     def draw_pill(self, x: float, y: float, words: str, fill: str) -> None:
-        width = self.pill_width(words)
+        width = pill_width(words)
         fill = fill if words.startswith("epoch") else QUIET
         self.canvas.rect(x - width / 2, y - PILL / 2, width, PILL, fill, 'rx="8"')
         self.canvas.text(x, y + 3.5, words, "pill", "middle")
@@ -249,15 +173,16 @@ class Picture:
 
     def draw_label(self, client: int, at: int, label: Label, y: float, to_right: bool) -> None:
         pill = self.pills[at][client]
-        away = max(BESIDE, self.pill_width(pill) / 2 + 5 if pill else 0.0)
+        away = max(BESIDE, pill_width(pill) / 2 + 5 if pill else 0.0)
         x = self.layout.lanes[client]
         self.canvas.spans(x + away if to_right else x - away, y, label, "start" if to_right else "end")
 
     def draw_told(self, told: Label, y: float) -> None:
         """What happens at the coordinator alone, or that nothing happens."""
         words, kind = told[0]
-        width = text_width(words, LABEL_SIZE) + 20
+        width = text_width(words, LABEL_SIZE) + 2 * BESIDE
         left = max(self.layout.coordinator - width / 2, self.layout.script_end + GAP)
+        left = min(left, self.layout.lanes_end - GAP - width)
         self.canvas.rect(left, y - 9, width, 18, GROUND, f'rx="9" stroke="{SLATE}"' if kind == TOLD else 'rx="9"')
         self.canvas.text(left + width / 2, y + 4, words, kind, "middle")
 
@@ -270,45 +195,6 @@ class Picture:
             self.canvas.text(x, self.end + 16, standing.state, "word", "middle")
             if standing.epoch and standing.state != "gone":
                 self.canvas.text(x, self.end + 30, f"epoch {standing.epoch}", "quiet", "middle")
-
-    def draw_legend(self) -> float:
-        """The marks that this picture has, and the height of the whole."""
-        x, y = MARGIN, self.end + 58
-        x = self.draw_bar_legend(self.draw_message_legend(x, y), y)
-        return y + 18 if x > MARGIN else self.end + 44
-
-    def draw_message_legend(self, x: float, y: float) -> float:
-        flights = self.layout.flights.all()
-        marks = {mark for it in flights for _, mark in it.arrivals}
-        for mark, words in ((events.LATE, "late"), (events.AGAIN, "delivered again")):
-            if mark in marks:
-                self.canvas.arrow([(x, y), (x + 34, y)], SLATE, 1.6, DASHES[mark])
-                x = self.draw_said(x + 40, y, words)
-        if any(it.is_lost for it in flights):
-            self.canvas.line([(x, y), (x + 20, y)], SLATE, 1.6)
-            self.canvas.cross((x + 24, y), RED)
-            x = self.draw_said(x + 36, y, "never arrives")
-        if any(it.kind == COMMIT for it in flights):
-            self.canvas.circle((x + 4, y), 3.2, SLATE)
-            self.canvas.arrow([(x + 4, y), (x + 34, y)], SLATE, 1.6)
-            x = self.draw_said(x + 40, y, "offset commit")
-        return x
-
-    def draw_bar_legend(self, x: float, y: float) -> float:
-        hows = {holder.how for column in self.layout.columns for *_, holders in column.segments for holder in holders}
-        for how, words in ((REVOKES, "to be revoked"), (REMOVED, "removed, and doesn't know yet")):
-            if how in hows:
-                self.canvas.rect(x, y - 6, 16, 12, SLATE, f'rx="3" fill-opacity="{PALE[how]}"')
-                x = self.draw_said(x + 22, y, words)
-        if any(is_double(holders) for column in self.layout.columns for *_, holders in column.segments):
-            self.canvas.rect(x, y - 6, 16, 12, "none", f'rx="3" stroke="{RED}" stroke-width="1.5"')
-            x = self.draw_said(x + 22, y, "two members at once")
-        return x
-
-    def draw_said(self, x: float, y: float, words: str) -> float:
-        self.canvas.text(x, y + 4, words, "quiet")
-        return x + text_width(words, LABEL_SIZE) + 24
-
 
 def picture(script: str, story: Story) -> Iterator[str]:
     """The lines of the picture of a story, which has the title of its script's file."""
