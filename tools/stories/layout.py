@@ -4,18 +4,20 @@ from __future__ import annotations
 
 from stories.columns import columns_of
 from stories.flights import Flight, Flights
-from stories.labels import QUIET, TOLD, WORD, Label, Row, under_name
+from stories.labels import MARK, QUIET, TOLD, WORD, Label, Row, under_name
 from stories.names import shortened
 from stories.story import Story
 from stories.svg import MONO_WIDTH, text_width
 
 ROW, MARGIN = 28.0, 20.0
-# Where the heads of lanes end, and how high a line below a head is.
-HEAD_END, UNDER = 52.0, 13.0
+# Where the heads of lanes end, how high a line below a head is, and how far most heads go to either side.
+HEAD_END, UNDER, HALF_HEAD = 52.0, 13.0, 46.0
 SCRIPT_SIZE, LABEL_SIZE, TITLE_SIZE = 10.5, 11.0, 12.0
 LONGEST_SCRIPT = 30
 # How far a label is from its lane, and a lane from what is beside it.
 BESIDE, GAP, LEAST_GUTTER = 10.0, 16.0, 96.0
+# How much wider than a label the place is where a request and its reply enclose it.
+WEDGE = 1.5
 # The room for what is written on a lane, on each side.
 ON_LANE = 24.0
 # Messages that are long under way wait in tracks beside the coordinator.
@@ -30,6 +32,11 @@ def label_width(label: Label) -> float:
 
 def widest(labels: list[Label]) -> float:
     return max([0.0, *map(label_width, labels)])
+
+
+def is_marked(row: Row) -> bool:
+    """The message comes late or again, so that no arrows enclose its label."""
+    return bool(row.message) and row.message[0][1] == MARK
 
 
 def shared_by(story: Story, groups: list[str]) -> str:
@@ -49,12 +56,12 @@ class Layout:
         self.left = [*range(count // 2)]
         self.right = [*range(count // 2, count)]
         self.messages = [widest([row.message for row in rows if row.client == at]) for at in range(count)]
+        self.between_arrows = [widest([row.message for row in rows if row.client == at and not is_marked(row)]) for at in range(count)]
         self.owns = [widest([row.own for row in rows if row.client == at]) for at in range(count)]
         self.told = widest([row.told for row in rows])
         self.groups = sorted({person.group for person in story.people})
         self.shared = shortened(shared_by(story, self.groups), LONGEST_SCRIPT)
-        texts = [text_width(self.shared, TITLE_SIZE), *(len(it) * SCRIPT_SIZE * MONO_WIDTH for it in scripts)]
-        self.script_end = MARGIN + max(texts)
+        self.script_end = MARGIN + max([0.0, *(len(it) * SCRIPT_SIZE * MONO_WIDTH for it in scripts)])
         self.lanes = [0.0] * count
         self.coordinator = 0.0
         self.place_lanes()
@@ -67,12 +74,14 @@ class Layout:
         x = self.script_end + GAP
         if self.left:
             x += max(self.owns[self.left[0]], BESIDE) + ON_LANE + GAP
+        else:
+            x += HALF_HEAD
+        x = max(x, MARGIN + text_width(self.shared, TITLE_SIZE) + GAP + HALF_HEAD)
         for at, client in enumerate(self.left):
             self.lanes[client] = x
             after = self.left[at + 1 :]
             x += self.between(client, after[0]) if after else self.gutter(client, self.left)
-        self.coordinator = x if self.left else x + 60.0
-        x = self.coordinator
+        self.coordinator = x
         for at, client in enumerate(self.right):
             x += self.between(client, self.right[at - 1]) if at else self.gutter(client, self.right)
             self.lanes[client] = x
@@ -88,7 +97,7 @@ class Layout:
         """The room between the coordinator and the nearest lane: labels, and the tracks of all clients of that side."""
         tracks = self.flights.on_tracks(set(clients))
         words = max(self.messages[nearest], LEAST_GUTTER) + BESIDE
-        return max(words * 1.5, words + FIRST_TRACK + tracks * TRACK + GAP)
+        return max((self.between_arrows[nearest] + BESIDE) * WEDGE, words + FIRST_TRACK + tracks * TRACK + GAP)
 
     def place_bars(self) -> None:
         """A bar is as wide as what it is called."""
