@@ -1,0 +1,109 @@
+"""`python3 -m broker`: brokers in front of their coordinators, until a signal ends them."""
+
+from __future__ import annotations
+
+import asyncio
+import contextlib
+import os
+import resource
+import signal
+import sys
+from typing import Callable, List
+
+from broker import starter
+from broker.acceptor import Acceptor, listen
+from broker.cluster import Cluster, Node
+from broker.command_line import Options, Place, parse
+from broker.link import Coordinator, say
+from broker.log import Log
+from broker.offsets import Offsets
+from broker.watch import Watch
+
+HOST = "127.0.0.1"
+# Each client's connection takes two files, the second to the coordinator.
+WANTED_FILES = 10_000
+
+
+def main(words: List[str]) -> int:
+    options = parse(words)
+    raise_file_limit()
+    try:
+        return asyncio.run(until_signalled(options))
+    except (OSError, starter.Ended) as why:
+        say(str(why))
+        return 1
+
+
+def raise_file_limit() -> None:
+    soft, hard = resource.getrlimit(resource.RLIMIT_NOFILE)
+    wanted = WANTED_FILES if hard == resource.RLIM_INFINITY else min(WANTED_FILES, hard)
+    resource.setrlimit(resource.RLIMIT_NOFILE, (max(soft, wanted), hard))
+
+
+async def until_signalled(options: Options) -> int:
+    """Runs until SIGINT or SIGTERM, or until nobody reads what is printed: status 0. Whatever else ends it is raised."""
+    working = asyncio.ensure_future(run(options, teller(lambda: working.cancel())))
+    for number in (signal.SIGINT, signal.SIGTERM):
+        asyncio.get_running_loop().add_signal_handler(number, working.cancel)
+    try:
+        await working
+    except asyncio.CancelledError:
+        pass
+    return 0
+
+
+def teller(stop: Callable[[], object]) -> Callable[[str], None]:
+    def tell(line: str) -> None:
+        try:
+            print(line, flush=True)
+        except BrokenPipeError:
+            sys.stdout = open(os.devnull, "w", encoding="utf-8")
+            stop()
+
+    return tell
+
+
+async def run(options: Options, tell: Callable[[str], None]) -> None:
+    async with contextlib.AsyncExitStack() as stack:
+        listeners = [listen(HOST, options.port and options.port + number) for number in range(len(options.places))]
+        for listener in listeners:
+            stack.callback(listener.close)
+        started: List[starter.Started] = []
+        nodes = []
+        for number, (place, listener) in enumerate(zip(options.places, listeners)):
+            coordinator = await coordinator_at(place, options, started, stack)
+            nodes.append(Node(number, HOST, listener.getsockname()[1], coordinator))
+        cluster = Cluster(nodes, options.topics, Log(options.rate), Offsets())
+        watch = Watch(options.topics, tell)
+        works = [Acceptor(cluster, node, watch, listener).run() for node, listener in zip(nodes, listeners)]
+        works += [watch.expire(), *(each.ended() for each in started)]
+        for node in nodes:
+            tell(f"listening {node.host}:{node.port}  coordinator {node.coordinator}")
+        await until_one_ends(works)
+
+
+async def coordinator_at(
+    place: Place, options: Options, started: List[starter.Started], stack: contextlib.AsyncExitStack
+) -> Coordinator:
+    """The coordinator at a place, which is started where that is wanted, and ended with the stack."""
+    if place is not None:
+        return Coordinator(*place)
+    program = await starter.start(options.program, options.topics)
+    stack.push_async_callback(program.end)
+    started.append(program)
+    return program.coordinator
+
+
+async def until_one_ends(works) -> None:
+    tasks = [asyncio.ensure_future(work) for work in works]
+    try:
+        done, _ = await asyncio.wait(tasks, return_when=asyncio.FIRST_COMPLETED)
+        for task in done:
+            task.result()
+    finally:
+        for task in tasks:
+            task.cancel()
+
+
+if __name__ == "__main__":
+    sys.exit(main(sys.argv[1:]))
