@@ -7,8 +7,9 @@ import contextlib
 import os
 import resource
 import signal
+import socket
 import sys
-from typing import Callable, List
+from typing import Any, Callable, Coroutine, List
 
 from broker import starter
 from broker.acceptor import Acceptor, listen
@@ -17,6 +18,7 @@ from broker.command_line import Options, Place, parse
 from broker.link import Coordinator, say
 from broker.log import Log
 from broker.offsets import Offsets
+from broker.status import Status
 from broker.watch import Watch
 
 HOST = "127.0.0.1"
@@ -64,22 +66,30 @@ def teller(stop: Callable[[], object]) -> Callable[[str], None]:
 
 
 async def run(options: Options, tell: Callable[[str], None]) -> None:
+    """All of it, until a part ends, which raises. Ports are taken first, and coordinators started then."""
     async with contextlib.AsyncExitStack() as stack:
-        listeners = [listen(HOST, options.port and options.port + number) for number in range(len(options.places))]
-        for listener in listeners:
-            stack.callback(listener.close)
+        ports = [options.port and options.port + number for number in range(len(options.places))]
+        listeners = [stack.enter_context(listen(HOST, port)) for port in ports]
+        status = None if options.status is None else stack.enter_context(listen(HOST, options.status))
         started: List[starter.Started] = []
         nodes = []
         for number, (place, listener) in enumerate(zip(options.places, listeners)):
             coordinator = await coordinator_at(place, options, started, stack)
-            nodes.append(Node(number, HOST, listener.getsockname()[1], coordinator))
-        cluster = Cluster(nodes, options.topics, Log(options.rate), Offsets())
-        watch = Watch(options.topics, tell)
+            nodes.append(Node(number, HOST, port_of(listener), coordinator))
+        cluster, watch = Cluster(nodes, options.topics, Log(options.rate), Offsets()), Watch(options.topics, tell)
         works = [Acceptor(cluster, node, watch, listener).run() for node, listener in zip(nodes, listeners)]
         works += [watch.expire(), *(each.ended() for each in started)]
         for node in nodes:
-            tell(f"listening {node.host}:{node.port}  coordinator {node.coordinator}")
+            tell(f"listening {HOST}:{node.port}  coordinator {node.coordinator}")
+        if status is not None:
+            works.append(Status(cluster, watch).run(status))
+            tell(f"status http://{HOST}:{port_of(status)}/")
         await until_one_ends(works)
+
+
+def port_of(listener: socket.socket) -> int:
+    port: int = listener.getsockname()[1]
+    return port
 
 
 async def coordinator_at(
@@ -94,7 +104,7 @@ async def coordinator_at(
     return program.coordinator
 
 
-async def until_one_ends(works) -> None:
+async def until_one_ends(works: List[Coroutine[Any, Any, None]]) -> None:
     tasks = [asyncio.ensure_future(work) for work in works]
     try:
         done, _ = await asyncio.wait(tasks, return_when=asyncio.FIRST_COMPLETED)

@@ -56,6 +56,7 @@ class Acceptor:
             self.room.release()
             return
         task = asyncio.ensure_future(self._serve(client, link))
+        self.node.connections += 1
         self.serving.add(task)
         task.add_done_callback(self._ended)
 
@@ -65,4 +66,5 @@ class Acceptor:
 
     def _ended(self, task: asyncio.Task[None]) -> None:
         self.serving.discard(task)
+        self.node.connections -= 1
         self.room.release()

@@ -20,12 +20,13 @@ LEADER_EPOCH = 0
 
 @dataclasses.dataclass
 class Node:
-    """One broker: its address for clients, and the coordinator behind it."""
+    """One broker: its address for clients, the coordinator behind it, and how many connections are open."""
 
     id: int
     host: str
     port: int
     coordinator: Coordinator
+    connections: int = 0
 
 
 @dataclasses.dataclass

@@ -11,7 +11,7 @@ from broker.offsets import Committed
 
 class Partition(NamedTuple):
     topic: str
-    index: int
+    partition: int
     committed: Committed
 
 
@@ -37,7 +37,7 @@ class Result(NamedTuple):
     """What a reply says of a partition. Replies have the request's partitions in its order."""
 
     topic: str
-    index: int
+    partition: int
     code: int
 
 

@@ -10,7 +10,7 @@ Labels = Tuple[Tuple[str, str], ...]
 def line(name: str, labels: Labels, value: float) -> str:
     """One sample."""
     shown = ",".join(f'{key}="{_escaped(text)}"' for key, text in labels)
-    return f"{name}{{{shown}}} {value:g}" if shown else f"{name} {value:g}"
+    return f"{name}{{{shown}}} {value}" if shown else f"{name} {value}"
 
 
 def _escaped(text: str) -> str:

@@ -44,7 +44,7 @@ class Watch:
     def commit(self, asked: commits.Asked, results: List[commits.Result]) -> None:
         self.revision += 1
         for code in sorted({result.code for result in results}):
-            refused: List[Partition] = [(result.topic, result.index) for result in results if result.code == code]
+            refused: List[Partition] = [(result.topic, result.partition) for result in results if result.code == code]
             self.commits.add(_labels(code), len(refused))
             if code != codes.NONE:
                 self._changed(Change(asked.group, asked.member, asked.epoch, [f"{codes.name(code)}: its commit of {in_words(refused)}"]))
@@ -65,7 +65,8 @@ class Watch:
         self.tell(f"{plain(change.group)}  {short_id(change.member) or '-'}  epoch {change.epoch}  {'; '.join(change.phrases)}")
         if change.converged is not None:
             self.rebalances.observe(change.converged)
-            self.tell(f"{plain(change.group)}  settled after {change.converged:.1f} s")
+            if change.converged > 0:
+                self.tell(f"{plain(change.group)}  settled after {change.converged:.1f} s")
 
     def tell(self, line: str) -> None:
         self.revision += 1
@@ -73,8 +74,10 @@ class Watch:
         self._say(line)
 
     def metrics(self) -> Iterable[str]:
-        for each in (self.heartbeats, self.commits, self.seconds, self.rebalances):
-            yield from each.lines()
+        yield from self.heartbeats.lines()
+        yield from self.commits.lines()
+        yield from self.seconds.lines()
+        yield from self.rebalances.lines()
 
 
 def _labels(code: int) -> Labels:

@@ -32,10 +32,10 @@ async def answer(call: Call) -> bytes:
 
 def refuse(call: Call, asked: Asked, code: int) -> bytes:
     """A refusal of this broker's own: one code for all partitions."""
-    call.watch.commit(asked, [Result(each.topic, each.index, code) for each in asked.partitions()])
+    call.watch.commit(asked, [Result(each.topic, each.partition, code) for each in asked.partitions()])
     return call.request.reply(int32(0) + compact_array(_refused(topic, code) for topic in asked.topics) + NO_TAGS)
 
 
 def _refused(topic: Topic, code: int) -> bytes:
-    partitions = compact_array(int32(each.index) + int16(code) + NO_TAGS for each in topic.partitions)
+    partitions = compact_array(int32(each.partition) + int16(code) + NO_TAGS for each in topic.partitions)
     return compact_string(topic.name) + partitions + NO_TAGS
