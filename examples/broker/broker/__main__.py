@@ -7,17 +7,17 @@ import contextlib
 import os
 import resource
 import signal
-import socket
 import sys
 from typing import Any, Callable, Coroutine, List
 
 from broker import starter
-from broker.acceptor import Acceptor, listen
+from broker.acceptor import listen, port_of
 from broker.cluster import Cluster, Node
 from broker.command_line import Options, Place, parse
 from broker.link import Coordinator, say
 from broker.log import Log
 from broker.offsets import Offsets
+from broker.relay import serve_node
 from broker.status import Status
 from broker.watch import Watch
 
@@ -77,19 +77,14 @@ async def run(options: Options, tell: Callable[[str], None]) -> None:
             coordinator = await coordinator_at(place, options, started, stack)
             nodes.append(Node(number, HOST, port_of(listener), coordinator))
         cluster, watch = Cluster(nodes, options.topics, Log(options.rate), Offsets()), Watch(options.topics, tell)
-        works = [Acceptor(cluster, node, watch, listener).run() for node, listener in zip(nodes, listeners)]
-        works += [watch.expire(), *(each.ended() for each in started)]
+        works = [serve_node(cluster, node, watch, listener) for node, listener in zip(nodes, listeners)]
+        works += [watch.run(), *(each.ended() for each in started)]
         for node in nodes:
             tell(f"listening {HOST}:{node.port}  coordinator {node.coordinator}")
         if status is not None:
             works.append(Status(cluster, watch).run(status))
             tell(f"status http://{HOST}:{port_of(status)}/")
         await until_one_ends(works)
-
-
-def port_of(listener: socket.socket) -> int:
-    port: int = listener.getsockname()[1]
-    return port
 
 
 async def coordinator_at(
@@ -113,6 +108,7 @@ async def until_one_ends(works: List[Coroutine[Any, Any, None]]) -> None:
     finally:
         for task in tasks:
             task.cancel()
+        await asyncio.gather(*tasks, return_exceptions=True)
 
 
 if __name__ == "__main__":

@@ -1,24 +1,16 @@
-"""Takes the clients' connections of one node, and opens one to the coordinator for each.
-
-One after the other: the coordinator orders a member's heartbeats by their connections, in the order in which it accepted these. So its
-connections are opened in the order in which the clients' were accepted.
-"""
+"""Takes connections, one after the other, and serves a bounded number of them at a time."""
 
 from __future__ import annotations
 
 import asyncio
 import socket
-from typing import Set
+from typing import Any, Awaitable, Callable, Coroutine, Optional, Set
 
-from broker.cluster import Cluster, Node
-from broker.link import Link, say
-from broker.relay import Relay, serve
-from broker.watch import Watch
+from broker.link import say
 
 BACKLOG = 1024
-# How many connections a node serves at a time. Further ones wait unaccepted.
-MOST_CONNECTIONS = 2_000
 NO_FILES_SECONDS = 1.0
+Work = Coroutine[Any, Any, None]
 
 
 def listen(host: str, port: int) -> socket.socket:
@@ -27,44 +19,45 @@ def listen(host: str, port: int) -> socket.socket:
     return listener
 
 
-class Acceptor:
-    def __init__(self, cluster: Cluster, node: Node, watch: Watch, listener: socket.socket) -> None:
-        self.cluster, self.node, self.watch, self.listener = cluster, node, watch, listener
-        self.room = asyncio.Semaphore(MOST_CONNECTIONS)
-        self.serving: Set[asyncio.Task[None]] = set()
+def port_of(listener: socket.socket) -> int:
+    port: int = listener.getsockname()[1]
+    return port
 
-    async def run(self) -> None:
-        """Accepts connections for ever."""
-        loop = asyncio.get_running_loop()
+
+async def accept(listener: socket.socket, most: int, prepare: Callable[[socket.socket], Awaitable[Optional[Work]]]) -> None:
+    """Accepts connections for ever. Each is prepared before the next is accepted; what that gives serves it. Where `most` are served, the
+    next one waits unaccepted. When this is cancelled, all of them are."""
+    room = asyncio.Semaphore(most)
+    serving: Set[asyncio.Task[None]] = set()
+
+    def ended(task: asyncio.Task[None]) -> None:
+        serving.discard(task)
+        room.release()
+
+    try:
         while True:
-            if self.room.locked():
-                say(f"{MOST_CONNECTIONS} connections are open: further ones wait")
-            await self.room.acquire()
-            try:
-                client, _ = await loop.sock_accept(self.listener)
-            except OSError as why:
-                say(f"no connection could be accepted: {why}")
-                self.room.release()
-                await asyncio.sleep(NO_FILES_SECONDS)
+            if room.locked():
+                say(f"{most} connections to port {port_of(listener)} are open: further ones wait")
+            await room.acquire()
+            work = await prepare(await _accept_one(listener))
+            if work is None:
+                room.release()
                 continue
-            await self._take(client)
+            task = asyncio.ensure_future(work)
+            serving.add(task)
+            task.add_done_callback(ended)
+    finally:
+        for task in serving:
+            task.cancel()
+        await asyncio.gather(*serving, return_exceptions=True)
 
-    async def _take(self, client: socket.socket) -> None:
-        link = await self.node.coordinator.open()
-        if link is None:
-            client.close()
-            self.room.release()
-            return
-        task = asyncio.ensure_future(self._serve(client, link))
-        self.node.connections += 1
-        self.serving.add(task)
-        task.add_done_callback(self._ended)
 
-    async def _serve(self, client: socket.socket, link: Link) -> None:
-        reader, writer = await asyncio.open_connection(sock=client)
-        await serve(Relay(self.cluster, self.node, self.watch, link), reader, writer)
-
-    def _ended(self, task: asyncio.Task[None]) -> None:
-        self.serving.discard(task)
-        self.node.connections -= 1
-        self.room.release()
+async def _accept_one(listener: socket.socket) -> socket.socket:
+    while True:
+        try:
+            client, _ = await asyncio.get_running_loop().sock_accept(listener)
+            client.setblocking(False)
+            return client
+        except OSError as why:
+            say(f"no connection could be accepted: {why}")
+            await asyncio.sleep(NO_FILES_SECONDS)

@@ -100,7 +100,7 @@ class Groups:
         if group is None and len(self.groups) >= MOST_GROUPS:
             self.unwatched += 1
             return None
-        group = group or self.groups.setdefault(asked.group, Group(asked.group))
+        group = group or Group(asked.group)
         former = group.members.get(told.member or "")
         # A take-over: the instance comes back under another id.
         heir_of = self._away_with(group, asked) if former is None else None
@@ -169,19 +169,24 @@ class Groups:
         return next((each for each in group.members.values() if each.is_away and each.instance == asked.instance), None)
 
     def _keep(self, group: Group, member: Member) -> bool:
-        """Keeps a member. Where there is no room, it isn't known any more."""
-        self._remove(group, member.id)
-        weight = member.weight()
-        if self.weight + weight > MOST_WEIGHT:
+        """Keeps a member in its place. Where there is no room, it isn't known any more."""
+        former = group.members.get(member.id)
+        more = member.weight() - (former.weight() if former else 0)
+        if self.weight + more > MOST_WEIGHT:
+            self._remove(group, member.id)
             return False
-        self.weight += weight
+        self.weight += more
         group.members[member.id] = member
+        self.groups[group.name] = group
         return True
 
     def _remove(self, group: Group, member_id: str) -> None:
+        """Takes a member out, and its group where it was the last one."""
         member = group.members.pop(member_id, None)
         if member is not None:
             self.weight -= member.weight()
+        if not group.members:
+            self.groups.pop(group.name, None)
 
     def _named(self, indexes: Iterable[Index]) -> Partitions:
         """Partitions by their topics' names. One that this program wasn't told of is left out."""
@@ -195,7 +200,6 @@ class Groups:
         converged = None
         if not group.members:
             group.since = None
-            self.groups.pop(group.name, None)
         elif is_settled:
             group.since, converged = None, now - began
         else:

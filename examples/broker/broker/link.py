@@ -72,9 +72,11 @@ class Link:
         self.arriving = asyncio.ensure_future(self._read())
         return reply
 
-    def close(self) -> None:
+    async def close(self) -> None:
         self.arriving.cancel()
         self._writer.close()
+        with contextlib.suppress(OSError):
+            await self._writer.wait_closed()
 
 
 def say(line: str) -> None:

@@ -7,6 +7,7 @@ Nobody produces here. Each partition gets so many records a second, and the reco
 from __future__ import annotations
 
 import time
+from typing import Callable, Optional
 
 from broker.records import HEADER_SIZE, MOST_RECORD_OVERHEAD, Record, record_batch
 
@@ -15,22 +16,22 @@ FIRST_OFFSET = 0
 
 
 class Log:
-    """Every partition's log. It begins empty, at this object's making."""
+    """Every partition's log. It begins empty, at this object's making, which `began_ms` dates in milliseconds since 1970."""
 
-    def __init__(self, rate: float) -> None:
-        self.rate = rate
-        self.began = time.monotonic()
-        self.began_ms = int(time.time() * 1000)
+    def __init__(self, rate: float, clock: Callable[[], float] = time.monotonic, began_ms: Optional[int] = None) -> None:
+        self.rate, self._clock = rate, clock
+        self._began = clock()
+        self.began_ms = int(time.time() * 1000) if began_ms is None else began_ms
 
     def end_offset(self) -> int:
         """The offset that the next record gets."""
-        return int((time.monotonic() - self.began) * self.rate)
+        return int((self._clock() - self._began) * self.rate)
 
     def seconds_until(self, offset: int) -> float:
         """In how many seconds there is a record at this offset; 0 where there is one."""
         if offset < self.end_offset():
             return 0.0
-        return max(0.0, self.began + (offset + 1) / self.rate - time.monotonic()) if self.rate else float("inf")
+        return max(0.0, self._began + (offset + 1) / self.rate - self._clock()) if self.rate else float("inf")
 
     def timestamp(self, offset: int) -> int:
         """When the record at this offset came, in milliseconds since 1970."""

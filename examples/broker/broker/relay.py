@@ -8,9 +8,11 @@ from __future__ import annotations
 
 import asyncio
 import contextlib
+import socket
 import time
 from typing import Optional
 
+from broker.acceptor import Work, accept
 from broker.apis import ANSWERS
 from broker.call import Call
 from broker.cluster import Cluster, Node
@@ -19,9 +21,27 @@ from broker.frames import BadFrame, framed, read_body, read_request
 from broker.link import CoordinatorClosed, Link, say
 from broker.watch import Watch
 
+MOST_CONNECTIONS = 2_000
 # A client that says nothing for so long is disconnected, as is one that doesn't read its replies.
 IDLE_SECONDS = 600
 UNREAD_SECONDS = 60
+
+
+async def serve_node(cluster: Cluster, node: Node, watch: Watch, listener: socket.socket) -> None:
+    """Serves a node's clients for ever.
+
+    The coordinator orders a member's heartbeats by their connections, in the order in which it accepted these. So the connections to it are
+    opened in the order in which the clients' were accepted, one after the other.
+    """
+
+    async def prepare(client: socket.socket) -> Optional[Work]:
+        link = await node.coordinator.open()
+        if link is None:
+            client.close()
+            return None
+        return Relay(cluster, node, watch, link).run(client)
+
+    await accept(listener, MOST_CONNECTIONS, prepare)
 
 
 class Closed(Exception):
@@ -32,23 +52,31 @@ class Relay:
     def __init__(self, cluster: Cluster, node: Node, watch: Watch, link: Link) -> None:
         self.cluster, self.node, self.watch, self.link = cluster, node, watch, link
 
-    async def serve(self, reader: asyncio.StreamReader, writer: asyncio.StreamWriter) -> None:
+    async def run(self, client: socket.socket) -> None:
         """Answers requests until either side closes. Says why, unless the client closed between two requests."""
-        peer = writer.get_extra_info("peername")
+        reader, writer = await asyncio.open_connection(sock=client)
+        host, port = writer.get_extra_info("peername")
+        self.node.connections += 1
         try:
-            while True:
-                body = await self._next(reader)
-                if body is None:
-                    return
-                writer.write(framed(await self._answer(body)))
-                await _drain(writer)
+            await self._serve(reader, writer)
         except (BadFrame, Unreadable, Closed, CoordinatorClosed) as why:
-            say(f"closed the connection of {peer[0]}:{peer[1]}: {why}")
+            say(f"closed the connection of {host}:{port}: {why}")
         except OSError:
             pass
         finally:
-            self.link.close()
+            self.node.connections -= 1
+            await self.link.close()
             writer.close()
+            with contextlib.suppress(OSError):
+                await writer.wait_closed()
+
+    async def _serve(self, reader: asyncio.StreamReader, writer: asyncio.StreamWriter) -> None:
+        while True:
+            body = await self._next(reader)
+            if body is None:
+                return
+            writer.write(framed(await self._answer(body)))
+            await _drain(writer)
 
     async def _next(self, reader: asyncio.StreamReader) -> Optional[bytes]:
         """The next request's body, or None where the client has closed. Raises Closed where the coordinator has."""
@@ -80,10 +108,5 @@ async def _drain(writer: asyncio.StreamWriter) -> None:
     try:
         await asyncio.wait_for(writer.drain(), UNREAD_SECONDS)
     except asyncio.TimeoutError:
+        writer.transport.abort()
         raise Closed(f"it read none of its replies for {UNREAD_SECONDS} s") from None
-
-
-async def serve(relay: Relay, reader: asyncio.StreamReader, writer: asyncio.StreamWriter) -> None:
-    await relay.serve(reader, writer)
-    with contextlib.suppress(OSError):
-        await writer.wait_closed()

@@ -3,7 +3,6 @@
 from __future__ import annotations
 
 import itertools
-import time
 from typing import Any, Dict, Iterable, List, Tuple
 
 from broker.cluster import Cluster, Node
@@ -23,7 +22,7 @@ UNKNOWN = [
 
 def groups(cluster: Cluster, watch: Watch) -> Dict[str, Any]:
     """All that is known, for /groups."""
-    now = time.monotonic()
+    now = watch.clock()
     known = watch.groups.groups
     names = itertools.islice(dict.fromkeys([*known, *cluster.offsets.groups()]), MOST_GROUPS)
     end = cluster.log.end_offset()

@@ -10,6 +10,7 @@ import time
 from typing import Dict, Tuple
 
 from broker import report
+from broker.acceptor import Work, accept
 from broker.cluster import Cluster
 from broker.watch import Watch
 
@@ -21,7 +22,7 @@ UNREAD_SECONDS = 30
 LOOK_SECONDS, EVENT_SECONDS = 0.2, 1.0
 TEXT, JSON = "text/plain; charset=utf-8", "application/json"
 METRICS = "text/plain; version=0.0.4; charset=utf-8"
-REASONS = {200: "OK", 400: "Bad Request", 404: "Not Found", 405: "Method Not Allowed", 503: "Service Unavailable"}
+REASONS = {200: "OK", 400: "Bad Request", 404: "Not Found", 405: "Method Not Allowed"}
 # The page loads nothing but its own events.
 POLICY = "default-src 'none'; style-src 'unsafe-inline'; script-src 'unsafe-inline'; connect-src 'self'"
 
@@ -33,20 +34,20 @@ class Refused(Exception):
 class Status:
     def __init__(self, cluster: Cluster, watch: Watch) -> None:
         self.cluster, self.watch = cluster, watch
-        self.open = 0
         # The last event that was made: of which revision, when, and its bytes.
         self._event: Tuple[int, float, bytes] = (-1, 0.0, b"")
 
     async def run(self, listener: socket.socket) -> None:
         """Serves for ever."""
-        async with await asyncio.start_server(self._serve, sock=listener) as server:
-            await server.serve_forever()
 
-    async def _serve(self, reader: asyncio.StreamReader, writer: asyncio.StreamWriter) -> None:
-        self.open += 1
+        async def prepare(client: socket.socket) -> Work:
+            return self._serve(client)
+
+        await accept(listener, MOST_CONNECTIONS, prepare)
+
+    async def _serve(self, client: socket.socket) -> None:
+        reader, writer = await asyncio.open_connection(sock=client)
         try:
-            if self.open > MOST_CONNECTIONS:
-                raise Refused(503)
             await self._answer(await asyncio.wait_for(_path(reader), REQUEST_SECONDS), writer)
         except Refused as why:
             status = why.args[0]
@@ -54,7 +55,6 @@ class Status:
         except (OSError, asyncio.TimeoutError, asyncio.IncompleteReadError):
             pass
         finally:
-            self.open -= 1
             writer.close()
 
     async def _answer(self, path: str, writer: asyncio.StreamWriter) -> None:

@@ -20,9 +20,9 @@ EXPIRY_SECONDS = 0.5
 
 
 class Watch:
-    def __init__(self, topics: Topics, say: Callable[[str], None]) -> None:
+    def __init__(self, topics: Topics, say: Callable[[str], None], clock: Callable[[], float] = time.monotonic) -> None:
         self.groups = Groups(topics)
-        self._say = say
+        self._say, self.clock = say, clock
         # The last lines that were said, and how much has been seen since the beginning.
         self.lines: Deque[str] = collections.deque(maxlen=MOST_LINES)
         self.revision = 0
@@ -37,7 +37,7 @@ class Watch:
 
     def heartbeat(self, client: Optional[str], asked: heartbeats.Asked, told: heartbeats.Told) -> None:
         self.heartbeats.add(_labels(told.code))
-        change = self.groups.heartbeat(client, asked, told, time.monotonic())
+        change = self.groups.heartbeat(client, asked, told, self.clock())
         if change is not None:
             self._changed(change)
 
@@ -52,12 +52,15 @@ class Watch:
     def answered(self, api: str, seconds: float) -> None:
         self.seconds.observe(seconds, (("api", api),))
 
-    async def expire(self) -> None:
+    async def run(self) -> None:
         """Takes out the members whose sessions are over, for ever."""
         while True:
             await asyncio.sleep(EXPIRY_SECONDS)
-            for change in self.groups.expire(time.monotonic()):
-                self._changed(change)
+            self.expire()
+
+    def expire(self) -> None:
+        for change in self.groups.expire(self.clock()):
+            self._changed(change)
 
     # ---- what is told of it
 

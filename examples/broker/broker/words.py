@@ -19,7 +19,7 @@ def plain(text: str) -> str:
 
 def short_id(member: str) -> str:
     """The end of a member id. (The ids of one coordinator begin alike.)"""
-    return plain(member)[-MEMBER_LETTERS:]
+    return plain(member[-MEMBER_LETTERS:])
 
 
 def by_topic(partitions: Iterable[Partition]) -> Dict[str, List[int]]:

@@ -20,7 +20,6 @@ async def answer(call: Call) -> bytes:
     if version >= FLEXIBLE:
         _software_name, _software_version = request.fields.compact_string(), request.fields.compact_string()
         request.fields.tags()
-    request.fields.end()
     if version >= FLEXIBLE:
         return request.reply(int16(codes.NONE) + compact_array(row + NO_TAGS for row in rows) + NO_THROTTLE + NO_TAGS)
     return request.reply(int16(codes.NONE) + array(rows) + (NO_THROTTLE if version >= 1 else b""))

@@ -40,7 +40,6 @@ async def answer(call: Call) -> bytes:
         _forgotten = fields.array(lambda: (fields.string(), fields.array(fields.int32)))
     if version >= 11:
         _rack = fields.string()
-    fields.end()
     await _wait(call.cluster, [each for topic in topics for each in topic], min(wait_ms / 1000, MOST_WAIT_SECONDS))
     room = Room(min(most_bytes, MOST_BYTES))
     answers = array(_topic_reply(call.cluster, topic, room, version) for topic in topics if topic)

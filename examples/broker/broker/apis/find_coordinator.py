@@ -14,7 +14,6 @@ async def answer(call: Call) -> bytes:
     fields, version = call.request.fields, call.request.version
     key = fields.string()
     kind = fields.int8() if version >= 1 else GROUP
-    fields.end()
     throttle = int32(0) if version >= 1 else b""
     if kind != GROUP:
         message = nullable_string("there are coordinators of groups alone") if version >= 1 else b""

@@ -21,7 +21,6 @@ async def answer(call: Call) -> bytes:
     if version >= 2:
         _isolation = fields.int8()
     topics = fields.array(lambda: _topic(call, version))
-    fields.end()
     return call.request.reply((int32(0) if version >= 2 else b"") + array(topics))
 
 

@@ -31,7 +31,6 @@ async def answer(call: Call) -> bytes:
         _wants_cluster_operations = fields.boolean()
     _wants_topic_operations = fields.boolean()
     fields.tags()
-    fields.end()
     if asked is None:
         asked = [Asked(topic.id, topic.name) for topic in cluster.topics]
     reply = int32(0) + compact_array(_broker(node) for node in cluster.nodes)

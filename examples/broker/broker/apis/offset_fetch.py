@@ -28,7 +28,6 @@ async def answer(call: Call) -> bytes:
     # (Whether offsets of open transactions are to be waited for: there are no transactions.)
     _wants_stable = fields.boolean()
     fields.tags()
-    fields.end()
     return call.request.reply(int32(0) + compact_array(_group_reply(call, group) for group in groups) + NO_TAGS)
 
 

@@ -15,7 +15,6 @@ async def answer(call: Call) -> bytes:
     if version >= 3:
         _replica = fields.int32()
     topics = fields.array(lambda: _topic(call))
-    fields.end()
     return call.request.reply(int32(0) + array(topics))
 
 
