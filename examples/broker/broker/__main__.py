@@ -76,7 +76,8 @@ async def run(options: Options, tell: Callable[[str], None]) -> None:
         for number, (place, listener) in enumerate(zip(options.places, listeners)):
             coordinator = await coordinator_at(place, options, started, stack)
             nodes.append(Node(number, HOST, port_of(listener), coordinator))
-        cluster, watch = Cluster(nodes, options.topics, Log(options.rate), Offsets()), Watch(options.topics, tell)
+        log, watch = Log(options.rate, options.records), Watch(options.topics, tell)
+        cluster = Cluster(nodes, options.topics, log, Offsets())
         works = [serve_node(cluster, node, watch, listener) for node, listener in zip(nodes, listeners)]
         works += [watch.run(), *(each.ended() for each in started)]
         for node in nodes:

@@ -27,6 +27,7 @@ class Options:
     port: int
     status: Optional[int]
     rate: float
+    records: int
     topics: Topics
 
 
@@ -51,6 +52,7 @@ def parse(words: List[str]) -> Options:
     parser.add_argument("--port", type=_port, required=True, help="clients' port of 127.0.0.1, the first of as many as brokers; 0 is a free one each")
     parser.add_argument("--status", type=_port, metavar="PORT", help="port of 127.0.0.1 for the page /, /groups and /metrics")
     parser.add_argument("--rate", type=_rate, default=2.0, metavar="R", help="records a second in each partition (%(default)g)")
+    parser.add_argument("--records", type=_records, default=0, metavar="N", help="records in each partition from the start (%(default)d)")
     parser.add_argument("topics", nargs="+", type=_topic, metavar="NAME:UUID:COUNT", help="a topic: its name, id and number of partitions")
     given = parser.parse_args(words)
     if not given.places:
@@ -61,7 +63,7 @@ def parse(words: List[str]) -> Options:
         topics = Topics(given.topics)
     except ValueError as why:
         parser.error(str(why))
-    return Options(given.places, given.program, given.port, given.status, given.rate, topics)
+    return Options(given.places, given.program, given.port, given.status, given.rate, given.records, topics)
 
 
 def _place(word: str) -> Place:
@@ -85,6 +87,12 @@ def _rate(word: str) -> float:
     if not 0 <= rate <= MOST_RECORDS_A_SECOND:
         raise argparse.ArgumentTypeError(f"{word!r} is no number from 0 to {MOST_RECORDS_A_SECOND}")
     return rate
+
+
+def _records(word: str) -> int:
+    if not re.fullmatch(r"\d{1,9}", word):
+        raise argparse.ArgumentTypeError(f"{word!r} is no number from 0 to 999999999")
+    return int(word)
 
 
 def _topic(word: str) -> Topic:

@@ -1,11 +1,13 @@
 """The records that the topics' partitions have.
 
-Nobody produces here. Each partition gets so many records a second, and the record at an offset is always the same: its value is
-`topic/partition/offset`, so a reader can see that it got what it asked for. Records are made when they are fetched, and none is kept.
+Nobody produces here. Each partition has some records from the start and gets so many a second, and the record at an offset is always the
+same: its value is `topic/partition/offset`, so a reader can see that it got what it asked for. Records are made when they are fetched, and
+none is kept.
 """
 
 from __future__ import annotations
 
+import math
 import time
 from typing import Callable, Optional
 
@@ -16,26 +18,31 @@ FIRST_OFFSET = 0
 
 
 class Log:
-    """Every partition's log. It begins empty, at this object's making, which `began_ms` dates in milliseconds since 1970."""
+    """Every partition's log. It begins at this object's making, which `began_ms` dates in milliseconds since 1970, with so many records
+    of the timestamp 0."""
 
-    def __init__(self, rate: float, clock: Callable[[], float] = time.monotonic, began_ms: Optional[int] = None) -> None:
-        self.rate, self._clock = rate, clock
+    def __init__(
+        self, rate: float, records: int = 0, clock: Callable[[], float] = time.monotonic, began_ms: Optional[int] = None
+    ) -> None:
+        self.rate, self.records, self._clock = rate, records, clock
         self._began = clock()
         self.began_ms = int(time.time() * 1000) if began_ms is None else began_ms
 
     def end_offset(self) -> int:
         """The offset that the next record gets."""
-        return int((self._clock() - self._began) * self.rate)
+        return self.records + int((self._clock() - self._began) * self.rate)
 
     def seconds_until(self, offset: int) -> float:
         """In how many seconds there is a record at this offset; 0 where there is one."""
         if offset < self.end_offset():
             return 0.0
-        return max(0.0, self._began + (offset + 1) / self.rate - self._clock()) if self.rate else float("inf")
+        if not self.rate:
+            return math.inf
+        return max(0.0, self._began + (offset + 1 - self.records) / self.rate - self._clock())
 
     def timestamp(self, offset: int) -> int:
         """When the record at this offset came, in milliseconds since 1970."""
-        return self.began_ms + int((offset + 1) * 1000 / self.rate)
+        return 0 if offset < self.records else self.began_ms + int((offset + 1 - self.records) * 1000 / self.rate)
 
     def offset_at(self, timestamp: int) -> int:
         """The first offset whose record came at this moment or later, or the end."""
