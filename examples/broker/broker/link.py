@@ -23,7 +23,8 @@ class Coordinator:
 
     def __init__(self, host: str, port: int) -> None:
         self.host, self.port = host, port
-        self.is_there = True
+        # Whether it was there when a client last connected. None: no client has.
+        self.is_there: Optional[bool] = None
 
     def __str__(self) -> str:
         return f"{self.host}:{self.port}"
@@ -33,11 +34,11 @@ class Coordinator:
         try:
             streams = await asyncio.wait_for(asyncio.open_connection(self.host, self.port), OPEN_SECONDS)
         except (OSError, asyncio.TimeoutError) as why:
-            if self.is_there:
+            if self.is_there is not False:
                 say(f"the coordinator {self} can't be reached, and clients' connections are closed: {why or 'it is silent'}")
             self.is_there = False
             return None
-        if not self.is_there:
+        if self.is_there is False:
             say(f"the coordinator {self} is there again")
         self.is_there = True
         return Link(*streams)

@@ -79,7 +79,8 @@ def metrics(cluster: Cluster, watch: Watch) -> str:
     known, nodes = watch.groups.groups.values(), cluster.nodes
     members: List[Tuple[Labels, float]] = [((("group", group.name),), len(group.members)) for group in known]
     connections: List[Tuple[Labels, float]] = [((("node", str(node.id)),), node.connections) for node in nodes]
-    there: List[Tuple[Labels, float]] = [((("coordinator", str(node.coordinator)),), int(node.coordinator.is_there)) for node in nodes]
+    known_places = [node.coordinator for node in nodes if node.coordinator.is_there is not None]
+    there: List[Tuple[Labels, float]] = [((("coordinator", str(place)),), int(place.is_there or 0)) for place in known_places]
     lines = [
         *watch.metrics(),
         *gauge("broker_group_members", "Members of a group, as far as their heartbeats passed here.", members),

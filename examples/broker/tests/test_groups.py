@@ -171,7 +171,7 @@ class Groups(unittest.TestCase):
             "broker_groups 1",
             "broker_groups_rebalancing 0",
             "broker_committed_offsets 1",
-            'broker_coordinator_up{coordinator="127.0.0.1:9"} 1',
+            'broker_connections{node="0"} 0',
         ]
         lines = report.metrics(it.cluster, it.watch).splitlines()
         self.assertEqual([line for line in wanted if line not in lines], [])
