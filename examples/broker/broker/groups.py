@@ -7,7 +7,7 @@ the coordinator says that it doesn't know it, when it leaves, or when it has sai
 from __future__ import annotations
 
 import dataclasses
-from typing import Dict, FrozenSet, Iterable, List, Optional, Tuple
+from typing import Dict, FrozenSet, Iterable, List, Optional
 
 from broker import codes
 from broker.heartbeats import AWAY, JOIN, LEAVE, Asked, Index, Told
@@ -214,11 +214,11 @@ def _phrases(former: Optional[Member], member: Member, asked: Asked) -> Iterable
         yield "joins again" if former else "joins"
     elif former is None:
         yield "is heard of for the first time"
-    elif before.epoch != member.epoch:
-        yield f"was at epoch {before.epoch}"
     if before.names != member.names and member.names is not None:
         yield f"subscribes {' '.join(sorted(member.names)) or 'no topic that is known here'}"
     yield from _moves(before, member, asked)
+    if former is not None and former.epoch != member.epoch:
+        yield f"was at epoch {former.epoch}"
 
 
 def _moves(before: Member, member: Member, asked: Asked) -> Iterable[str]:
@@ -232,12 +232,3 @@ def _moves(before: Member, member: Member, asked: Asked) -> Iterable[str]:
     revoked = (before.assigned or NOTHING) - (member.assigned or NOTHING) - released
     if revoked and member.assigned is not None:
         yield f"revokes {in_words(revoked)}"
-
-
-def holders(group: Group) -> Dict[Partition, List[Tuple[Member, bool]]]:
-    """Who may read each partition, and whether it is still assigned to them: more than one where the coordinator has lost its groups."""
-    found: Dict[Partition, List[Tuple[Member, bool]]] = {}
-    for member in group.members.values():
-        for partition in member.held:
-            found.setdefault(partition, []).append((member, partition in (member.assigned or NOTHING)))
-    return found

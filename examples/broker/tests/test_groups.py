@@ -63,7 +63,7 @@ REBALANCE = [
     "g  000001  epoch 1  joins; subscribes orders; is assigned orders[0..1]",
     "g  000002  epoch 2  joins; subscribes orders",
     "g  000001  epoch 1  revokes orders[1]",
-    "g  000001  epoch 2  was at epoch 1; has given up orders[1]",
+    "g  000001  epoch 2  has given up orders[1]; was at epoch 1",
     "g  000002  epoch 2  is assigned orders[1]",
     "g  settled after 5.0 s",
 ]

@@ -30,7 +30,7 @@ OF_TWO_MEMBERS = [
     "G  000001  epoch 1  joins; subscribes t; is assigned t[0..1]",
     "G  000002  epoch 2  joins; subscribes t",
     "G  000001  epoch 1  revokes t[0]",
-    "G  000001  epoch 2  was at epoch 1; has given up t[0]",
+    "G  000001  epoch 2  has given up t[0]; was at epoch 1",
     "G  000002  epoch 2  is assigned t[0]",
     "G  settled after N s",
     "G  000002  epoch 2  leaves",
