@@ -123,7 +123,6 @@ struct Streaming {
     replies: Frames,
 }
 
-/// All that a table needs. Where a growth is refused it is made once more.
 fn polling<R: RandomSource + AllocGlobal>(rt: &R) -> Result<Streaming, Fail> {
     Ok(Streaming {
         task: task_of(rt)?,
@@ -190,24 +189,34 @@ impl Streaming {
         self.tell_session(Session::new(line, desk), out)
     }
 
-    /// Tells what a worker's lines have written. A line that finds no memory is let go, and is no line that has ended.
+    /// Tells what a worker's lines have written. A line that finds no memory is let go, and is no line that has ended: then the row
+    /// is asked again.
     fn tell_worker(&self, alloc: Global, words: &str, out: &mut String) -> Result<(), AllocError> {
-        let mut lines = Vec::new(alloc);
-        let mut far_ends = Vec::new(alloc);
+        let (mut lines, mut far_ends) = (Vec::new(alloc), Vec::new(alloc));
         for words in words.split("; ") {
-            let (near, far) = duplex(alloc, PIPE)?;
-            let (reads, words) = cut(words);
-            let reader = Counted::new(feed(alloc, reads, words, &self.requests)?);
-            lines.push(Line::new(alloc, 1, reader, Counted::new(near)))?;
+            let (line, far) = self.piped_line(alloc, words)?;
+            lines.push(line)?;
             far_ends.push(far)?;
         }
         let wanted = lines.len() as u64;
-        let ended = ended_within(&self.task, 1_000, lines, self.desk(alloc)?, alloc);
+        let ended = ended_within(alloc, &self.task, lines, self.desk(alloc)?, 1_000);
         if ended != Some(wanted) {
             return Err(AllocError);
         }
         write!(out, "{wanted}")?;
         self.tell_written(alloc, far_ends, out)
+    }
+
+    /// A line that writes into a pipe, and the other end of the pipe.
+    fn piped_line(
+        &self,
+        alloc: Global,
+        words: &str,
+    ) -> Result<(FedLine<Counted<DuplexStream>>, DuplexStream), AllocError> {
+        let (reads, words) = cut(words);
+        let reader = Counted::new(feed(alloc, reads, words, &self.requests)?);
+        let (near, far) = duplex(alloc, PIPE)?;
+        Ok((Line::new(alloc, 1, reader, Counted::new(near)), far))
     }
 
     fn tell_written(
@@ -228,7 +237,7 @@ impl Streaming {
         let (polls, words) = cut(words);
         let mut lines = Vec::new(alloc);
         lines.push(self.line_of(alloc, words)?)?;
-        match ended_within(&self.task, number(polls), lines, self.desk(alloc)?, alloc) {
+        match ended_within(alloc, &self.task, lines, self.desk(alloc)?, number(polls)) {
             Some(ended) => write!(out, "{ended}"),
             None => out.push_str("no end"),
         }
@@ -299,11 +308,11 @@ fn put_end(end: Option<End>, out: &mut String) -> Result<(), AllocError> {
 
 /// How many of these lines have ended once their worker is ready, if it is within so many polls.
 fn ended_within<W: WriteParts>(
+    alloc: Global,
     task: &MockTask,
-    polls: usize,
     lines: Vec<FedLine<W>>,
     desk: Solo<Still>,
-    alloc: Global,
+    polls: usize,
 ) -> Option<u64> {
     let worker = Worker::new(alloc, stream::iter(lines), desk);
     output_within(task, worker, polls)

@@ -29,16 +29,9 @@ pub struct Frames {
 }
 
 impl Frames {
-    /// The frames of these bodies.
-    pub fn of(
-        alloc: Global,
-        bodies: &[(&'static str, &'static str)],
-    ) -> Result<Frames, AllocError> {
-        let mut named = Vec::new(alloc);
-        for (name, body) in bodies {
-            named.push((*name, frame_of(alloc, body)?))?;
-        }
-        Ok(Frames { named })
+    /// The frames of these bodies. Where a growth is refused they are made once more.
+    pub fn of(alloc: Global, bodies: &[(&'static str, &str)]) -> Result<Frames, AllocError> {
+        frames_of(alloc, bodies).or_else(|_| frames_of(alloc, bodies))
     }
 
     fn named(&self, name: &str) -> Option<&[u8]> {
@@ -59,6 +52,14 @@ impl Frames {
         }
         None
     }
+}
+
+fn frames_of(alloc: Global, bodies: &[(&'static str, &str)]) -> Result<Frames, AllocError> {
+    let mut named = Vec::new(alloc);
+    for (name, body) in bodies {
+        named.push((*name, frame_of(alloc, body)?))?;
+    }
+    Ok(Frames { named })
 }
 
 /// A word, and the number behind a mark in it, or 1.
@@ -227,8 +228,13 @@ fn put_rest(bytes: &[u8], frames: &Frames, out: &mut String) -> Result<(), Alloc
     put_hex(out, bytes)
 }
 
-/// The table with a row for each number that `#` stands for: a row begins with the first and the last of them, as `1..33`.
+/// The table with a row for each number that `#` stands for: a row begins with the first and the last of them, as `1..33`. Where a
+/// growth is refused it is made once more.
 pub fn numbered_rows(alloc: Global, table: &str) -> Result<String, AllocError> {
+    rows_of(alloc, table).or_else(|_| rows_of(alloc, table))
+}
+
+fn rows_of(alloc: Global, table: &str) -> Result<String, AllocError> {
     let mut rows = String::new(alloc);
     for row in table.lines().filter(|row| !row.is_empty()) {
         let (numbers, row) = cut(row);
