@@ -4,12 +4,15 @@ ghost use Rattle.std.specs.Prelude.{◌≡◌, ◌<◌};
 use crate::gates::Watched;
 use crate::server::{Told, shards_over};
 use bytes::BytesMut;
-use coord_server::{Arrivals, ClockMoments, Moments, Plan, ServerFault, Shards, serve};
-use futures::task::{Context, Poll};
+use coord_server::{
+    ClockMoments, Incoming, Moments, Plan, Registry, ServerFault, Shards, Token, serve,
+};
+use futures::task::Poll;
 use futures::test::MockTask;
 use link_futures::{Counted, Feed};
 use std::alloc::{AllocError, AllocGlobal, Global};
 use std::collections::VecDeque;
+use std::io;
 use std::marker::Brand;
 use std::net::Net;
 use std::random::RandomSource;
@@ -19,7 +22,6 @@ use std::thread::Threads;
 use std::time::Clock;
 use test_support::frames::{JOINED, frame_of};
 use tokio::io::{DuplexStream, duplex, read_to_end};
-use tokio::runtime::Runtime;
 
 /// What comes of a server over lines in memory.
 pub fn over_memory<G, R>(rt: &R, gate: G, plan: Plan, frames: &[Vec<u8>]) -> Result<Told, ServerFault>
@@ -79,8 +81,7 @@ where
     R: Wait + Threads + Clock + Net + RandomSource + AllocGlobal + Sync,
     requires { 0 < plan.workers }
 {
-    let mut runtime = Runtime::with_worker_threads(rt, plan.workers.saturating_add(1))?;
-    serve(rt, &mut runtime, shards, Listed { lines }, moments, plan)
+    serve(rt, shards, Listed { lines }, moments, plan, || Ok(()))
 }
 
 /// How many of the replies are right that were written into pipes whose other ends are gone.
@@ -117,11 +118,16 @@ struct Listed {
     lines: VecDeque<MemoryLine>,
 }
 
-impl Arrivals<Counted<Feed>, Counted<DuplexStream>> for Listed {
-    ghost needs = { λ _ _. ⊥ };
+impl Incoming<MemoryLine> for Listed {
+    fn register(&mut self, _registry: &Registry, _token: Token) -> io::Result<()> {
+        Ok(())
+    }
 
-    fn poll_arrival(&mut self, _cx: &mut Context<'_>) -> Poll<Option<MemoryLine>> {
-        Poll::Ready(self.lines.pop_front())
+    fn accept(&mut self) -> io::Result<MemoryLine> {
+        match self.lines.pop_front() {
+            Some(line) => Ok(line),
+            None => Err(io::Error::from(io::ErrorKind::WouldBlock)),
+        }
     }
 }
 

@@ -194,7 +194,7 @@ where
         rt,
         move ||
             requires { 0 < plan.workers }
-        { serve_sockets(rt, shards, socket, moments, plan) },
+        { serve_sockets(rt, shards, socket, moments, plan, || Ok(())) },
         move || read_all(gate, connections, reply, order),
     );
     Ok((served?, right?))
