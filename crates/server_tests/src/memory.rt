@@ -24,7 +24,12 @@ use test_support::frames::{JOINED, frame_of};
 use tokio::io::{DuplexStream, duplex, read_to_end};
 
 /// What comes of a server over lines in memory.
-pub fn over_memory<G, R>(rt: &R, gate: G, plan: Plan, frames: &[Vec<u8>]) -> Result<Told, ServerFault>
+pub fn over_memory<G, R>(
+    rt: &R,
+    gate: G,
+    plan: Plan,
+    frames: &[Vec<u8>],
+) -> Result<Told, ServerFault>
 where
     G: Watched,
     R: Wait + Threads + Clock + Net + RandomSource + AllocGlobal + Sync,
@@ -139,7 +144,10 @@ fn lines_of(
     let mut lines = VecDeque::new(alloc);
     let mut far_ends = Vec::new(alloc);
     for frame in frames {
-        let feed = Feed::new(Vec::from_slice(alloc, frame.as_slice())?, VecDeque::new(alloc));
+        let feed = Feed::new(
+            Vec::from_slice(alloc, frame.as_slice())?,
+            VecDeque::new(alloc),
+        );
         let (near, far) = duplex(alloc, 256)?;
         lines.push_back((Counted::new(feed), Counted::new(near)))?;
         far_ends.push(far)?;

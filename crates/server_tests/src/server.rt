@@ -65,7 +65,10 @@ fn first_join_is_answered(rt: HostRuntime) -> Result<(), Fail> {
         frames: &frames,
         order: &[0],
     };
-    assert_eq!(rt; over_sockets(&rt, AlwaysOpen, TICKING, client)?, (1, 1, false));
+    assert_eq!(rt;
+        over_sockets(&rt, AlwaysOpen, TICKING, client)?,
+        (1, 1, false)
+    );
     Ok(())
 }
 
