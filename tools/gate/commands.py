@@ -168,6 +168,7 @@ def room(name, parent=None):
         if signal.getsignal(it) != signal.SIG_IGN:
             signal.signal(it, stop)
     folder = os.path.realpath(tempfile.mkdtemp(prefix=f"{name}-", dir=parent))
+    before = tempfile.gettempdir()
     tempfile.tempdir = os.environ["TMPDIR"] = f"{folder}/tmp"
     os.mkdir(tempfile.tempdir)
     for it in (folder, tempfile.tempdir):
@@ -176,6 +177,7 @@ def room(name, parent=None):
         yield folder
     finally:
         end_all()
+        tempfile.tempdir = os.environ["TMPDIR"] = before
         shutil.rmtree(folder, ignore_errors=True)
 
 

@@ -13,8 +13,6 @@ from gate import commands, crates  # noqa: E402
 from launch import build, command_line, sources, unproved  # noqa: E402
 
 UNPROVED = "--unproved"
-# As it is before a build has its own folder for temporary files.
-ENVIRONMENT = dict(os.environ)
 
 
 def main(words: List[str]) -> int:
@@ -41,7 +39,7 @@ def main(words: List[str]) -> int:
 def hand_over(kept: sources.Kept, words: List[str]) -> None:
     # Python ignores this signal, and the program would inherit that.
     signal.signal(signal.SIGPIPE, signal.SIG_DFL)
-    os.execve(kept.program, ["coord", *words], ENVIRONMENT)
+    os.execv(kept.program, ["coord", *words])
 
 
 def has_toolchain(tree: crates.Tree) -> bool:
