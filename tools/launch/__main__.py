@@ -17,29 +17,41 @@ UNPROVED = "--unproved"
 
 def main(words: List[str]) -> int:
     tree = crates.Tree(crates.repository(), "")
-    is_unproved = words[:1] == [UNPROVED]
-    words = words[is_unproved:]
-    kept = sources.Kept(tree, "coord-unproved" if is_unproved else "coord")
+    if words[:1] == [UNPROVED]:
+        return run_unproved(tree, words[1:])
+    kept = sources.Kept(tree, "coord")
     if not kept.is_current():
-        fault = command_line.fault_of(words)
-        if fault is not None:
-            sys.stderr.write(fault)
-            return 2
+        answer = command_line.answer_of(words)
+        if answer is not None:
+            return answer.tell()
+        if not has_toolchain(tree) or not build.build(tree, kept):
+            return 1
+    return run(kept, words)
+
+
+def run_unproved(tree: crates.Tree, words: List[str]) -> int:
+    kept = sources.Kept(tree, "coord-unproved")
+    if not kept.is_current():
+        answer = command_line.answer_of(words)
+        if answer is not None:
+            return answer.tell()
         if not has_toolchain(tree):
             return 1
-        if is_unproved and not unproved.native(tree, kept):
-            return unproved.tried(tree, words)
-        if not is_unproved and not build.build(tree, kept):
+        try:
+            if not unproved.native(tree, kept):
+                return unproved.tried(tree, words)
+        except unproved.Refused as why:
+            print(why, file=sys.stderr)
+            build.tell("the sources are no program")
             return 1
-    if is_unproved:
-        build.tell("an unproved run: nothing of what it does is proved")
-    hand_over(kept, words)
+    build.tell("an unproved run: nothing of what it does is proved")
+    return run(kept, words)
 
 
-def hand_over(kept: sources.Kept, words: List[str]) -> None:
+def run(kept: sources.Kept, words: List[str]) -> int:
     # Python ignores this signal, and the program would inherit that.
     signal.signal(signal.SIGPIPE, signal.SIG_DFL)
-    os.execv(kept.program, ["coord", *words])
+    return os.execv(kept.program, ["coord", *words])
 
 
 def has_toolchain(tree: crates.Tree) -> bool:

@@ -17,6 +17,8 @@ from launch import build, sources
 TARGET = "x86_64-unknown-linux-gnu"
 # How a try compiles the program, and how it is compiled here: for speed, and without the checks that a try is for.
 TRIED, CHECKED, FAST = "-O0", "-fsanitize=address", "-O2"
+# The status of `rt try` where it doesn't come to the compiler, since the sources are no program.
+REFUSED_STATUS = 1
 # `rt try` ends a program after a minute.
 ENDLESS = "serve"
 
@@ -28,6 +30,10 @@ case " $* " in *" {checked} "*)
 esac
 exec {compiler} "$@"
 """
+
+
+class Refused(Exception):
+    """The sources are no program, as the lines say."""
 
 
 def native(tree: crates.Tree, kept: sources.Kept) -> bool:
@@ -48,10 +54,12 @@ def native(tree: crates.Tree, kept: sources.Kept) -> bool:
 
 def native_of(copied: crates.Tree, kit: str, folder: str) -> Optional[pathlib.Path]:
     """A native program of the sources, in this folder, where one can be made."""
-    commands.run([f"{stand_in_kit(kit, folder)}/bin/rt", "try", "--", "reply"], copied.folder(sources.CRATE))
+    ran = commands.run([f"{stand_in_kit(kit, folder)}/bin/rt", "try", "--", "reply"], copied.folder(sources.CRATE))
     try:
         words = pathlib.Path(folder, "words").read_text().splitlines()
     except OSError:
+        if ran.status == REFUSED_STATUS:
+            raise Refused("\n".join(ran.lines())) from None
         return None
     words = [FAST if it == TRIED else it for it in words if it != CHECKED]
     linked = ["module.o", f"{kit}/c/libos_c.a", f"{kit}/c/liblibc_c.a"]
