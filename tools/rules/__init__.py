@@ -6,6 +6,7 @@
     node      the groups of a coordinator, frame by frame
     client    the client side: what a member asks, and what it makes of replies
     world     one coordinator, its clients, and pools of messages that are delivered in any order
+    lines     the lines of scripts of worlds: what each asks for and prints, and why one can't be read
     compare   runs the program over scripts, and compares what it prints
 
 The rules are those of KIP-848 and of the Kafka protocol guide, and this project's own where these leave a choice
