@@ -1,0 +1,63 @@
+"""Takes connections, one after the other, and serves a bounded number of them at a time."""
+
+from __future__ import annotations
+
+import asyncio
+import socket
+from typing import Any, Awaitable, Callable, Coroutine, Optional, Set
+
+from broker.link import say
+
+BACKLOG = 1024
+NO_FILES_SECONDS = 1.0
+Work = Coroutine[Any, Any, None]
+
+
+def listen(host: str, port: int) -> socket.socket:
+    listener = socket.create_server((host, port), backlog=BACKLOG)
+    listener.setblocking(False)
+    return listener
+
+
+def port_of(listener: socket.socket) -> int:
+    port: int = listener.getsockname()[1]
+    return port
+
+
+async def accept(listener: socket.socket, most: int, prepare: Callable[[socket.socket], Awaitable[Optional[Work]]]) -> None:
+    """Accepts connections for ever. Each is prepared before the next is accepted; what that gives serves it. Where `most` are served, the
+    next one waits unaccepted. When this is cancelled, all of them are."""
+    room = asyncio.Semaphore(most)
+    serving: Set[asyncio.Task[None]] = set()
+
+    def ended(task: asyncio.Task[None]) -> None:
+        serving.discard(task)
+        room.release()
+
+    try:
+        while True:
+            if room.locked():
+                say(f"{most} connections to port {port_of(listener)} are open: further ones wait")
+            await room.acquire()
+            work = await prepare(await _accept_one(listener))
+            if work is None:
+                room.release()
+                continue
+            task = asyncio.ensure_future(work)
+            serving.add(task)
+            task.add_done_callback(ended)
+    finally:
+        for task in serving:
+            task.cancel()
+        await asyncio.gather(*serving, return_exceptions=True)
+
+
+async def _accept_one(listener: socket.socket) -> socket.socket:
+    while True:
+        try:
+            client, _ = await asyncio.get_running_loop().sock_accept(listener)
+            client.setblocking(False)
+            return client
+        except OSError as why:
+            say(f"no connection could be accepted: {why}")
+            await asyncio.sleep(NO_FILES_SECONDS)

@@ -1,0 +1,104 @@
+"""Fetch (key 1, versions 4 to 11): the records from an offset on. It waits for some where there are none yet."""
+
+from __future__ import annotations
+
+import asyncio
+import dataclasses
+from typing import List
+
+from broker import codes
+from broker.call import Call
+from broker.cluster import Cluster
+from broker.fields import Reader, array, int16, int32, int64, string
+from broker.log import FIRST_OFFSET
+
+# Whatever the client allows.
+MOST_WAIT_SECONDS = 5.0
+MOST_BYTES = 4 << 20
+# There are no fetch sessions: every request says all that it wants.
+NO_SESSION = int32(0)
+NO_OFFSET = -1
+
+
+@dataclasses.dataclass
+class Asked:
+    topic: str
+    partition: int
+    offset: int
+    most_bytes: int
+
+
+async def answer(call: Call) -> bytes:
+    fields, version = call.request.fields, call.request.version
+    _replica = fields.int32()
+    wait_ms, _least_bytes, most_bytes = fields.int32(), fields.int32(), fields.int32()
+    _isolation = fields.int8()
+    if version >= 7:
+        _session, _session_epoch = fields.int32(), fields.int32()
+    topics = fields.array(lambda: _topic(fields, version))
+    if version >= 7:
+        _forgotten = fields.array(lambda: (fields.string(), fields.array(fields.int32)))
+    if version >= 11:
+        _rack = fields.string()
+    await _wait(call.cluster, [each for topic in topics for each in topic], min(wait_ms / 1000, MOST_WAIT_SECONDS))
+    room = Room(min(most_bytes, MOST_BYTES))
+    answers = array(_topic_reply(call.cluster, topic, room, version) for topic in topics if topic)
+    no_error = int16(codes.NONE) + NO_SESSION if version >= 7 else b""
+    return call.request.reply(int32(0) + no_error + answers)
+
+
+def _topic(fields: Reader, version: int) -> List[Asked]:
+    name = fields.string()
+    return fields.array(lambda: _partition(fields, name, version))
+
+
+def _partition(fields: Reader, topic: str, version: int) -> Asked:
+    index = fields.int32()
+    if version >= 9:
+        _current_leader_epoch = fields.int32()
+    offset = fields.int64()
+    if version >= 5:
+        _log_start_offset = fields.int64()
+    return Asked(topic, index, offset, fields.int32())
+
+
+def _code(cluster: Cluster, asked: Asked) -> int:
+    if not cluster.topics.has(asked.topic, asked.partition):
+        return codes.UNKNOWN_TOPIC_OR_PARTITION
+    return codes.NONE if FIRST_OFFSET <= asked.offset <= cluster.log.end_offset() else codes.OFFSET_OUT_OF_RANGE
+
+
+async def _wait(cluster: Cluster, asked: List[Asked], seconds: float) -> None:
+    """Waits until a record that is asked for has come, at most so long. An error is answered at once."""
+    if all(_code(cluster, each) == codes.NONE for each in asked):
+        first = min((cluster.log.seconds_until(each.offset) for each in asked), default=seconds)
+        await asyncio.sleep(max(0.0, min(first, seconds)))
+
+
+class Room:
+    """How many bytes of records fit into a reply. Its first batch fits in any case, so that a reader goes on."""
+
+    def __init__(self, most_bytes: int) -> None:
+        self.left = max(1, most_bytes)
+
+    def records(self, cluster: Cluster, asked: Asked) -> bytes:
+        if self.left <= 0:
+            return b""
+        batch = cluster.log.batch(asked.topic, asked.partition, asked.offset, min(asked.most_bytes, self.left))
+        self.left -= len(batch)
+        return batch
+
+
+def _topic_reply(cluster: Cluster, topic: List[Asked], room: Room, version: int) -> bytes:
+    return string(topic[0].topic) + array(_partition_reply(cluster, each, room, version) for each in topic)
+
+
+def _partition_reply(cluster: Cluster, asked: Asked, room: Room, version: int) -> bytes:
+    code = _code(cluster, asked)
+    end, begin = (cluster.log.end_offset(), FIRST_OFFSET) if code == codes.NONE else (NO_OFFSET, NO_OFFSET)
+    records = room.records(cluster, asked) if code == codes.NONE else b""
+    high_watermark, last_stable, aborted = int64(end), int64(end), int32(0)
+    entry = int32(asked.partition) + int16(code) + high_watermark + last_stable
+    entry += (int64(begin) if version >= 5 else b"") + aborted
+    preferred_replica = int32(-1) if version >= 11 else b""
+    return entry + preferred_replica + int32(len(records)) + records

@@ -1,0 +1,73 @@
+"""Metadata (key 3, versions 9 to 12): the brokers, and the topics with their ids, partitions and leaders."""
+
+from __future__ import annotations
+
+import uuid
+from typing import NamedTuple, Optional
+
+from broker import codes
+from broker.call import Call
+from broker.cluster import CLUSTER_ID, LEADER_EPOCH, Cluster, Node
+from broker.fields import NO_TAGS, Reader, boolean, compact_array, compact_nullable_string, compact_string, int16, int32
+from broker.topics import Topic
+
+NO_ID = uuid.UUID(int=0)
+# Which operations the client may do isn't told.
+NOT_TOLD = int32(-(1 << 31))
+
+
+class Asked(NamedTuple):
+    """A topic that is asked for, by its name, or by its id where the name is null."""
+
+    id: uuid.UUID
+    name: Optional[str]
+
+
+async def answer(call: Call) -> bytes:
+    fields, version, cluster = call.request.fields, call.request.version, call.cluster
+    asked = fields.compact_nullable_array(lambda: _asked(fields, version))
+    _may_create_topics = fields.boolean()
+    if version <= 10:
+        _wants_cluster_operations = fields.boolean()
+    _wants_topic_operations = fields.boolean()
+    fields.tags()
+    if asked is None:
+        asked = [Asked(topic.id, topic.name) for topic in cluster.topics]
+    reply = int32(0) + compact_array(_broker(node) for node in cluster.nodes)
+    reply += compact_string(CLUSTER_ID) + int32(cluster.nodes[0].id)
+    reply += compact_array(_topic(cluster, each, version) for each in asked)
+    return call.request.reply(reply + (NOT_TOLD if version <= 10 else b"") + NO_TAGS)
+
+
+def _asked(fields: Reader, version: int) -> Asked:
+    topic_id = fields.uuid() if version >= 10 else NO_ID
+    name = fields.compact_nullable_string() if version >= 10 else fields.compact_string()
+    fields.tags()
+    return Asked(topic_id, name)
+
+
+def _broker(node: Node) -> bytes:
+    no_rack = compact_nullable_string(None)
+    return int32(node.id) + compact_string(node.host) + int32(node.port) + no_rack + NO_TAGS
+
+
+def _topic(cluster: Cluster, asked: Asked, version: int) -> bytes:
+    found = cluster.topics.by_id.get(asked.id) if asked.name is None else cluster.topics.by_name.get(asked.name)
+    if found is None:
+        code = codes.UNKNOWN_TOPIC_ID if asked.name is None else codes.UNKNOWN_TOPIC_OR_PARTITION
+        return _entry(code, Topic(asked.name or "", asked.id, 0), b"\1", version)
+    partitions = compact_array(_partition(cluster.leader_of(index), index) for index in range(found.count))
+    return _entry(codes.NONE, found, partitions, version)
+
+
+def _entry(code: int, topic: Topic, partitions: bytes, version: int) -> bytes:
+    name = compact_nullable_string(topic.name or None) if version >= 12 else compact_string(topic.name)
+    topic_id = topic.id.bytes if version >= 10 else b""
+    is_internal = boolean(False)
+    return int16(code) + name + topic_id + is_internal + partitions + NOT_TOLD + NO_TAGS
+
+
+def _partition(leader: Node, index: int) -> bytes:
+    one, none = compact_array([int32(leader.id)]), compact_array([])
+    replicas, in_sync, offline = one, one, none
+    return int16(codes.NONE) + int32(index) + int32(leader.id) + int32(LEADER_EPOCH) + replicas + in_sync + offline + NO_TAGS

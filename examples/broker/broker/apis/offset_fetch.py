@@ -1,0 +1,67 @@
+"""OffsetFetch (key 9, version 9): what a group has committed. A member begins to read a partition there."""
+
+from __future__ import annotations
+
+from typing import List, NamedTuple, Optional
+
+from broker import codes
+from broker.call import Call
+from broker.fields import NO_TAGS, Reader, compact_array, compact_nullable_string, compact_string, int16, int32, int64
+from broker.offsets import Committed
+
+
+class AskedTopic(NamedTuple):
+    name: str
+    partitions: List[int]
+
+
+class AskedGroup(NamedTuple):
+    """A group, and of which topics its offsets are asked for: None for all that it has."""
+
+    name: str
+    topics: Optional[List[AskedTopic]]
+
+
+async def answer(call: Call) -> bytes:
+    fields = call.request.fields
+    groups = fields.compact_array(lambda: _group(fields))
+    # (Whether offsets of open transactions are to be waited for: there are no transactions.)
+    _wants_stable = fields.boolean()
+    fields.tags()
+    return call.request.reply(int32(0) + compact_array(_group_reply(call, group) for group in groups) + NO_TAGS)
+
+
+def _group(fields: Reader) -> AskedGroup:
+    name = fields.compact_string()
+    # (The coordinator alone could judge these two, which librdkafka leaves out.)
+    _member, _member_epoch = fields.compact_nullable_string(), fields.int32()
+    topics = fields.compact_nullable_array(lambda: _topic(fields))
+    fields.tags()
+    return AskedGroup(name, topics)
+
+
+def _topic(fields: Reader) -> AskedTopic:
+    topic = AskedTopic(fields.compact_string(), fields.compact_array(fields.int32))
+    fields.tags()
+    return topic
+
+
+def _group_reply(call: Call, group: AskedGroup) -> bytes:
+    if not call.is_coordinator_of(group.name):
+        return compact_string(group.name) + compact_array([]) + int16(codes.NOT_COORDINATOR) + NO_TAGS
+    offsets = call.cluster.offsets
+    topics = group.topics
+    if topics is None:
+        topics = [AskedTopic(topic, sorted(stored)) for topic, stored in sorted(offsets.of_group(group.name).items())]
+    entries = [
+        compact_string(topic.name)
+        + compact_array(_partition(index, offsets.of(group.name, topic.name, index)) for index in topic.partitions)
+        + NO_TAGS
+        for topic in topics
+    ]
+    return compact_string(group.name) + compact_array(entries) + int16(codes.NONE) + NO_TAGS
+
+
+def _partition(index: int, committed: Committed) -> bytes:
+    entry = int32(index) + int64(committed.offset) + int32(committed.leader_epoch)
+    return entry + compact_nullable_string(committed.metadata) + int16(codes.NONE) + NO_TAGS

@@ -1,0 +1,59 @@
+"""What the clients see: a cluster of brokers. There are as many as coordinators, and each passes on to its own.
+
+Which coordinator has a group is a function of the group's id alone, as in Kafka, where it names the partition of the internal topic
+that the group's state lies in. So each group lives in one coordinator whole.
+"""
+
+from __future__ import annotations
+
+import dataclasses
+from typing import List
+
+from broker.link import Coordinator
+from broker.log import Log
+from broker.offsets import Offsets
+from broker.topics import Topics
+
+CLUSTER_ID = "coord-serve"
+LEADER_EPOCH = 0
+
+
+@dataclasses.dataclass
+class Node:
+    """One broker: its address for clients, the coordinator behind it, and how many connections are open."""
+
+    id: int
+    host: str
+    port: int
+    coordinator: Coordinator
+    connections: int = 0
+
+
+@dataclasses.dataclass
+class Cluster:
+    nodes: List[Node]
+    topics: Topics
+    log: Log
+    offsets: Offsets
+
+    def coordinator_of(self, group: str) -> Node:
+        return self.nodes[group_number(group, len(self.nodes))]
+
+    def leader_of(self, partition: int) -> Node:
+        """The partitions' leaders go round the nodes. (Every node has the records of all.)"""
+        return self.nodes[partition % len(self.nodes)]
+
+
+def java_hash(text: str) -> int:
+    """`String.hashCode` of Java: over UTF-16 units, as a signed number of 32 bits."""
+    number = 0
+    data = text.encode("utf-16-be")
+    for at in range(0, len(data), 2):
+        number = (31 * number + int.from_bytes(data[at : at + 2], "big")) & 0xFFFFFFFF
+    return number - (1 << 32) if number >> 31 else number
+
+
+def group_number(group: str, count: int) -> int:
+    """Where Kafka puts a group among so many. (The magnitude of the least number is no number of Java's, and counts as 0.)"""
+    number = java_hash(group)
+    return 0 if number == -(1 << 31) else abs(number) % count

@@ -1,0 +1,88 @@
+"""The messages of OffsetCommit version 9, as far as they are read here."""
+
+from __future__ import annotations
+
+import dataclasses
+from typing import List, NamedTuple
+
+from broker.fields import Reader
+from broker.offsets import Committed
+
+
+class Partition(NamedTuple):
+    topic: str
+    partition: int
+    committed: Committed
+
+
+class Topic(NamedTuple):
+    name: str
+    partitions: List[Partition]
+
+
+@dataclasses.dataclass(frozen=True)
+class Asked:
+    """A request's fields."""
+
+    group: str
+    epoch: int
+    member: str
+    topics: List[Topic]
+
+    def partitions(self) -> List[Partition]:
+        return [partition for topic in self.topics for partition in topic.partitions]
+
+
+class Result(NamedTuple):
+    """What a reply says of a partition. Replies have the request's partitions in its order."""
+
+    topic: str
+    partition: int
+    code: int
+
+
+def read_request(fields: Reader) -> Asked:
+    group, epoch, member = fields.compact_string(), fields.int32(), fields.compact_string()
+    _instance = fields.compact_nullable_string()
+    topics = fields.compact_array(lambda: _topic(fields))
+    fields.tags()
+    fields.end()
+    return Asked(group, epoch, member, topics)
+
+
+def _topic(fields: Reader) -> Topic:
+    name = fields.compact_string()
+    topic = Topic(name, fields.compact_array(lambda: _partition(fields, name)))
+    fields.tags()
+    return topic
+
+
+def _partition(fields: Reader, topic: str) -> Partition:
+    index, offset, leader_epoch = fields.int32(), fields.int64(), fields.int32()
+    metadata = fields.compact_nullable_string()
+    fields.tags()
+    return Partition(topic, index, Committed(offset, leader_epoch, metadata or ""))
+
+
+def read_reply(body: bytes) -> List[Result]:
+    fields = Reader(body)
+    _correlation = fields.int32()
+    fields.tags()
+    _throttle = fields.int32()
+    topics = fields.compact_array(lambda: _results(fields))
+    fields.tags()
+    fields.end()
+    return [result for topic in topics for result in topic]
+
+
+def _results(fields: Reader) -> List[Result]:
+    name = fields.compact_string()
+    results = fields.compact_array(lambda: _result(fields, name))
+    fields.tags()
+    return results
+
+
+def _result(fields: Reader, topic: str) -> Result:
+    result = Result(topic, fields.int32(), fields.int16())
+    fields.tags()
+    return result

@@ -1,0 +1,73 @@
+"""Frames: a size of four bytes and a body, which begins with a header."""
+
+from __future__ import annotations
+
+import asyncio
+import dataclasses
+import struct
+from typing import Optional
+
+from broker.fields import NO_TAGS, Reader, Unreadable, int32
+from broker.versions import API_VERSIONS, SPOKEN
+
+LONGEST_BODY = 8 << 20
+# API key, API version and correlation id.
+LEAST_REQUEST = 8
+
+
+class BadFrame(Exception):
+    """Bytes that are no frame, and why. What comes behind them can't be read either."""
+
+
+async def read_body(stream: asyncio.StreamReader, least: int = LEAST_REQUEST) -> Optional[bytes]:
+    """The body of the next frame, or None where the stream ends before it. Raises BadFrame, and ConnectionError."""
+    try:
+        first = await stream.readexactly(4)
+        size = struct.unpack(">i", first)[0]
+        if not least <= size <= LONGEST_BODY:
+            raise BadFrame(f"a frame begins with {first!r}, which is no size of {least} to {LONGEST_BODY} bytes")
+        return await stream.readexactly(size)
+    except asyncio.IncompleteReadError as end:
+        if not end.partial and end.expected == 4:
+            return None
+        raise BadFrame("the stream ends within a frame") from None
+
+
+def framed(body: bytes) -> bytes:
+    return int32(len(body)) + body
+
+
+@dataclasses.dataclass
+class Request:
+    """A request's header, and a reader of the fields behind it."""
+
+    key: int
+    version: int
+    correlation: int
+    client: Optional[str]
+    body: bytes
+    fields: Reader
+
+    @property
+    def name(self) -> str:
+        return SPOKEN[self.key].name
+
+    def reply(self, fields: bytes) -> bytes:
+        """A reply's body. (The header of an ApiVersions reply has no tags in any version, so that all can read it.)"""
+        has_tags = self.version >= SPOKEN[self.key].flexible and self.key != API_VERSIONS
+        return int32(self.correlation) + (NO_TAGS if has_tags else b"") + fields
+
+
+def read_request(body: bytes) -> Request:
+    """Reads a request's header. Raises Unreadable, also where the API or its version isn't spoken here."""
+    fields = Reader(body)
+    key, version, correlation, client = fields.int16(), fields.int16(), fields.int32(), fields.nullable_string()
+    spoken = SPOKEN.get(key)
+    if spoken is None:
+        raise Unreadable(f"API key {key} isn't spoken here")
+    # A client that asks for the versions can't know which of this request there are, and is told.
+    if not spoken.has(version) and key != API_VERSIONS:
+        raise Unreadable(f"{spoken.name} version {version} isn't spoken here")
+    if version >= spoken.flexible:
+        fields.tags()
+    return Request(key, version, correlation, client, body, fields)

@@ -1,0 +1,234 @@
+"""What the frames that pass tell of the groups.
+
+The coordinator's state isn't asked for. A member is known from its first accepted heartbeat that passes, and is taken to be removed when
+the coordinator says that it doesn't know it, when it leaves, or when it has said nothing for a session's time.
+"""
+
+from __future__ import annotations
+
+import dataclasses
+from typing import Dict, FrozenSet, Iterable, List, Optional
+
+from broker import codes
+from broker.heartbeats import AWAY, JOIN, LEAVE, Asked, Index, Told
+from broker.topics import Topics
+from broker.words import Partition, in_words, plain
+
+SESSION_SECONDS = 45.0
+MOST_GROUPS = 1_000
+# Over all members: the characters of their texts, and so many for each partition or topic that is listed.
+MOST_WEIGHT = 16 << 20
+WEIGHT_OF_AN_ENTRY = 64
+Partitions = FrozenSet[Partition]
+NOTHING: Partitions = frozenset()
+
+
+@dataclasses.dataclass
+class Member:
+    """A member, as far as its heartbeats and their replies tell. What is None isn't known: it was said before this program began."""
+
+    id: str
+    client: str
+    instance: Optional[str] = None
+    epoch: int = 0
+    is_away: bool = False
+    assignor: Optional[str] = None
+    names: Optional[FrozenSet[str]] = None
+    # What the last assignment shows, and what the member may still read: that, and what it hasn't said to have given up.
+    assigned: Optional[Partitions] = None
+    held: Partitions = NOTHING
+    heard: float = 0.0
+
+    def weight(self) -> int:
+        texts = len(self.id) + len(self.client) + len(self.instance or "") + len(self.assignor or "")
+        entries = len(self.names or ()) + len(self.assigned or ()) + len(self.held)
+        return texts + WEIGHT_OF_AN_ENTRY * (1 + entries)
+
+
+@dataclasses.dataclass
+class Group:
+    name: str
+    members: Dict[str, Member] = dataclasses.field(default_factory=dict)
+    # Since when a rebalance is under way, or None.
+    since: Optional[float] = None
+
+    def epoch(self) -> int:
+        """The greatest epoch of a member that is known."""
+        return max((member.epoch for member in self.members.values()), default=0)
+
+    def is_settled(self, topics: Topics) -> Optional[bool]:
+        """Whether all members have one epoch and just what they are assigned, and each partition of their topics is assigned. None where
+        that isn't known."""
+        members = self.members.values()
+        if any(member.assigned is None or member.names is None for member in members):
+            return None
+        subscribed = {topics.by_name[name] for member in members for name in member.names or () if name in topics.by_name}
+        epochs = {member.epoch for member in members if not member.is_away}
+        assigned = sum(len(member.assigned or ()) for member in members)
+        is_held = all(member.held == member.assigned for member in members)
+        return len(epochs) < 2 and is_held and assigned == sum(topic.count for topic in subscribed)
+
+
+@dataclasses.dataclass
+class Change:
+    """What a heartbeat changed, in words; and the seconds that a rebalance took which it ended."""
+
+    group: str
+    member: str
+    epoch: int
+    phrases: List[str]
+    converged: Optional[float] = None
+
+
+class Groups:
+    def __init__(self, topics: Topics) -> None:
+        self.topics = topics
+        self.groups: Dict[str, Group] = {}
+        self.weight = 0
+        # How many accepted heartbeats came of members that there was no room for.
+        self.unwatched = 0
+
+    # ---- heartbeats
+
+    def heartbeat(self, client: Optional[str], asked: Asked, told: Told, now: float) -> Optional[Change]:
+        """Takes a heartbeat and its reply, and says what they change, if anything."""
+        if told.code != codes.NONE:
+            return self._refused(asked, told.code, now)
+        if asked.epoch in (LEAVE, AWAY):
+            return self._left(asked, now)
+        group = self.groups.get(asked.group)
+        if group is None and len(self.groups) >= MOST_GROUPS:
+            self.unwatched += 1
+            return None
+        group = group or Group(asked.group)
+        former = group.members.get(told.member or "")
+        # A take-over: the instance comes back under another id.
+        heir_of = self._away_with(group, asked) if former is None else None
+        if heir_of is not None:
+            self._remove(group, heir_of.id)
+        member = former or Member(told.member or "", client or "")
+        return self._beat(group, former, self._after(member, asked, told, now), asked, now)
+
+    def _after(self, member: Member, asked: Asked, told: Told, now: float) -> Member:
+        """The member behind the heartbeat."""
+        after = dataclasses.replace(member, epoch=told.epoch, is_away=False, heard=now)
+        if asked.epoch == JOIN:
+            after.instance, after.held = asked.instance, NOTHING
+        elif asked.owned is not None:
+            after.held = self._named(asked.owned)
+        if asked.names is not None:
+            after.names = frozenset(name for name in asked.names if name in self.topics.by_name)
+        if asked.assignor is not None:
+            after.assignor = asked.assignor
+        if told.assigned is not None:
+            after.assigned = self._named(told.assigned)
+            after.held |= after.assigned
+        return after
+
+    def _beat(self, group: Group, former: Optional[Member], member: Member, asked: Asked, now: float) -> Optional[Change]:
+        if not self._keep(group, member):
+            self.unwatched += 1
+            return None
+        phrases = list(_phrases(former, member, asked))
+        return self._change(group, member.id, member.epoch, phrases, now) if phrases else None
+
+    def _refused(self, asked: Asked, code: int, now: float) -> Change:
+        group = self.groups.get(asked.group)
+        if group and asked.member in group.members and code in (codes.UNKNOWN_MEMBER_ID, codes.FENCED_MEMBER_EPOCH):
+            # The member gives up all that it has, and joins again.
+            self._remove(group, asked.member)
+            return self._change(group, asked.member, asked.epoch, [codes.name(code)], now)
+        return Change(asked.group, asked.member, asked.epoch, [codes.name(code)])
+
+    def _left(self, asked: Asked, now: float) -> Optional[Change]:
+        group = self.groups.get(asked.group)
+        member = group.members.get(asked.member) if group else None
+        if group is None or member is None:
+            return Change(asked.group, asked.member, asked.epoch, ["leaves" if asked.epoch == LEAVE else "goes away"])
+        if asked.epoch == LEAVE:
+            self._remove(group, member.id)
+            return self._change(group, member.id, member.epoch, ["leaves"], now)
+        member.is_away, member.heard = True, now
+        return self._change(group, member.id, member.epoch, [f"goes away, and instance {plain(member.instance or '')} has 45 s to come back"], now)
+
+    def expire(self, now: float) -> List[Change]:
+        """Removes the members that said nothing for a session's time, as the coordinator does."""
+        changes = []
+        for group in list(self.groups.values()):
+            for member in [each for each in group.members.values() if now - each.heard > SESSION_SECONDS]:
+                self._remove(group, member.id)
+                phrase = f"said nothing for {SESSION_SECONDS:.0f} s: its session is over"
+                changes.append(self._change(group, member.id, member.epoch, [phrase], now))
+        return changes
+
+    # ---- the table
+
+    def _away_with(self, group: Group, asked: Asked) -> Optional[Member]:
+        if asked.instance is None or asked.epoch != JOIN:
+            return None
+        return next((each for each in group.members.values() if each.is_away and each.instance == asked.instance), None)
+
+    def _keep(self, group: Group, member: Member) -> bool:
+        """Keeps a member in its place. Where there is no room, it isn't known any more."""
+        former = group.members.get(member.id)
+        more = member.weight() - (former.weight() if former else 0)
+        if self.weight + more > MOST_WEIGHT:
+            self._remove(group, member.id)
+            return False
+        self.weight += more
+        group.members[member.id] = member
+        self.groups[group.name] = group
+        return True
+
+    def _remove(self, group: Group, member_id: str) -> None:
+        """Takes a member out, and its group where it was the last one."""
+        member = group.members.pop(member_id, None)
+        if member is not None:
+            self.weight -= member.weight()
+        if not group.members:
+            self.groups.pop(group.name, None)
+
+    def _named(self, indexes: Iterable[Index]) -> Partitions:
+        """Partitions by their topics' names. One that this program wasn't told of is left out."""
+        found = ((self.topics.by_id.get(topic_id), index) for topic_id, index in indexes)
+        return frozenset((topic.name, index) for topic, index in found if topic and topic.has(index))
+
+    def _change(self, group: Group, member: str, epoch: int, phrases: List[str], now: float) -> Change:
+        """A change begins a rebalance where none is under way. It ends where all is as it is to be."""
+        began = now if group.since is None else group.since
+        is_settled = group.is_settled(self.topics)
+        converged = None
+        if not group.members:
+            group.since = None
+        elif is_settled:
+            group.since, converged = None, now - began
+        else:
+            group.since = None if is_settled is None else began
+        return Change(group.name, member, epoch, phrases, converged)
+
+
+def _phrases(former: Optional[Member], member: Member, asked: Asked) -> Iterable[str]:
+    """What a heartbeat changed of a member."""
+    before = former or Member(member.id, member.client)
+    if asked.epoch == JOIN:
+        yield "joins again" if former else "joins"
+    elif former is None:
+        yield "is heard of for the first time"
+    if before.names != member.names and member.names is not None:
+        yield f"subscribes {' '.join(sorted(member.names)) or 'no topic that is known here'}"
+    yield from _moves(before, member, asked)
+    if former is not None and former.epoch != member.epoch:
+        yield f"was at epoch {former.epoch}"
+
+
+def _moves(before: Member, member: Member, asked: Asked) -> Iterable[str]:
+    """What partitions a heartbeat moved: given up in the request, assigned and revoked in the reply."""
+    released = before.held - member.held if asked.epoch != JOIN else NOTHING
+    if released:
+        yield f"has given up {in_words(released)}"
+    gained = (member.assigned or NOTHING) - (before.assigned or NOTHING)
+    if gained:
+        yield f"is assigned {in_words(gained)}"
+    revoked = (before.assigned or NOTHING) - (member.assigned or NOTHING) - released
+    if revoked and member.assigned is not None:
+        yield f"revokes {in_words(revoked)}"

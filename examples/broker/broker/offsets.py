@@ -1,0 +1,57 @@
+"""The committed offsets, as a broker keeps them for OffsetFetch.
+
+The coordinator has no way to give an offset back, so they are learned from the commits that pass and are answered with 0. What was
+committed before this program began, or past it, isn't known.
+"""
+
+from __future__ import annotations
+
+import dataclasses
+from typing import Dict, Iterator, Sequence, Tuple
+
+# All entries together, and the bytes of all their texts.
+MOST_OFFSETS = 1_000_000
+MOST_TEXT_BYTES = 64 << 20
+
+
+@dataclasses.dataclass(frozen=True)
+class Committed:
+    offset: int
+    leader_epoch: int
+    metadata: str
+
+
+# What a partition has in which nothing was committed.
+NOTHING = Committed(-1, -1, "")
+OfTopic = Dict[int, Committed]
+
+
+class Offsets:
+    """The last committed offset of each group, topic and partition."""
+
+    def __init__(self) -> None:
+        self._groups: Dict[str, Dict[str, OfTopic]] = {}
+        self.count = self.text_bytes = 0
+
+    def has_room(self, group: str, commits: Sequence[Tuple[str, int, Committed]]) -> bool:
+        """Whether all of these could be stored."""
+        text_bytes = sum(len(group) + len(topic) + len(committed.metadata) for topic, _, committed in commits)
+        return self.count + len(commits) <= MOST_OFFSETS and self.text_bytes + 4 * text_bytes <= MOST_TEXT_BYTES
+
+    def store(self, group: str, topic: str, partition: int, committed: Committed) -> None:
+        entries = self._groups.setdefault(group, {}).setdefault(topic, {})
+        former = entries.get(partition)
+        self.count += former is None
+        self.text_bytes += 4 * len(committed.metadata)
+        self.text_bytes -= 4 * len(former.metadata) if former else -4 * (len(group) + len(topic))
+        entries[partition] = committed
+
+    def of(self, group: str, topic: str, partition: int) -> Committed:
+        return self._groups.get(group, {}).get(topic, {}).get(partition, NOTHING)
+
+    def of_group(self, group: str) -> Dict[str, OfTopic]:
+        """All offsets of a group, by topic and partition."""
+        return self._groups.get(group, {})
+
+    def groups(self) -> Iterator[str]:
+        return iter(self._groups)

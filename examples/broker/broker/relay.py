@@ -1,0 +1,112 @@
+"""One client's connection: its requests one after the other, each answered before the next is read.
+
+So replies have the order of the requests over all APIs. Beside it there is one connection to the node's coordinator. Where either side
+closes, the other is closed too, behind the replies before it.
+"""
+
+from __future__ import annotations
+
+import asyncio
+import contextlib
+import socket
+import time
+from typing import Optional
+
+from broker.acceptor import Work, accept
+from broker.apis import ANSWERS
+from broker.call import Call
+from broker.cluster import Cluster, Node
+from broker.fields import Unreadable
+from broker.frames import BadFrame, framed, read_body, read_request
+from broker.link import CoordinatorClosed, Link, say
+from broker.watch import Watch
+
+MOST_CONNECTIONS = 2_000
+# A client that says nothing for so long is disconnected, as is one that doesn't read its replies.
+IDLE_SECONDS = 600
+UNREAD_SECONDS = 60
+
+
+async def serve_node(cluster: Cluster, node: Node, watch: Watch, listener: socket.socket) -> None:
+    """Serves a node's clients for ever.
+
+    The coordinator orders a member's heartbeats by their connections, in the order in which it accepted these. So the connections to it are
+    opened in the order in which the clients' were accepted, one after the other.
+    """
+
+    async def prepare(client: socket.socket) -> Optional[Work]:
+        link = await node.coordinator.open()
+        if link is None:
+            client.close()
+            return None
+        return Relay(cluster, node, watch, link).run(client)
+
+    await accept(listener, MOST_CONNECTIONS, prepare)
+
+
+class Closed(Exception):
+    """The connection ends, for a reason that is said."""
+
+
+class Relay:
+    def __init__(self, cluster: Cluster, node: Node, watch: Watch, link: Link) -> None:
+        self.cluster, self.node, self.watch, self.link = cluster, node, watch, link
+
+    async def run(self, client: socket.socket) -> None:
+        """Answers requests until either side closes. Says why, unless the client closed between two requests."""
+        reader, writer = await asyncio.open_connection(sock=client)
+        host, port = writer.get_extra_info("peername")
+        self.node.connections += 1
+        try:
+            await self._serve(reader, writer)
+        except (BadFrame, Unreadable, Closed, CoordinatorClosed) as why:
+            say(f"closed the connection of {host}:{port}: {why}")
+        except OSError:
+            pass
+        finally:
+            self.node.connections -= 1
+            await self.link.close()
+            writer.close()
+            with contextlib.suppress(OSError):
+                await writer.wait_closed()
+
+    async def _serve(self, reader: asyncio.StreamReader, writer: asyncio.StreamWriter) -> None:
+        while True:
+            body = await self._next(reader)
+            if body is None:
+                return
+            writer.write(framed(await self._answer(body)))
+            await _drain(writer)
+
+    async def _next(self, reader: asyncio.StreamReader) -> Optional[bytes]:
+        """The next request's body, or None where the client has closed. Raises Closed where the coordinator has."""
+        reading = asyncio.ensure_future(read_body(reader))
+        try:
+            await asyncio.wait({reading, self.link.arriving}, timeout=IDLE_SECONDS, return_when=asyncio.FIRST_COMPLETED)
+            if reading.done():
+                return reading.result()
+        finally:
+            reading.cancel()
+        if not self.link.arriving.done():
+            raise Closed(f"it said nothing for {IDLE_SECONDS} s")
+        raise Closed("the coordinator closed its side" if self.link.arriving.result() is None else "the coordinator wasn't asked")
+
+    async def _answer(self, body: bytes) -> bytes:
+        request = read_request(body)
+        if request.key not in ANSWERS:
+            raise Closed(f"it asked for {request.name}, which nobody can do here")
+        began = time.monotonic()
+        try:
+            reply = await ANSWERS[request.key](Call(request, self.cluster, self.node, self.link, self.watch))
+        except Unreadable as why:
+            raise Unreadable(f"{request.name} version {request.version}: {why}") from None
+        self.watch.answered(request.name, time.monotonic() - began)
+        return reply
+
+
+async def _drain(writer: asyncio.StreamWriter) -> None:
+    try:
+        await asyncio.wait_for(writer.drain(), UNREAD_SECONDS)
+    except asyncio.TimeoutError:
+        writer.transport.abort()
+        raise Closed(f"it read none of its replies for {UNREAD_SECONDS} s") from None

@@ -1,0 +1,77 @@
+"""Starts the program `coord serve` with the same topics."""
+
+from __future__ import annotations
+
+import asyncio
+import contextlib
+import dataclasses
+import socket
+
+from broker.link import Coordinator
+from broker.topics import Topics
+
+HOST = "127.0.0.1"
+WORKERS, SHARDS = 4, 8
+# The program ends once so many connections have ended; it takes no greater number.
+CONNECTIONS = 1_000_000
+END_SECONDS = 10
+
+
+class Ended(Exception):
+    """The program isn't there, or not any more, and why."""
+
+
+@dataclasses.dataclass
+class Started:
+    """The program, which listens."""
+
+    program: str
+    process: asyncio.subprocess.Process
+    coordinator: Coordinator
+
+    async def ended(self) -> None:
+        """Waits until it ends, and raises Ended."""
+        status = await self.process.wait()
+        raise Ended(f"{self.program} serve ended with status {status}")
+
+    async def end(self) -> None:
+        """Ends it, and waits for that."""
+        with contextlib.suppress(ProcessLookupError):
+            self.process.terminate()
+        try:
+            await asyncio.wait_for(self.process.wait(), END_SECONDS)
+        except asyncio.TimeoutError:
+            with contextlib.suppress(ProcessLookupError):
+                self.process.kill()
+            await self.process.wait()
+
+
+async def start(program: str, topics: Topics) -> Started:
+    """Starts it, and waits until it listens. (Where the launcher has to build it first that takes long; it says so.)"""
+    port = _free_port()
+    numbers = {"--port": port, "--workers": WORKERS, "--shards": SHARDS, "--connections": CONNECTIONS}
+    words = [word for option, number in numbers.items() for word in (option, str(number))]
+    words += [topic.word() for topic in topics]
+    nothing, pipe = asyncio.subprocess.DEVNULL, asyncio.subprocess.PIPE
+    try:
+        # In a session of its own, so that an interrupt at the terminal comes to it through this program alone.
+        process = await asyncio.create_subprocess_exec(
+            program, "serve", *words, stdin=nothing, stdout=pipe, start_new_session=True
+        )
+    except OSError as why:
+        raise Ended(f"{program} can't be started: {why.strerror}") from None
+    started = Started(program, process, Coordinator(HOST, port))
+    try:
+        assert process.stdout is not None
+        if await process.stdout.readline() != f"listening {port}\n".encode():
+            raise Ended(f"{program} serve ended before it listened")
+        return started
+    except BaseException:
+        await started.end()
+        raise
+
+
+def _free_port() -> int:
+    with socket.create_server((HOST, 0)) as listener:
+        port: int = listener.getsockname()[1]
+        return port

@@ -1,0 +1,61 @@
+"""The topics: their names, ids and numbers of partitions, which the coordinator has to have too."""
+
+from __future__ import annotations
+
+import dataclasses
+import re
+import uuid
+from typing import Dict, Iterator, Optional, Sequence
+
+MOST_TOPICS = 10_000
+MOST_PARTITIONS_OF_A_TOPIC = 100_000
+MOST_PARTITIONS = 1_000_000
+NAME = re.compile(r"[a-zA-Z0-9._-]{1,249}")
+
+
+@dataclasses.dataclass(frozen=True)
+class Topic:
+    name: str
+    id: uuid.UUID
+    count: int
+
+    def has(self, partition: int) -> bool:
+        return 0 <= partition < self.count
+
+    def word(self) -> str:
+        """As on a command line."""
+        return f"{self.name}:{self.id}:{self.count}"
+
+
+def read(word: str) -> Topic:
+    """A topic as on a command line, NAME:UUID:COUNT. Raises ValueError, which says what is wrong."""
+    name, _, rest = word.partition(":")
+    id_text, _, count_text = rest.rpartition(":")
+    if not NAME.fullmatch(name):
+        raise ValueError(f"{word!r} wants a name of 1 to 249 letters, digits, dots, underscores and hyphens")
+    try:
+        topic_id = uuid.UUID(id_text)
+    except ValueError:
+        raise ValueError(f"{word!r} wants a UUID behind its first colon") from None
+    if not re.fullmatch(r"[1-9]\d{0,5}", count_text) or int(count_text) > MOST_PARTITIONS_OF_A_TOPIC:
+        raise ValueError(f"{word!r} wants a number of partitions from 1 to {MOST_PARTITIONS_OF_A_TOPIC} at its end")
+    return Topic(name, topic_id, int(count_text))
+
+
+class Topics:
+    """All topics, found by name or by id. Raises ValueError where they can't be a cluster's."""
+
+    def __init__(self, topics: Sequence[Topic]) -> None:
+        self.by_name: Dict[str, Topic] = {topic.name: topic for topic in topics}
+        self.by_id: Dict[uuid.UUID, Topic] = {topic.id: topic for topic in topics}
+        if not len(self.by_name) == len(self.by_id) == len(topics):
+            raise ValueError("two topics have one name or one id")
+        if len(topics) > MOST_TOPICS or sum(topic.count for topic in topics) > MOST_PARTITIONS:
+            raise ValueError(f"there are more than {MOST_TOPICS} topics or {MOST_PARTITIONS} partitions")
+
+    def __iter__(self) -> Iterator[Topic]:
+        return iter(self.by_name.values())
+
+    def has(self, name: Optional[str], partition: int) -> bool:
+        topic = self.by_name.get(name or "")
+        return topic is not None and topic.has(partition)

@@ -1,0 +1,87 @@
+"""Sees the heartbeats and commits that pass, says what they change, and counts them."""
+
+from __future__ import annotations
+
+import asyncio
+import collections
+import time
+from typing import Callable, Deque, Iterable, List, Optional
+
+from broker import codes, commits, heartbeats
+from broker.groups import Change, Groups
+from broker.metrics import Counter, Histogram, Labels
+from broker.topics import Topics
+from broker.words import Partition, in_words, plain, short_id
+
+MOST_LINES = 50
+ANSWER_BOUNDS = (0.0001, 0.00025, 0.0005, 0.001, 0.0025, 0.005, 0.01, 0.05, 0.1, 0.5, 1, 5)
+CONVERGE_BOUNDS = (0.5, 1, 2, 3, 5, 7.5, 10, 15, 30, 60, 120)
+EXPIRY_SECONDS = 0.5
+
+
+class Watch:
+    def __init__(self, topics: Topics, say: Callable[[str], None], clock: Callable[[], float] = time.monotonic) -> None:
+        self.groups = Groups(topics)
+        self._say, self.clock = say, clock
+        # The last lines that were said, and how much has been seen since the beginning.
+        self.lines: Deque[str] = collections.deque(maxlen=MOST_LINES)
+        self.revision = 0
+        self.heartbeats = Counter("broker_heartbeats_total", "Heartbeats that were answered, by error code.")
+        self.commits = Counter("broker_committed_partitions_total", "Partitions in commits that were answered, by error code.")
+        self.seconds = Histogram("broker_answer_seconds", "From a request's last byte to its answer, by API.", ANSWER_BOUNDS)
+        self.rebalances = Histogram(
+            "broker_rebalance_seconds", "From a group's first change until all members have what they are assigned.", CONVERGE_BOUNDS
+        )
+
+    # ---- what passes
+
+    def heartbeat(self, client: Optional[str], asked: heartbeats.Asked, told: heartbeats.Told) -> None:
+        self.heartbeats.add(_labels(told.code))
+        change = self.groups.heartbeat(client, asked, told, self.clock())
+        if change is not None:
+            self._changed(change)
+
+    def commit(self, asked: commits.Asked, results: List[commits.Result]) -> None:
+        self.revision += 1
+        for code in sorted({result.code for result in results}):
+            refused: List[Partition] = [(result.topic, result.partition) for result in results if result.code == code]
+            self.commits.add(_labels(code), len(refused))
+            if code != codes.NONE:
+                self._changed(Change(asked.group, asked.member, asked.epoch, [f"{codes.name(code)}: its commit of {in_words(refused)}"]))
+
+    def answered(self, api: str, seconds: float) -> None:
+        self.seconds.observe(seconds, (("api", api),))
+
+    async def run(self) -> None:
+        """Takes out the members whose sessions are over, for ever."""
+        while True:
+            await asyncio.sleep(EXPIRY_SECONDS)
+            self.expire()
+
+    def expire(self) -> None:
+        for change in self.groups.expire(self.clock()):
+            self._changed(change)
+
+    # ---- what is told of it
+
+    def _changed(self, change: Change) -> None:
+        self.tell(f"{plain(change.group)}  {short_id(change.member) or '-'}  epoch {change.epoch}  {'; '.join(change.phrases)}")
+        if change.converged is not None:
+            self.rebalances.observe(change.converged)
+            if change.converged > 0:
+                self.tell(f"{plain(change.group)}  settled after {change.converged:.1f} s")
+
+    def tell(self, line: str) -> None:
+        self.revision += 1
+        self.lines.append(line)
+        self._say(line)
+
+    def metrics(self) -> Iterable[str]:
+        yield from self.heartbeats.lines()
+        yield from self.commits.lines()
+        yield from self.seconds.lines()
+        yield from self.rebalances.lines()
+
+
+def _labels(code: int) -> Labels:
+    return ("code", str(code)), ("error", codes.name(code))

@@ -1,0 +1,1 @@
+"""Tests of the front end. `tools/check-broker [PROGRAM]` runs them."""

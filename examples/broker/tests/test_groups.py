@@ -1,0 +1,202 @@
+"""What is made of the heartbeats and commits that pass: lines, JSON and metrics."""
+
+from __future__ import annotations
+
+import unittest
+import uuid
+from typing import Any, Dict, FrozenSet, List, Optional, Tuple
+from unittest import mock
+
+from broker import groups, report
+from broker.commits import Asked as Commit
+from broker.commits import Partition, Result, Topic
+from broker.heartbeats import Asked, Index, Told
+from broker.offsets import Committed
+from broker.watch import Watch
+from broker.words import Partition as Place
+from broker.words import in_words, plain
+from tests.support import ORDERS, small_cluster
+
+A, B, C = (f"00000000-0000-0000-0000-00000000000{number}" for number in (1, 2, 3))
+
+
+def of_orders(*indexes: int) -> FrozenSet[Index]:
+    return frozenset((ORDERS, index) for index in indexes)
+
+
+class Conversation:
+    """Heartbeats and commits of group `g`, each at a moment, and what is made of them."""
+
+    def __init__(self) -> None:
+        self.now = 0.0
+        self.cluster = small_cluster()
+        self.lines: List[str] = []
+        self.watch = Watch(self.cluster.topics, self.lines.append, lambda: self.now)
+
+    def beat(self, now: float, member: str, epoch: int, told: Told, **fields: Any) -> None:
+        self.now = now
+        self.watch.heartbeat("till", Asked("g", member, epoch, **fields), told)
+
+    def join(self, now: float, member: str, epoch: int, shown: FrozenSet[Index], instance: Optional[str] = None) -> None:
+        self.beat(now, member, 0, Told(0, member, epoch, shown), names=["orders"], instance=instance, owned=frozenset())
+
+    def commit(self, now: float, member: str, epoch: int, code: int) -> None:
+        self.now = now
+        topics = [Topic("orders", [Partition("orders", 1, Committed(9, 0, ""))])]
+        self.watch.commit(Commit("g", epoch, member, topics), [Result("orders", 1, code)])
+
+    def rebalance(self) -> None:
+        """A has both partitions; B joins, and gets one of them after five seconds."""
+        self.join(0, A, 1, of_orders(0, 1))
+        self.beat(5, A, 1, Told(0, A, 1))
+        self.join(6, B, 2, of_orders())
+        self.beat(10, A, 1, Told(0, A, 1, of_orders(0)))
+        self.beat(10.5, A, 1, Told(0, A, 2), owned=of_orders(0))
+        self.beat(11, B, 2, Told(0, B, 2, of_orders(1)))
+
+    def group(self) -> Dict[str, Any]:
+        found: Dict[str, Any] = report.groups(self.cluster, self.watch)["groups"][0]
+        return found
+
+
+REBALANCE = [
+    "g  000001  epoch 1  joins; subscribes orders; is assigned orders[0..1]",
+    "g  000002  epoch 2  joins; subscribes orders",
+    "g  000001  epoch 1  revokes orders[1]",
+    "g  000001  epoch 2  has given up orders[1]; was at epoch 1",
+    "g  000002  epoch 2  is assigned orders[1]",
+    "g  settled after 5.0 s",
+]
+
+
+class Groups(unittest.TestCase):
+    maxDiff = None
+
+    def test_a_rebalance_in_words(self) -> None:
+        it = Conversation()
+        it.rebalance()
+        self.assertEqual(it.lines, REBALANCE)
+
+    def test_refusals_leaves_and_sessions_in_words(self) -> None:
+        it = Conversation()
+        it.rebalance()
+        it.lines.clear()
+        it.commit(12, B, 1, 113)
+        it.beat(13, A, 2, Told(25))
+        it.beat(14, "x\n", 7, Told(110))
+        it.beat(15, B, -1, Told(0, B, -1))
+        it.join(16, C, 4, of_orders(0, 1))
+        it.now = 61.5
+        it.watch.expire()
+        self.assertEqual(
+            it.lines,
+            [
+                "g  000002  epoch 1  STALE_MEMBER_EPOCH: its commit of orders[1]",
+                "g  000001  epoch 2  UNKNOWN_MEMBER_ID",
+                "g  x\\u000a  epoch 7  FENCED_MEMBER_EPOCH",
+                "g  000002  epoch 2  leaves",
+                "g  000003  epoch 4  joins; subscribes orders; is assigned orders[0..1]",
+                "g  000003  epoch 4  said nothing for 45 s: its session is over",
+            ],
+        )
+
+    def test_a_static_member_goes_away_and_comes_back_under_another_id(self) -> None:
+        it = Conversation()
+        it.join(0, A, 1, of_orders(0, 1), instance="i")
+        it.beat(5, A, -2, Told(0, A, -2), instance="i")
+        away = [(member["short_id"], member["is_away"]) for member in it.group()["members"]]
+        it.join(9, B, 1, of_orders(0, 1), instance="i")
+        back = [(member["short_id"], member["is_away"]) for member in it.group()["members"]]
+        self.assertEqual((away, back), ([("000001", True)], [("000002", False)]))
+        self.assertEqual(it.lines[1], "g  000001  epoch 1  goes away, and instance i has 45 s to come back")
+
+    def test_what_is_known_during_a_rebalance(self) -> None:
+        it = Conversation()
+        it.join(0, A, 1, of_orders(0, 1))
+        it.join(6, B, 2, of_orders())
+        it.beat(10, A, 1, Told(0, A, 1, of_orders(0)))
+        it.now = 10.25
+        member = {"client": "till", "instance": None, "is_away": False, "assignor": None, "topics": ["orders"]}
+        a = {"id": A, "short_id": "000001", "epoch": 1, "assigned": {"orders": [(0, 0)]}, "held": {"orders": [(0, 1)]}, "heard_seconds_ago": 0.2}
+        b = {"id": B, "short_id": "000002", "epoch": 2, "assigned": {}, "held": {}, "heard_seconds_ago": 4.2}
+        self.assertEqual(
+            it.group(),
+            {
+                "name": "g",
+                "node": 0,
+                "epoch": 2,
+                "is_settled": False,
+                "rebalancing_seconds": 4.2,
+                "members": [{**member, **a}, {**member, **b}],
+                "offsets": {"orders": {"1": 7}},
+            },
+        )
+
+    def test_what_is_not_known_is_said(self) -> None:
+        # A member that joined before this program began: only its epoch is known until it is told something.
+        it = Conversation()
+        it.beat(0, A, 3, Told(0, A, 3))
+        group = it.group()
+        member = group["members"][0]
+        self.assertEqual((group["is_settled"], group["rebalancing_seconds"], member["assigned"], member["topics"]), (None, None, None, None))
+        self.assertEqual(it.lines, ["g  000001  epoch 3  is heard of for the first time"])
+
+    def test_topics_that_were_not_named_are_left_out(self) -> None:
+        it = Conversation()
+        it.beat(0, A, 0, Told(0, A, 1, frozenset([(uuid.UUID(int=5), 0), (ORDERS, 1), (ORDERS, 2)])), names=["orders", "others"])
+        self.assertEqual(it.lines, ["g  000001  epoch 1  joins; subscribes orders; is assigned orders[1]"])
+
+    def test_metrics_after_a_rebalance(self) -> None:
+        it = Conversation()
+        it.rebalance()
+        it.commit(12, B, 2, 0)
+        it.commit(12, B, 1, 113)
+        it.beat(13, C, 2, Told(25))
+        it.watch.answered("ConsumerGroupHeartbeat", 0.0004)
+        wanted = [
+            'broker_heartbeats_total{code="0",error="NONE"} 6',
+            'broker_heartbeats_total{code="25",error="UNKNOWN_MEMBER_ID"} 1',
+            'broker_committed_partitions_total{code="0",error="NONE"} 1',
+            'broker_committed_partitions_total{code="113",error="STALE_MEMBER_EPOCH"} 1',
+            'broker_answer_seconds_bucket{api="ConsumerGroupHeartbeat",le="0.00025"} 0',
+            'broker_answer_seconds_bucket{api="ConsumerGroupHeartbeat",le="0.0005"} 1',
+            'broker_answer_seconds_bucket{api="ConsumerGroupHeartbeat",le="+Inf"} 1',
+            'broker_answer_seconds_sum{api="ConsumerGroupHeartbeat"} 0.0004',
+            'broker_answer_seconds_count{api="ConsumerGroupHeartbeat"} 1',
+            'broker_rebalance_seconds_bucket{le="0.5"} 1',
+            'broker_rebalance_seconds_bucket{le="5"} 2',
+            "broker_rebalance_seconds_sum 5.0",
+            "broker_rebalance_seconds_count 2",
+            'broker_group_members{group="g"} 2',
+            "broker_groups 1",
+            "broker_groups_rebalancing 0",
+            "broker_committed_offsets 1",
+            'broker_connections{node="0"} 0',
+        ]
+        lines = report.metrics(it.cluster, it.watch).splitlines()
+        self.assertEqual([line for line in wanted if line not in lines], [])
+
+    def test_tables_are_bounded(self) -> None:
+        it = Conversation()
+        with mock.patch.object(groups, "MOST_WEIGHT", 1_000):
+            for number in range(50):
+                it.join(0, f"member-{number}", 1, of_orders())
+        self.assertEqual((len(it.watch.groups.groups["g"].members), it.watch.groups.unwatched), (7, 43))
+        self.assertLessEqual(it.watch.groups.weight, 1_000)
+        with mock.patch.object(groups, "MOST_GROUPS", 1):
+            it.watch.heartbeat("till", Asked("h", A, 0, names=["orders"]), Told(0, A, 1))
+        self.assertEqual((list(it.watch.groups.groups), it.watch.groups.unwatched), (["g"], 44))
+
+
+class Words(unittest.TestCase):
+    def test_partitions(self) -> None:
+        rows: List[Tuple[List[Place], str]] = [
+            ([], "nothing"),
+            ([("b", 3), ("a", 0), ("a", 1), ("a", 5)], "a[0..1,5] b[3]"),
+            ([("a", 2 * number) for number in range(14)], "a[0,2,4,6,8,10,12,14,16,18,20,22,..]"),
+        ]
+        self.assertEqual([in_words(partitions) for partitions, _ in rows], [text for _, text in rows])
+
+    def test_texts_of_clients_are_printed_plainly(self) -> None:
+        rows = [("orders-app", "orders-app"), ("a\tb\x1b[2J", "a\\u0009b\\u001b[2J"), ("é", "é"), ("x" * 70, "x" * 60 + "..")]
+        self.assertEqual([plain(text) for text, _ in rows], [text for _, text in rows])

@@ -1,0 +1,202 @@
+"""The program as it is run, with the coordinator itself behind it where BROKER_TEST_PROGRAM names the built program coord."""
+
+from __future__ import annotations
+
+import contextlib
+import json
+import os
+import pathlib
+import re
+import signal
+import socket
+import struct
+import subprocess
+import sys
+import unittest
+import urllib.request
+from typing import IO, Iterator, List, Optional
+
+from tests.support import HOST, ORDERS, SECONDS, data
+
+FOLDER = pathlib.Path(__file__).resolve().parents[1]
+CLIENT = FOLDER.parent / "client.py"
+PROGRAM = os.environ.get("BROKER_TEST_PROGRAM", "")
+COORDINATORS = 3
+GROUPS = [f"group-{number}" for number in range(9)]
+needs_program = unittest.skipUnless(PROGRAM, "it needs the built program coord")
+
+# What the front end prints of the two members of examples/client.py, in group G.
+OF_TWO_MEMBERS = [
+    "G  000001  epoch 1  joins; subscribes t; is assigned t[0..1]",
+    "G  000002  epoch 2  joins; subscribes t",
+    "G  000001  epoch 1  revokes t[0]",
+    "G  000001  epoch 2  has given up t[0]; was at epoch 1",
+    "G  000002  epoch 2  is assigned t[0]",
+    "G  settled after N s",
+    "G  000002  epoch 2  leaves",
+    "G  000001  epoch 2  leaves",
+]
+# Command lines that are refused, and a part of why.
+REFUSED = [
+    (["--start", "t:11:2", "--port", "0"], "argument NAME:UUID:COUNT: 't:11:2' wants a UUID behind its first colon"),
+    (["--start", "--port", "0"], "the following arguments are required: NAME:UUID:COUNT"),
+    (["--port", "0", f"t:{ORDERS}:2"], "wants --coordinator HOST:PORT or --start"),
+    (["--start", f"t:{ORDERS}:2"], "the following arguments are required: --port"),
+    (["--start", "--port", "0", f"t:{ORDERS}:0"], "wants a number of partitions from 1 to 100000 at its end"),
+    (["--start", "--port", "0", f"a b:{ORDERS}:1"], "wants a name of 1 to 249 letters"),
+    (["--start", "--port", "0", f"t:{ORDERS}:2", f"u:{ORDERS}:2"], "two topics have one name or one id"),
+    (["--start", "--port", "65536", f"t:{ORDERS}:2"], "'65536' is no number from 0 to 65535"),
+    (["--start", "--start", "--port", "65535", f"t:{ORDERS}:2"], "--port 65535 leaves no ports for 2 brokers"),
+    (["--coordinator", "127.0.0.1", "--port", "0", f"t:{ORDERS}:2"], "'127.0.0.1' is no HOST:PORT"),
+    (["--start", "--rate", "fast", "--port", "0", f"t:{ORDERS}:2"], "'fast' is no number from 0 to 10000"),
+]
+
+
+class Broker:
+    """A running front end: its ports, and what it prints behind the lines that tell of them."""
+
+    def __init__(self, words: List[str]) -> None:
+        command = [sys.executable, "-B", "-m", "broker", "--port", "0", "--status", "0", *words]
+        self.process = subprocess.Popen(command, cwd=FOLDER, stdout=subprocess.PIPE, stderr=subprocess.PIPE, text=True)
+        assert self.process.stdout is not None
+        self.stdout: IO[str] = self.process.stdout
+        self.ports: List[int] = []
+        while not (line := self.stdout.readline()).startswith("status "):
+            self.ports.append(int(re.match(rf"listening {HOST}:(\d+)  coordinator ", line)[1]))  # type: ignore[index]
+        self.status = line.split(" ")[1].strip()
+
+    def get(self, path: str) -> str:
+        with urllib.request.urlopen(self.status + path, timeout=SECONDS) as answer:
+            text: str = answer.read().decode()
+            return text
+
+    def children(self) -> List[int]:
+        number = self.process.pid
+        return [int(word) for word in pathlib.Path(f"/proc/{number}/task/{number}/children").read_text().split()]
+
+
+@contextlib.contextmanager
+def broker(*words: str) -> Iterator[Broker]:
+    it = Broker(list(words))
+    try:
+        yield it
+    finally:
+        it.process.terminate()
+        it.process.communicate(timeout=SECONDS)
+
+
+@contextlib.contextmanager
+def coordinator(*words: str) -> Iterator[int]:
+    """The port of `coord serve`."""
+    with socket.create_server((HOST, 0)) as listener:
+        port: int = listener.getsockname()[1]
+    command = [PROGRAM, "serve", "--port", str(port), "--workers", "1", "--shards", "1", *words]
+    process = subprocess.Popen(command, stdout=subprocess.PIPE, text=True)
+    assert process.stdout is not None
+    try:
+        if process.stdout.readline() != f"listening {port}\n":
+            raise AssertionError("coord serve doesn't listen")
+        yield port
+    finally:
+        process.terminate()
+        process.communicate(timeout=SECONDS)
+
+
+def ask(port: int, text: str) -> Optional[bytes]:
+    """A reply's body, or None where the connection is closed."""
+    try:
+        with socket.create_connection((HOST, port), SECONDS) as connection, connection.makefile("rb") as stream:
+            connection.sendall(struct.pack(">i", len(data(text))) + data(text))
+            size = stream.read(4)
+            return stream.read(struct.unpack(">i", size)[0]) if size else None
+    except ConnectionError:
+        return None
+
+
+def port_of(group: str, asked: int) -> int:
+    """The port of the group's coordinator, as the broker at another port names it."""
+    reply = ask(asked, f"000a 0000 00000001 ffff {len(group):04x} '{group}'") or b""
+    port: int = struct.unpack(">i", reply[-4:])[0]
+    return port
+
+
+def join(group: str) -> str:
+    return f"0044 0000 00000007 ffff 00 {len(group) + 1:02x} '{group}' 01 00000000 00 00 0000ea60 02 07 'orders' 00 01 00"
+
+
+class Program(unittest.TestCase):
+    maxDiff = None
+
+    def test_wrong_command_lines_are_refused_in_a_line(self) -> None:
+        found = []
+        for words, _ in REFUSED:
+            command = [sys.executable, "-B", "-m", "broker", *words]
+            ran = subprocess.run(command, cwd=FOLDER, capture_output=True, text=True, timeout=SECONDS, check=False)
+            found.append((ran.returncode, ran.stdout, ran.stderr))
+        fits = [(status, out, said.startswith("broker: "), said.count("\n"), why in said) for (status, out, said), (_, why) in zip(found, REFUSED)]
+        self.assertEqual(fits, [(2, "", True, 1, True)] * len(REFUSED), found)
+
+    def test_a_program_that_can_not_be_started_and_a_port_that_is_taken_are_said(self) -> None:
+        with socket.create_server((HOST, 0)) as taken:
+            rows = [(["--program", "/nowhere", "--port", "0"], "/nowhere can't be started"), (["--port", str(taken.getsockname()[1])], "Address already in use")]
+            for words, why in rows:
+                command = [sys.executable, "-B", "-m", "broker", "--start", *words, f"t:{ORDERS}:2"]
+                ran = subprocess.run(command, cwd=FOLDER, capture_output=True, text=True, timeout=SECONDS, check=False)
+                self.assertEqual((ran.returncode, ran.stdout, ran.stderr.count("\n"), why in ran.stderr), (1, "", 1, True), ran.stderr)
+
+    @needs_program
+    def test_two_members_of_another_hand(self) -> None:
+        with broker("--start", "--program", PROGRAM, f"t:{ORDERS}:2") as it:
+            ran = subprocess.run([sys.executable, CLIENT, f"{HOST}:{it.ports[0]}"], capture_output=True, text=True, timeout=SECONDS, check=True)
+            known, metrics = json.loads(it.get("groups")), it.get("metrics").splitlines()
+            group = known["groups"][0]
+            printed = [it.stdout.readline() for _ in OF_TWO_MEMBERS]
+        plain = [re.sub(r"after \d+\.\d s", "after N s", line.replace(group["name"], "G").strip()) for line in printed]
+        self.assertEqual(ran.stdout.splitlines()[-1].split("  ")[0], "first leaves")
+        self.assertEqual(plain, OF_TWO_MEMBERS)
+        self.assertEqual((group["members"], group["offsets"]), ([], {"t": {"0": 100, "1": 100}}))
+        wanted = ['broker_heartbeats_total{code="0",error="NONE"} 8', 'broker_committed_partitions_total{code="0",error="NONE"} 3']
+        self.assertEqual([line for line in wanted if line not in metrics], [])
+
+    @needs_program
+    def test_groups_over_three_coordinators(self) -> None:
+        with broker(*["--start"] * COORDINATORS, "--program", PROGRAM, f"orders:{ORDERS}:2") as it:
+            homes = {group: {port_of(group, asked) for asked in it.ports} for group in GROUPS}
+            codes = {(group, port): (ask(port, join(group)) or b"")[9:11] for group in GROUPS for port in it.ports}
+            known = json.loads(it.get("groups"))["groups"]
+        self.assertEqual({len(ports) for ports in homes.values()}, {1})
+        # The hash of group-0 is 293,427,298, whose rest by three is 1, and each next one's is one more.
+        self.assertEqual([homes[group] for group in GROUPS], [{it.ports[number]} for number in (1, 2, 0, 1, 2, 0, 1, 2, 0)])
+        self.assertEqual(codes, {(group, port): data("0000" if {port} == homes[group] else "0010") for group in GROUPS for port in it.ports})
+        self.assertEqual([(each["name"], {it.ports[each["node"]]}) for each in known], [(group, homes[group]) for group in GROUPS])
+
+    @needs_program
+    def test_a_coordinator_that_ends_is_said(self) -> None:
+        with coordinator("--connections", "1", f"orders:{ORDERS}:2") as port, broker("--coordinator", f"{HOST}:{port}", f"orders:{ORDERS}:2") as it:
+            # It ends once the first connection has ended.
+            self.assertEqual((ask(it.ports[0], join("g")) or b"")[9:11], b"\0\0")
+            while ask(it.ports[0], join("g")) is not None:
+                pass
+            self.assertIn(f'broker_coordinator_up{{coordinator="{HOST}:{port}"}} 0', it.get("metrics"))
+            it.process.terminate()
+            _, said = it.process.communicate(timeout=SECONDS)
+        self.assertIn(f"broker: the coordinator {HOST}:{port} can't be reached, and clients' connections are closed: ", said)
+
+    @needs_program
+    def test_a_started_coordinator_that_ends_ends_the_front_end(self) -> None:
+        with broker("--start", "--program", PROGRAM, f"orders:{ORDERS}:2") as it:
+            os.kill(it.children()[0], signal.SIGKILL)
+            _, said = it.process.communicate(timeout=SECONDS)
+        self.assertEqual((it.process.returncode, said), (1, f"broker: {PROGRAM} serve ended with status -9\n"))
+
+    @needs_program
+    def test_a_signal_ends_all(self) -> None:
+        for number in (signal.SIGINT, signal.SIGTERM):
+            with broker("--start", "--program", PROGRAM, f"orders:{ORDERS}:2") as it:
+                started = it.children()[0]
+                with socket.create_connection((HOST, it.ports[0]), SECONDS) as client:
+                    self.assertIsNotNone(ask(it.ports[0], join("g")))
+                    it.process.send_signal(number)
+                    _, said = it.process.communicate(timeout=SECONDS)
+                    self.assertEqual((client.recv(1), it.process.returncode, said), (b"", 0, ""))
+                self.assertFalse(pathlib.Path(f"/proc/{started}").exists())

@@ -1,0 +1,164 @@
+"""What passes between clients and a coordinator that is played."""
+
+from __future__ import annotations
+
+import asyncio
+import socket
+import unittest
+from typing import List, Optional, Tuple
+from unittest import mock
+
+from broker import relay
+from broker.link import Coordinator
+from tests.support import HOST, accept_all, data, front, small_cluster
+
+# The headers have the correlation ids 1, 2 .. so that replies can be told apart.
+VERSIONS = "0012 0000 {:08x} 0001 'c'"
+HEARTBEAT = "0044 0000 {:08x} 0001 'c' 00 02 'g' 02 'm' 00000001 00 00 ffffffff 00 00 00 00"
+FIND = "000a 0000 {:08x} 0001 'c' 0001 'g'"
+# At the end, where nothing comes for the 200 ms that it may wait.
+FETCH = "0001 0004 {:08x} 0001 'c' ffffffff 000000c8 00000001 00100000 00 00000001 0006 'orders' 00000001 00000001 0000000000000000 00100000"
+COMMIT = "0008 0009 {:08x} 0001 'c' 00 02 'g' 00000001 02 'm' 00 02 07 'orders' 02 00000000 0000000000000009 00000000 02 'x' 00 00 00"
+OFFSETS = "0009 0009 {:08x} 0001 'c' 00 02 02 'g' 00 ffffffff 02 07 'orders' 02 00000000 00 00 01 00"
+# What librdkafka 2.14.2 sent: version 1, with an empty regular expression behind the names; and the same request in version 0.
+JOIN_1 = "0044 0001 00000003 0005 'c-sid' 00 06 'g-sid' 17 '/3dPginAT4eUZTkRfdoe0w' 00000000 00 00 000493e0 02 07 'orders' 01 00 01 00"
+JOIN_0 = "0044 0000 00000003 0005 'c-sid' 00 06 'g-sid' 17 '/3dPginAT4eUZTkRfdoe0w' 00000000 00 00 000493e0 02 07 'orders' 00 01 00"
+BEAT_1 = "0044 0001 00000008 0005 'c-sid' 00 06 'g-sid' 17 '/3dPginAT4eUZTkRfdoe0w' 00000001 00 00 ffffffff 00 00 00 00 00"
+BEAT_0 = "0044 0000 00000008 0005 'c-sid' 00 06 'g-sid' 17 '/3dPginAT4eUZTkRfdoe0w' 00000001 00 00 ffffffff 00 00 00 00"
+WITH_REGEX = "0044 0001 00000009 0001 'c' 00 02 'g' 02 'm' 00000000 00 00 000493e0 00 07 '^ord.*' 00 01 00"
+REGEX_REFUSAL = "00000009 00 00000000 002a 26 'regular expressions are not supported' 00 00000000 00000000 ff 00"
+# Bytes that close their connection, and a part of why.
+NO_REQUESTS = [
+    ("474554202f20485454502f312e310d0a", "which is no size of 8 to 8388608 bytes"),
+    ("00000000", "which is no size of 8 to 8388608 bytes"),
+    ("00000008 0063 0000 00000001", "a field of 2 bytes at byte 8, where 0 are left"),
+    ("0000000a 0063 0000 00000001 ffff", "API key 99 isn't spoken here"),
+    ("0000000a 0003 0008 00000001 ffff", "Metadata version 8 isn't spoken here"),
+    ("0000000a 0000 0003 00000001 ffff", "it asked for Produce, which nobody can do here"),
+    ("0000000b 000a 0000 00000001 ffff 00", "FindCoordinator version 0: a field of 2 bytes at byte 10, where 1 are left"),
+    ("0000000c 0044 0000 00000001 ffff 00 00", "ConsumerGroupHeartbeat version 0: a field of -1 bytes at byte 12, where 0 are left"),
+]
+
+
+def accept_commits(number: int, body: bytes) -> bytes:
+    if body[:2] == b"\0\x44":
+        return accept_all(number, body)
+    return body[4:8] + data("00 00000000 02 07 'orders' 02 00000000 0000 00 00 00")
+
+
+def numbers(*texts: str) -> str:
+    """The requests' texts, with their correlation ids."""
+    return "\n".join(text.format(number) for number, text in enumerate(texts, 1))
+
+
+class Relay(unittest.IsolatedAsyncioTestCase):
+    async def test_replies_have_the_order_of_the_requests(self) -> None:
+        texts = [VERSIONS, FETCH, HEARTBEAT, FIND, COMMIT, OFFSETS, FETCH, HEARTBEAT, VERSIONS]
+        async with front(accept_commits, small_cluster(rate=0)) as it:
+            client = await it.client()
+            for text in numbers(*texts).split("\n"):
+                client.send(text)
+            bodies = [await client.body() or b"" for _ in texts]
+        self.assertEqual([int.from_bytes(body[:4], "big") for body in bodies], list(range(1, 10)))
+        # OffsetFetch sees the commit before it.
+        self.assertEqual(bodies[5][5:], data("00000000 02 02 'g' 02 07 'orders' 02 00000000 0000000000000009 00000000 02 'x' 0000 00 00 0000 00 00"))
+
+    async def test_both_apis_go_on_byte_for_byte(self) -> None:
+        async with front(accept_commits) as it:
+            client = await it.client()
+            replies = [await client.ask(HEARTBEAT.format(1)), await client.ask(COMMIT.format(2))]
+            sent = [(0, data(HEARTBEAT.format(1))), (0, data(COMMIT.format(2)))]
+            self.assertEqual(it.coordinator.bodies, sent)
+            self.assertEqual(replies, [accept_commits(*body) for body in sent])
+
+    async def test_version_1_goes_on_as_version_0(self) -> None:
+        async with front() as it:
+            client = await it.client()
+            replies = [await client.ask(text) for text in (JOIN_1, WITH_REGEX, BEAT_1)]
+            sent = [(0, data(JOIN_0)), (0, data(BEAT_0))]
+            self.assertEqual(it.coordinator.bodies, sent)
+            self.assertEqual(replies, [accept_all(*sent[0]), data(REGEX_REFUSAL), accept_all(*sent[1])])
+            self.assertIn("g  m  epoch 0  INVALID_REQUEST", it.lines)
+
+    async def test_bytes_that_are_no_request_close_their_connection(self) -> None:
+        async with front() as it:
+            whys: List[Tuple[str, Optional[bytes], List[str]]] = []
+            for text, why in NO_REQUESTS:
+                client = await it.client()
+                client.writer.write(data(text))
+                whys.append((text, await client.body(), it.said.getvalue().splitlines()[len(whys) :]))
+        found = [(text, body, len(lines), why in lines[0]) for (text, body, lines), (_, why) in zip(whys, NO_REQUESTS)]
+        self.assertEqual(found, [(text, None, 1, True) for text, _ in NO_REQUESTS])
+
+    async def test_other_connections_go_on(self) -> None:
+        async with front() as it:
+            first, second = await it.client(), await it.client()
+            first.writer.write(b"\xff" * 4)
+            self.assertEqual((await first.body(), await second.ask(VERSIONS.format(5)) is None), (None, False))
+
+    async def test_a_client_that_closes_closes_its_connection_to_the_coordinator(self) -> None:
+        async with front() as it:
+            client = await it.client()
+            await client.ask(HEARTBEAT.format(1))
+            client.close()
+            await asyncio.wait_for(it.coordinator.ended.wait(), 10)
+        self.assertEqual(it.said.getvalue(), "")
+
+    async def test_a_coordinator_that_closes_closes_the_client_behind_the_replies_before(self) -> None:
+        def answer(number: int, body: bytes) -> Optional[bytes]:
+            return None if body[7] == 3 else accept_all(number, body)
+
+        async with front(answer) as it:
+            client = await it.client()
+            for text in numbers(HEARTBEAT, VERSIONS, HEARTBEAT, VERSIONS).split("\n"):
+                client.send(text)
+            bodies = [await client.body() for _ in range(3)]
+        self.assertEqual([body and body[3] for body in bodies], [1, 2, None])
+        self.assertIn("the coordinator closed the connection instead of an answer", it.said.getvalue())
+
+    async def test_a_coordinator_that_ends_closes_quiet_clients(self) -> None:
+        async with front() as it:
+            client = await it.client()
+            await it.wait_for(lambda: it.coordinator.opened == 1)
+            it.coordinator.writers[0].close()
+            self.assertEqual(await client.body(), None)
+            self.assertIn("the coordinator closed its side", it.said.getvalue())
+
+    async def test_a_coordinator_that_is_not_there_is_said_once_a_time(self) -> None:
+        cluster = small_cluster()
+        async with front(cluster=cluster) as it:
+            there = cluster.nodes[0].coordinator
+            with _closed_port() as nowhere:
+                cluster.nodes[0].coordinator = Coordinator(*nowhere.getsockname()[:2])
+                self.assertEqual([await (await it.client()).body() for _ in range(2)], [None, None])
+                cluster.nodes[0].coordinator.host, cluster.nodes[0].coordinator.port = there.host, there.port
+            self.assertIsNotNone(await (await it.client()).ask(VERSIONS.format(1)))
+        said = it.said.getvalue().splitlines()
+        self.assertEqual((len(said), "can't be reached" in said[0], "is there again" in said[1]), (2, True, True))
+
+    async def test_connections_above_the_bound_wait(self) -> None:
+        with mock.patch.object(relay, "MOST_CONNECTIONS", 2):
+            async with front() as it:
+                clients = [await it.client() for _ in range(3)]
+                await clients[1].ask(VERSIONS.format(1))
+                clients[2].send(VERSIONS.format(2))
+                await it.wait_for(lambda: "further ones wait" in it.said.getvalue())
+                opened = it.coordinator.opened
+                clients[0].close()
+                self.assertIsNotNone(await clients[2].body())
+        self.assertEqual(opened, 2)
+
+    async def test_connections_to_the_coordinator_have_the_order_of_the_clients(self) -> None:
+        async with front() as it:
+            clients = [await it.client() for _ in range(40)]
+            # The last one speaks first.
+            for number, client in reversed(list(enumerate(clients))):
+                await client.ask(HEARTBEAT.format(number))
+            self.assertEqual([(number, body[7]) for number, body in it.coordinator.bodies], [(number, number) for number in range(39, -1, -1)])
+
+
+def _closed_port() -> socket.socket:
+    """A socket that has a port and doesn't listen."""
+    taken = socket.socket()
+    taken.bind((HOST, 0))
+    return taken
