@@ -88,13 +88,21 @@ class Build:
         minutes = self.progress.minutes_left()
         tell(f"building the program: its {len(self.names)} crates are proved first, side by side; {minutes} from nothing on this machine")
         with concurrent.futures.ThreadPoolExecutor(len(self.free)) as pool:
-            while len(self.finished) < len(self.names):
-                self.begin(pool)
-                for it in concurrent.futures.wait(self.running, return_when=concurrent.futures.FIRST_COMPLETED).done:
-                    if not self.end(self.running.pop(it), it.result()):
-                        commands.end_all()
-                        return False
-        tell(f"built in {time.monotonic() - began:.0f} s")
+            try:
+                is_proved = self.prove_all(pool)
+            finally:
+                commands.end_all()
+        if is_proved:
+            tell(f"built in {time.monotonic() - began:.0f} s")
+        return is_proved
+
+    def prove_all(self, pool: concurrent.futures.Executor) -> bool:
+        """Proves crate after crate, up to the first that isn't proved."""
+        while len(self.finished) < len(self.names):
+            self.begin(pool)
+            for it in concurrent.futures.wait(self.running, return_when=concurrent.futures.FIRST_COMPLETED).done:
+                if not self.end(self.running.pop(it), it.result()):
+                    return False
         return True
 
     def begin(self, pool: concurrent.futures.Executor) -> None:

@@ -5,7 +5,7 @@ from typing import Dict, Iterable, List
 
 from gate import crates
 
-# The processor time of each crate's first proof where it was measured, in seconds. docs/BENCHMARKS.md says on what machine.
+# The processor time of each crate's first proof on one machine, in seconds. It is their ratio that counts.
 SECONDS: Dict[str, int] = {
     "flex_wire": 135,
     "kip_msgs": 425,
@@ -27,7 +27,7 @@ SECONDS: Dict[str, int] = {
     "scenario_cli": 676,
 }
 # What a crate is taken for that was never measured, in seconds a line of code and of definitions and proofs.
-LINE_SECONDS, ANTT_LINE_SECONDS = 0.15, 0.05
+LINE_SECONDS, ANTT_LINE_SECONDS = 0.12, 0.03
 # What part of that time a build takes where each crate gets the processors that no other one waits for.
 PACE = 0.7
 

@@ -68,7 +68,9 @@ class Kept:
             now = self.file_clock()
             listed = self.listed()
             changes = [float(line.rpartition(b" ")[2]) for line in listed.splitlines()]
-            if changes and max(changes) < now - TICK:
+            if not changes:
+                break
+            if max(changes) < now - TICK:
                 return listed
             time.sleep(TICK)
         return None

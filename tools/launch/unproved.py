@@ -103,7 +103,7 @@ def tried(tree: crates.Tree, words: List[str]) -> int:
         build.tell(f"no native program came of it, and `rt try`, the other way, ends {ENDLESS} after a minute: not started")
         return 1
     build.tell("no native program came of it: this is `rt try`, whose output comes when the program has ended")
-    with build.room(tree):
+    with commands.room("coord"):
         given = sys.stdin.buffer.read()
         ran = commands.run(["rt", "try", "--", *words], tree.folder(sources.CRATE), given, merged=False)
     sys.stdout.buffer.write(ran.output)
