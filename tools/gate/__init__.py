@@ -9,6 +9,7 @@ rounds      one crate's edits, many in a check
 kept        what edits came to before on this machine
 trials      edits that only a test or a case refuses
 cases       lines for the program, and what it must answer
+rows        many small cases in one text
 misuses     code over the crates that must not compile
 schedule    which crate comes next, and how much runs side by side
 whole       the gate itself

@@ -9,6 +9,10 @@
 In place of .in and .out a case that is too long to be stored has
 
     cases/SUBCOMMAND/NAME.made     a line that names the tool which writes both, and its words, as `reply-lines make full-group`
+
+Small runs stand together in one text, each as a row (tools/gate/rows.py has the format):
+
+    cases/FOLDER/NAME.rows         each row is a case of its own
 """
 
 import concurrent.futures
@@ -18,7 +22,7 @@ import os
 import sys
 import tempfile
 
-from gate import commands
+from gate import commands, rows
 
 # The crate whose program the cases are for.
 PROGRAM_CRATE = "scenario_cli"
@@ -28,6 +32,7 @@ SHOWN = 40
 ENDINGS = (".in", ".out", ".err", ".status", ".args", ".made")
 # A folder in cases/ that isn't a subcommand's: tools/check-conversations plays what is in it.
 CONVERSATIONS = "conversations"
+ROWS = ".rows"
 
 
 class BadCase(Exception):
@@ -46,14 +51,44 @@ class Case:
     status: int
 
 
+def cases_of(root):
+    """The cases of a tree, each with its label: a case, or why it can't be run."""
+    for label in labels_in(root):
+        if os.path.isfile(f"{root}/{label}{ROWS}"):
+            yield from row_cases(root, label)
+        else:
+            yield label, case_or_fault(root, label)
+
+
 def labels_in(root):
-    """The cases of a tree, as cases/SUBCOMMAND/NAME: one for each name that a file there has."""
+    """The files of cases in a tree, as cases/FOLDER/NAME: one for each name that a file there has."""
     found = set()
     for folder, folders, names in os.walk(f"{root}/cases"):
         folders[:] = sorted({*folders} - {CONVERSATIONS})
         stems = {os.path.splitext(it)[0] for it in names if not it.endswith(".md")}
         found |= {os.path.relpath(f"{folder}/{it}", root) for it in stems}
     return sorted(found)
+
+
+def row_cases(root, label):
+    """The cases of a file of rows."""
+    text = content_of(f"{root}/{label}{ROWS}")
+    try:
+        found = [*rows.rows_of(text, (label.split("/")[1],))]
+        names = rows.names_of(found)
+    except (rows.BadRow, ValueError) as why:
+        yield label, f"BAD CASE: {why}"
+        return
+    for name, row in zip(names, found):
+        row_label = f"{label}, {name}"
+        yield row_label, Case(row_label, row.words, row.given, row.output, row.errors, row.status)
+
+
+def case_or_fault(root, label):
+    try:
+        return read_case(root, label)
+    except (BadCase, OSError, UnicodeDecodeError) as why:
+        return f"BAD CASE: {why}"
 
 
 def read_case(root, label):
@@ -92,22 +127,20 @@ def content_of(path):
 
 def run_all(root, program, say):
     """Runs every case of a tree with the program; says each that fails. Returns how many passed and failed."""
-    labels = labels_in(root)
+    all_cases = [*cases_of(root)]
     with concurrent.futures.ThreadPoolExecutor(os.cpu_count()) as pool:
-        faults = [*pool.map(lambda label: fault_of(root, label, program), labels)]
-    for label, fault in zip(labels, faults):
+        faults = [*pool.map(lambda it: fault_of(it[1], program), all_cases)]
+    for (label, _), fault in zip(all_cases, faults):
         if fault is not None:
             say(f"{label}: {fault}")
     failed = sum(it is not None for it in faults)
-    return len(labels) - failed, failed
+    return len(all_cases) - failed, failed
 
 
-def fault_of(root, label, program):
-    """How the program's answer differs from what a case expects, or None."""
-    try:
-        case = read_case(root, label)
-    except (BadCase, OSError, UnicodeDecodeError) as why:
-        return f"BAD CASE: {why}"
+def fault_of(case, program):
+    """How the program's answer differs from what a case expects, or why it can't be run, or None."""
+    if isinstance(case, str):
+        return case
     with tempfile.TemporaryDirectory(prefix="case-") as folder:
         ran = commands.run([program, *case.words], folder, case.given, LIMIT, merged=False)
     if ran.was_cut:

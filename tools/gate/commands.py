@@ -156,7 +156,7 @@ def stop(number, _frame):
 
 
 @contextlib.contextmanager
-def room(name):
+def room(name, parent=None):
     """A folder that others can read and that is removed at the end, whatever ends it but SIGKILL.
 
     What is written meanwhile to the folder for temporary files, also by the programs, lies in it. From here on a
@@ -164,8 +164,11 @@ def room(name):
     """
     ctypes.CDLL(None, use_errno=True).prctl(PR_SET_CHILD_SUBREAPER, 1, 0, 0, 0)
     for it in (signal.SIGINT, signal.SIGTERM, signal.SIGHUP):
-        signal.signal(it, stop)
-    folder = os.path.realpath(tempfile.mkdtemp(prefix=f"{name}-"))
+        # nohup has the last of them ignored.
+        if signal.getsignal(it) != signal.SIG_IGN:
+            signal.signal(it, stop)
+    folder = os.path.realpath(tempfile.mkdtemp(prefix=f"{name}-", dir=parent))
+    before = tempfile.gettempdir()
     tempfile.tempdir = os.environ["TMPDIR"] = f"{folder}/tmp"
     os.mkdir(tempfile.tempdir)
     for it in (folder, tempfile.tempdir):
@@ -174,6 +177,7 @@ def room(name):
         yield folder
     finally:
         end_all()
+        tempfile.tempdir = os.environ["TMPDIR"] = before
         shutil.rmtree(folder, ignore_errors=True)
 
 

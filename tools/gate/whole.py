@@ -97,7 +97,7 @@ class Gate:
         made = self.program()
         programs = {"cases": made, "cases, as Rattle's own compiler builds the program": f"{made}.by-rattle"}
         if not os.path.isfile(made):
-            self.count("cases, which no program was built for", 0, is_proved * len(cases.labels_in(self.root)))
+            self.count("cases, which no program was built for", 0, is_proved * len([*cases.cases_of(self.root)]))
         for what, program in programs.items():
             if os.path.isfile(program):
                 self.count(what, *cases.run_all(self.root, program, self.say))

@@ -1,90 +1,178 @@
-//! Tests of whole runs, over readers and writers in memory. The worked examples stand in tables of text.
+//! Tests of the subcommands over readers and writers in memory: the worked examples of the protocol, streams that fail, and what
+//! `coord serve` is asked for. What the program does with further lines stands in `cases`.
 
-mod command_lines;
-mod commits_and_ticks;
 mod frames;
 mod replies;
 mod runs;
-mod sink;
+mod services;
+mod setup;
+mod stream;
 mod streams;
-mod table;
 
-use crate::program::{self, Ran as Came};
+use crate::program::{self, Ran};
 use crate::service::Service;
-use sink::Sink;
+use setup::{Fails, Setup};
 use std::alloc::{AllocError, Global};
 use std::collections::hash_map::RandomState;
 use std::io;
-use std::io::{Error, ErrorKind, Read, Write};
+use std::io::{Cursor, Error, ErrorKind, Write};
+use std::random::RandomSource;
+use stream::Stream;
 
-/// Runs the program.
+/// Runs the rows of a table. A table is text, and an empty line stands between its rows. A line of a row is one of these:
+///
+/// | Line | It has |
+/// |---|---|
+/// | `# NAME` | the row's name |
+/// | `$ WORDS` | the words of the command line |
+/// | `% STATUS FAILS ROOM TIMES` | the status, what fails, how many bytes the output takes and how often the input is given; without it `0 nothing 8192 1` |
+/// | `! LINE` | a line that is told on standard error |
+/// | `| TEXT` | a remark |
+/// | `LINE => PRINTED` | a line of the input and a line that is printed; either may be left out |
 #[derive(Clone, Copy)]
-struct Runner<'a> {
+struct Runner {
     alloc: Global,
     keys: RandomState,
-    /// The words behind the program's name, or none where they can't be read.
-    words: Option<&'a str>,
-    has_keys: bool,
 }
 
-/// What a run has written when it ends, and its status.
+/// What a run has written, and its status.
 #[derive(Drop)]
-struct Ran {
+struct Output {
     status: u8,
     printed: Vec<u8>,
     told: Vec<u8>,
 }
 
+/// What a line of a row is for.
+#[derive(Clone, Copy)]
+enum Part {
+    Input,
+    Printed,
+    Told,
+}
+
 /// The line of an act that is refused for want of memory.
 const REFUSED: &[u8] = b"refused 4\n";
 
-/// How much a run may print and tell, where a test doesn't say otherwise.
-const ROOM: usize = 8_192;
+/// The rows of a table that come to something else than they say. Where memory was refused, the table is gone through once more.
+fn wrong_rows(rt: &(impl AllocGlobal + RandomSource), table: &str) -> io::Result<String> {
+    let runner = Runner {
+        alloc: rt.alloc(),
+        keys: RandomState::new(rt)?,
+    };
+    let wrong = runner.wrong_rows(table);
+    Ok(wrong.or_else(|_| runner.wrong_rows(table))?)
+}
 
-impl Runner<'_> {
-    /// Runs the program over a reader, with room for so many bytes of output.
-    fn run<R: Read>(&self, reader: &mut R, room: usize) -> Result<Ran, AllocError> {
-        let words = self.words()?;
-        let mut printed = Sink::with_room(self.alloc, room)?;
-        let mut told = Sink::with_room(self.alloc, ROOM)?;
-        let came = program::run(
-            self.alloc,
-            words,
-            self.keys(),
-            reader,
-            &mut printed,
-            &mut told,
-        );
-        let status = match came {
-            Came::Ended(status) => status,
-            Came::Serves(service) => echo(service, &mut printed),
-        };
-        Ok(Ran {
+impl Runner {
+    fn wrong_rows(&self, table: &str) -> Result<String, AllocError> {
+        let mut wrong = String::new(self.alloc);
+        for row in table.split("\n\n") {
+            self.look(row, &mut wrong)?;
+        }
+        Ok(wrong)
+    }
+
+    /// Tells a row that comes to something else than it says.
+    fn look(&self, row: &str, wrong: &mut String) -> Result<(), AllocError> {
+        let setup = Setup::of(row);
+        let input = self.text_of(row, Part::Input, setup.times)?;
+        let output = self.run_with_memory(&setup, input.as_bytes())?;
+        if !self.is_right(row, &setup, &output)? {
+            let printed = output.printed.escape_ascii();
+            let told = output.told.escape_ascii();
+            writeln!(wrong, "{row}\n{} {printed} {told}", output.status)?;
+        }
+        Ok(())
+    }
+
+    /// Whether a row's run has come to what the row says.
+    fn is_right(&self, row: &str, setup: &Setup<'_>, output: &Output) -> Result<bool, AllocError> {
+        let mut printed = self.text_of(row, Part::Printed, setup.times)?.into_bytes();
+        printed.truncate(setup.room);
+        let told = self.text_of(row, Part::Told, 1)?;
+        Ok(
+            output.status == setup.status
+                && output.printed == printed
+                && output.told.as_slice() == told.as_bytes(),
+        )
+    }
+
+    /// One part of a row, so many times.
+    fn text_of(&self, row: &str, part: Part, times: usize) -> Result<String, AllocError> {
+        let lines = self.lines_of(row, part)?;
+        let mut text = String::new(self.alloc);
+        for _ in 0..times {
+            text.push_str(lines.as_str())?;
+        }
+        Ok(text)
+    }
+
+    /// The lines of one part of a row.
+    fn lines_of(&self, row: &str, part: Part) -> Result<String, AllocError> {
+        let mut lines = String::new(self.alloc);
+        for line in row.lines() {
+            put_line(&mut lines, part.of(line))?;
+        }
+        Ok(lines)
+    }
+
+    /// What comes of a run, which is made once more where memory was short in it.
+    fn run_with_memory(&self, setup: &Setup<'_>, input: &[u8]) -> Result<Output, AllocError> {
+        let output = self.run(setup, input)?;
+        if output.lacked_memory() {
+            return self.run(setup, input);
+        }
+        Ok(output)
+    }
+
+    fn run(&self, setup: &Setup<'_>, input: &[u8]) -> Result<Output, AllocError> {
+        let words = self.words(setup)?;
+        let mut printed = vec![in self.alloc; 0; setup.room]?;
+        let mut told = vec![in self.alloc; 0; setup::ROOM]?;
+        let mut writer = Cursor::new(printed.as_mut_slice());
+        let mut faults = Cursor::new(told.as_mut_slice());
+        let status = self.status(setup, words, input, &mut writer, &mut faults);
+        let (written, told_bytes) = (writer.position() as usize, faults.position() as usize);
+        printed.truncate(written);
+        told.truncate(told_bytes);
+        Ok(Output {
             status,
-            printed: printed.into_bytes(),
-            told: told.into_bytes(),
+            printed,
+            told,
         })
     }
 
-    /// The words of the command line.
-    fn words(&self) -> Result<io::Result<Vec<String>>, AllocError> {
-        let Some(words) = self.words else {
-            return Ok(Err(Error::from(ErrorKind::BrokenPipe)));
+    fn status<W: Write, E: Write>(
+        &self,
+        setup: &Setup<'_>,
+        words: io::Result<Vec<String>>,
+        input: &[u8],
+        writer: &mut W,
+        faults: &mut E,
+    ) -> u8 {
+        let mut reader = Stream::new(input, setup.fails);
+        let keys = match setup.fails {
+            Fails::Keys => Err(Error::from(ErrorKind::BrokenPipe)),
+            _ => Ok(self.keys),
         };
-        let mut all = Vec::new(self.alloc);
-        all.push(String::from_str(self.alloc, "coord")?)?;
-        for word in words.split_whitespace() {
-            all.push(String::from_str(self.alloc, word)?)?;
+        match program::run(self.alloc, words, keys, &mut reader, writer, faults) {
+            Ran::Ended(status) => status,
+            Ran::Serves(service) => echo(service, writer),
         }
-        Ok(Ok(all))
     }
 
-    fn keys(&self) -> io::Result<RandomState> {
-        if self.has_keys {
-            Ok(self.keys)
-        } else {
-            Err(Error::from(ErrorKind::BrokenPipe))
+    /// The words of the command line.
+    fn words(&self, setup: &Setup<'_>) -> Result<io::Result<Vec<String>>, AllocError> {
+        if setup.fails == Fails::Words {
+            return Ok(Err(Error::from(ErrorKind::BrokenPipe)));
         }
+        let mut words = Vec::new(self.alloc);
+        words.push(String::from_str(self.alloc, "coord")?)?;
+        for word in setup.words.split_whitespace() {
+            words.push(String::from_str(self.alloc, word)?)?;
+        }
+        Ok(Ok(words))
     }
 }
 
@@ -94,36 +182,54 @@ fn echo<W: Write>(service: Service, writer: &mut W) -> u8 {
     let (port, workers) = (service.port, service.workers);
     let (shards, connections) = (service.shards, service.connections);
     let partitions = service.image.find("t").map_or(0, |(_, count)| count);
-    match writeln!(
+    let printed = writeln!(
         writer,
         "{port} {workers} {shards} {connections} {partitions}"
-    ) {
-        Ok(()) => 0,
-        Err(_) => 1,
+    );
+    if printed.is_ok() { 0 } else { 1 }
+}
+
+impl Output {
+    /// Whether memory was short: the run ended for it, or an act was refused for it.
+    fn lacked_memory(&self) -> bool {
+        self.told.ends_with(b"out of memory\n")
+            || self
+                .printed
+                .windows(REFUSED.len())
+                .any(|part| part == REFUSED)
     }
 }
 
-impl Ran {
-    /// Whether the run ended for want of memory.
-    fn is_out_of_memory(&self) -> bool {
-        self.status == 1 && self.told.ends_with(b"out of memory\n")
-    }
-
-    /// What was printed before memory was short, where it was: before the run ended for it, or an act was refused for it.
-    fn before_want(&self) -> Option<&[u8]> {
-        let printed = self.printed.as_slice();
-        match printed
-            .windows(REFUSED.len())
-            .position(|part| part == REFUSED)
+impl Part {
+    /// What a line of a row has for this part, or nothing.
+    fn of(self, line: &str) -> &str {
+        if let Some(told) = line.strip_prefix("! ") {
+            return match self {
+                Part::Told => told,
+                Part::Input | Part::Printed => "",
+            };
+        }
+        if line.starts_with("# ")
+            || line.starts_with("$ ")
+            || line.starts_with("% ")
+            || line.starts_with("| ")
         {
-            Some(place) => Some(&printed[..place]),
-            None if self.is_out_of_memory() => Some(printed),
-            None => None,
+            return "";
+        }
+        let (input, printed) = line.split_once("=>").unwrap_or((line, ""));
+        match self {
+            Part::Input => input.trim(),
+            Part::Printed => printed.trim(),
+            Part::Told => "",
         }
     }
+}
 
-    /// Whether the run ended so.
-    fn is(&self, status: u8, printed: &[u8], told: &[u8]) -> bool {
-        self.status == status && self.printed.as_slice() == printed && self.told.as_slice() == told
+/// Appends a line that isn't empty.
+fn put_line(text: &mut String, line: &str) -> Result<(), AllocError> {
+    if !line.is_empty() {
+        text.push_str(line)?;
+        text.push('\n')?;
     }
+    Ok(())
 }

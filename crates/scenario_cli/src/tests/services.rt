@@ -1,0 +1,19 @@
+//! What `coord serve` is asked for: the port, the workers, the shards, the connections, and the partitions of the topic `t`.
+
+use super::wrong_rows;
+use std::test::Fail;
+
+#[test]
+fn services_have_their_numbers(rt: HostRuntime) -> Result<(), Fail> {
+    assert_eq!(rt; wrong_rows(&rt, TABLE)?.as_str(), "");
+    Ok(())
+}
+
+const TABLE: &str = "\
+# a server with no topics
+$ serve --port 1 --workers 64 --shards 64 --connections 1000000
+=> 1 64 64 1000000 0
+
+# a topic is cut at its first colon and its last
+$ serve --port 65535 --workers 1 --shards 1 --connections 1 t:urn:uuid:11111111-1111-1111-1111-111111111111:2
+=> 65535 1 1 1 2";
