@@ -10,6 +10,7 @@ from broker.link import say
 
 BACKLOG = 1024
 NO_FILES_SECONDS = 1.0
+END_SECONDS = 1.0
 Work = Coroutine[Any, Any, None]
 
 
@@ -47,9 +48,16 @@ async def accept(listener: socket.socket, most: int, prepare: Callable[[socket.s
             serving.add(task)
             task.add_done_callback(ended)
     finally:
-        for task in serving:
-            task.cancel()
-        await asyncio.gather(*serving, return_exceptions=True)
+        # At the first cancellation a connection closes behind what was written to it, at the second at once.
+        for _ in range(2):
+            for task in serving:
+                task.cancel()
+            await _all_ended(serving)
+
+
+async def _all_ended(tasks: Set[asyncio.Task[None]]) -> None:
+    if tasks:
+        await asyncio.wait(tasks, timeout=END_SECONDS)
 
 
 async def _accept_one(listener: socket.socket) -> socket.socket:

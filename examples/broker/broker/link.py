@@ -8,6 +8,7 @@ import sys
 from typing import Optional
 
 from broker.frames import BadFrame, framed, read_body
+from broker.streams import within
 
 OPEN_SECONDS = 5
 ANSWER_SECONDS = 60
@@ -32,10 +33,11 @@ class Coordinator:
     async def open(self) -> Optional[Link]:
         """A new connection, or None where the coordinator can't be reached."""
         try:
-            streams = await asyncio.wait_for(asyncio.open_connection(self.host, self.port), OPEN_SECONDS)
+            streams = await within(OPEN_SECONDS, asyncio.open_connection(self.host, self.port))
         except (OSError, asyncio.TimeoutError) as why:
             if self.is_there is not False:
-                say(f"the coordinator {self} can't be reached, and clients' connections are closed: {why or 'it is silent'}")
+                reason = str(why) or f"it hasn't answered for {OPEN_SECONDS} s"
+                say(f"the coordinator {self} can't be reached, and clients' connections are closed: {reason}")
             self.is_there = False
             return None
         if self.is_there is False:
@@ -73,11 +75,10 @@ class Link:
         self.arriving = asyncio.ensure_future(self._read())
         return reply
 
-    async def close(self) -> None:
+    def close(self) -> None:
+        """Closes it at once. (What was asked has been sent, unless the coordinator takes nothing any more.)"""
         self.arriving.cancel()
-        self._writer.close()
-        with contextlib.suppress(OSError):
-            await self._writer.wait_closed()
+        self._writer.transport.abort()
 
 
 def say(line: str) -> None:

@@ -7,7 +7,6 @@ closes, the other is closed too, behind the replies before it.
 from __future__ import annotations
 
 import asyncio
-import contextlib
 import socket
 import time
 from typing import Optional
@@ -19,6 +18,7 @@ from broker.cluster import Cluster, Node
 from broker.fields import Unreadable
 from broker.frames import BadFrame, framed, read_body, read_request
 from broker.link import CoordinatorClosed, Link, say
+from broker.streams import close, within
 from broker.watch import Watch
 
 MOST_CONNECTIONS = 2_000
@@ -65,10 +65,8 @@ class Relay:
             pass
         finally:
             self.node.connections -= 1
-            await self.link.close()
-            writer.close()
-            with contextlib.suppress(OSError):
-                await writer.wait_closed()
+            self.link.close()
+            await close(writer)
 
     async def _serve(self, reader: asyncio.StreamReader, writer: asyncio.StreamWriter) -> None:
         while True:
@@ -76,7 +74,8 @@ class Relay:
             if body is None:
                 return
             writer.write(framed(await self._answer(body)))
-            await _drain(writer)
+            if writer.transport.get_write_buffer_size():
+                await _drain(writer)
 
     async def _next(self, reader: asyncio.StreamReader) -> Optional[bytes]:
         """The next request's body, or None where the client has closed. Raises Closed where the coordinator has."""
@@ -106,7 +105,7 @@ class Relay:
 
 async def _drain(writer: asyncio.StreamWriter) -> None:
     try:
-        await asyncio.wait_for(writer.drain(), UNREAD_SECONDS)
+        await within(UNREAD_SECONDS, writer.drain())
     except asyncio.TimeoutError:
         writer.transport.abort()
         raise Closed(f"it read none of its replies for {UNREAD_SECONDS} s") from None
