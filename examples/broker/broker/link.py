@@ -3,12 +3,11 @@
 from __future__ import annotations
 
 import asyncio
-import contextlib
-import sys
 from typing import Optional
 
 from broker.frames import BadFrame, framed, read_body
 from broker.streams import within
+from broker.words import say
 
 OPEN_SECONDS = 5
 ANSWER_SECONDS = 60
@@ -63,9 +62,8 @@ class Link:
         """Sends a request's body, framed, and gives the reply's. Raises CoordinatorClosed."""
         if self.arriving.done():
             raise CoordinatorClosed("the coordinator closed the connection")
-        with contextlib.suppress(OSError):
-            self._writer.write(framed(body))
-            await self._writer.drain()
+        # (Nothing else is under way, so no more than this one is ever buffered.)
+        self._writer.write(framed(body))
         await asyncio.wait({self.arriving}, timeout=ANSWER_SECONDS)
         if not self.arriving.done():
             raise CoordinatorClosed(f"the coordinator hasn't answered for {ANSWER_SECONDS} s")
@@ -79,8 +77,3 @@ class Link:
         """Closes it at once. (What was asked has been sent, unless the coordinator takes nothing any more.)"""
         self.arriving.cancel()
         self._writer.transport.abort()
-
-
-def say(line: str) -> None:
-    """One line on standard error."""
-    print(f"broker: {line}", file=sys.stderr, flush=True)

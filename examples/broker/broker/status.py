@@ -10,7 +10,7 @@ import time
 from typing import Dict, Tuple
 
 from broker import report
-from broker.acceptor import Work, accept
+from broker.acceptor import Address, Work, accept
 from broker.cluster import Cluster
 from broker.streams import close, within
 from broker.watch import Watch
@@ -41,7 +41,7 @@ class Status:
     async def run(self, listener: socket.socket) -> None:
         """Serves for ever."""
 
-        async def prepare(client: socket.socket) -> Work:
+        async def prepare(client: socket.socket, _: Address) -> Work:
             return self._serve(client)
 
         await accept(listener, MOST_CONNECTIONS, prepare)

@@ -4,6 +4,7 @@ from __future__ import annotations
 
 import asyncio
 import socket
+import struct
 import time
 import unittest
 from typing import List, Optional, Tuple
@@ -98,6 +99,18 @@ class Relay(unittest.IsolatedAsyncioTestCase):
             first, second = await it.client(), await it.client()
             first.writer.write(b"\xff" * 4)
             self.assertEqual((await first.body(), await second.ask(VERSIONS.format(5)) is None), (None, False))
+
+    async def test_a_client_that_is_gone_at_once_leaves_nothing_behind(self) -> None:
+        cluster = small_cluster()
+        async with front(cluster=cluster) as it:
+            for _ in range(20):
+                gone = socket.create_connection((HOST, it.port))
+                # It closes by a reset.
+                gone.setsockopt(socket.SOL_SOCKET, socket.SO_LINGER, struct.pack("ii", 1, 0))
+                gone.close()
+            self.assertIsNotNone(await (await it.client()).ask(VERSIONS.format(1)))
+            await it.wait_for(lambda: cluster.nodes[0].connections == 1)
+        self.assertEqual(it.said.getvalue(), "")
 
     async def test_a_client_that_closes_closes_its_connection_to_the_coordinator(self) -> None:
         async with front() as it:
