@@ -6,6 +6,7 @@ edits       the files of edits: reading them, and applying them to a crate's tex
 functions   which function a line of source stands in, and its name in a verdict
 verdicts    reading what a check says
 rounds      one crate's edits, many in a check
+kept        what edits came to before on this machine
 trials      edits that only a test or a case refuses
 cases       lines for the program, and what it must answer
 rows        many small cases in one text

@@ -9,10 +9,13 @@ PARTS = ("src", "specs", "proofs")
 
 
 class Tree:
-    """A repository's files: its crates, and the libraries that were built of them."""
+    """A repository's files: its crates, and the libraries that were built of them.
 
-    def __init__(self, root, kit):
-        self.root, self.kit = root, kit
+    `is_proved` says that `rt ci` has just built the libraries of the tree's very files.
+    """
+
+    def __init__(self, root, kit, is_proved=False):
+        self.root, self.kit, self.is_proved = root, kit, is_proved
         self.uses = listed(f"{root}/crates.txt")
 
     def folder(self, crate):
@@ -76,13 +79,18 @@ class Tree:
         words += ["--antt-project", f"{self.kit}/rattle/logic/antt-project.json"]
         return [*words, "--logic-built", f"{self.kit}/logic_built", "--links", f"{crate}="]
 
+    def is_made(self, name):
+        """Whether `rt ci` has just built the library: it leaves no stamp, as `rt lib` does."""
+        folder = os.path.dirname(self.library(name))
+        return self.is_proved and os.path.isdir(self.library(name)) and not os.path.isfile(f"{folder}/stamp")
+
     def build_below(self, crates):
         """Builds the libraries that these crates rest on. Says why one does not build, or None."""
         return self.build(dict.fromkeys(low for it in crates for low in self.below(it)))
 
     def build(self, names):
         """Builds these libraries, where they have changed. Says why one does not build, or None."""
-        for name in names:
+        for name in (it for it in names if not self.is_made(it)):
             ran = commands.run(["rt", "lib"], self.folder(name))
             if ran.status:
                 return "\n".join([*ran.lines()[-20:], f"the library {name} is not proved"])

@@ -4,9 +4,10 @@ An edit has a line `file: src/x.rt` and then pairs of lines `old: TEXT` and `new
 one line and stands once in that file; a later pair applies to what the earlier ones made. So no edit moves a line. A text
 that stands in several lines is turned in one where the first pairs turn the other lines, and the last ones turn them back.
 
-    crates/NAME/must-fail/*.edit         the prover must refuse each. NAMED.md beside them may list, one a line
-                                         as `NAME.edit: reason`, those that are refused only since a proof file
-                                         uses a name that the edit takes away
+    crates/NAME/must-fail/*.edit         the prover must refuse each: `rt ci` tries them, too. NAMED.md beside them
+                                         may list, one a line as `NAME.edit: reason`, those that are refused only
+                                         since a proof file uses a name that the edit takes away
+    crates/NAME/edits/*.edit             the prover must refuse each; `rt ci` doesn't read these
     crates/NAME/must-fail-tests/*.edit   the prover must accept each, and a test or a case must fail with it. The
                                          first line says which: `test: CRATE::path::of_test` or `case: cases/reply/NAME`
 """
@@ -16,7 +17,8 @@ import os
 import re
 from typing import Optional
 
-PROVER_FOLDER, TEST_FOLDER = "must-fail", "must-fail-tests"
+PROVER_FOLDER, FURTHER_FOLDER, TEST_FOLDER = "must-fail", "edits", "must-fail-tests"
+FOLDERS = (PROVER_FOLDER, FURTHER_FOLDER, TEST_FOLDER)
 NAMED_FILE = "NAMED.md"
 EDIT_NAME = re.compile(r"[A-Za-z0-9_-][A-Za-z0-9_.-]*\.edit")
 EDITED_PARTS = ("src/", "specs/", "proofs/")
@@ -55,10 +57,10 @@ class Change:
     lines: set
 
 
-def edits_of(folder, crate):
+def edits_of(folder, crate, parts=FOLDERS):
     """A crate's edits, the names that NAMED.md lists, and the labels of files that are no edits, each with why."""
     found, bad = [], {}
-    for part in (PROVER_FOLDER, TEST_FOLDER):
+    for part in parts:
         for name in names_in(f"{folder}/{part}"):
             if name.endswith(".md"):
                 continue
@@ -66,7 +68,7 @@ def edits_of(folder, crate):
                 found.append(read_edit(f"{folder}/{part}", crate, name))
             except BadEdit as why:
                 bad[f"{crate}/{name}"] = str(why)
-    return found, named_in(f"{folder}/{PROVER_FOLDER}/{NAMED_FILE}"), bad
+    return found, {name for part in parts for name in named_in(f"{folder}/{part}/{NAMED_FILE}")}, bad
 
 
 def names_in(folder):
@@ -82,7 +84,7 @@ def read_edit(folder, crate, name):
             text = file.read()
     except UnicodeDecodeError:
         raise BadEdit("it is not UTF-8") from None
-    if os.path.basename(folder) == PROVER_FOLDER:
+    if os.path.basename(folder) != TEST_FOLDER:
         return Edit(crate, name, text)
     first = text.partition("\n")[0]
     test, case = TEST_LINE.fullmatch(first), CASE_LINE.fullmatch(first)

@@ -17,7 +17,9 @@ USED_MEMORY, JOB_MEMORY = 0.85, 0.6
 # More jobs than this seldom make a check faster, nor do more than one for so many functions: each reads all libraries.
 MOST_JOBS, FUNCTIONS_A_JOB = 4, 20
 # How long a round that was begun in time may run on, in seconds.
-GRACE = 600
+GRACE = 300
+# The commits of so many hours before the last one are one landing.
+LANDING_HOURS = 4
 # Where a control group says how much processor time (quota and period) and memory (limit and use) there is.
 QUOTA_FILE = "/sys/fs/cgroup/cpu.max"
 MEMORY_FILES = ("/sys/fs/cgroup/memory.max", "/sys/fs/cgroup/memory.current")
@@ -30,8 +32,8 @@ class OutOfTime(Exception):
 class Clock:
     """The time from a start on, of which so many minutes are for what is left out at need; None: any number."""
 
-    def __init__(self, minutes=None):
-        self.began, self.minutes = time.monotonic(), minutes
+    def __init__(self, minutes=None, began=None):
+        self.began, self.minutes = began or time.monotonic(), minutes
 
     def seconds(self):
         return time.monotonic() - self.began
@@ -117,12 +119,12 @@ def free_memory():
     return free if limit is None or used is None else min(free, limit - used)
 
 
-def order(root, names):
-    """The names in an order that changes from commit to commit, and the crates that the last commit changed first."""
-    commit = git(root, "rev-parse", "HEAD").strip()
-    changed = set(re.findall(r"^crates/(\w+)/", git(root, "diff", "--name-only", "HEAD^", "HEAD"), re.M))
-    shuffled = random.Random(commit).sample(sorted(names), len(names))
-    return sorted(shuffled, key=lambda it: it not in changed)
+def changed_last(root, names):
+    """The crates that the commits of the last few hours changed, in an order that changes from commit to commit."""
+    since = int(git(root, "log", "-1", "--format=%ct").strip() or 0) - 3600 * LANDING_HOURS
+    files = git(root, "log", f"--since=@{since}", "--format=", "--name-only").split("\n")
+    changed = {it[1] for it in (re.match(r"crates/(\w+)/", file) for file in files) if it}
+    return shuffled(root, sorted(changed & {*names}), "")
 
 
 def shuffled(root, items, name):

@@ -16,10 +16,11 @@ class Sweep:
 
     `known` has for each crate the names in its verdict, where `rt ci` has just proved the tree's very files and built
     its libraries. Without it a check of each crate as it stands comes first, over what its own checks have kept.
+    `kept`, where it is given, has what edits came to before.
     """
 
-    def __init__(self, tree, room, say, clock, known=None):
-        self.tree, self.room, self.clock, self.known = tree, room, clock, known
+    def __init__(self, tree, room, say, clock, known=None, kept=None):
+        self.tree, self.room, self.clock, self.known, self.kept = tree, room, clock, known, kept
         self.lanes, self.printing, self.say_line = schedule.Lanes(), threading.Lock(), say
         self.named, self.trials = {}, None
 
@@ -30,6 +31,16 @@ class Sweep:
     def run(self, tried, named):
         """Tries these edits, by crate in the order to be kept; says what came of each, and counts."""
         self.named = named
+        every = [it for each in tried.values() for it in each] if self.kept else []
+        earlier = {it: answer for it in every if (answer := self.kept.answer(it))}
+        if earlier:
+            self.say(f"{len(earlier)} edits came out as they must before on this machine, over the same files")
+        left = {crate: [it for it in each if it not in earlier] for crate, each in tried.items()}
+        answers = {**earlier, **self.try_all({crate: each for crate, each in left.items() if each})}
+        return answers, tally(answers, named)
+
+    def try_all(self, tried):
+        """What came of each of these edits."""
         tests = [it.test for each in tried.values() for it in each if it.test]
         self.trials = trials.Trials(self.tree, self.room, tests, self.say, self.clock)
         tasks = [
@@ -37,7 +48,10 @@ class Sweep:
             for crate, each in tried.items()
         ]
         answers = {edit: answer for found in self.lanes.run(tasks) for edit, answer in found.items()}
-        return answers, tally(answers, named)
+        for edit, answer in answers.items():
+            if self.kept and is_good(answer, edit, self.named):
+                self.kept.keep(edit, answer)
+        return answers
 
     def try_crate(self, crate, tried):
         """What came of each edit of a crate: a word, and why."""
@@ -115,11 +129,11 @@ def tally(answers, named):
     return Tally(passed, len(answers) - left - passed, left)
 
 
-def gathered(folder_of, names, say):
+def gathered(folder_of, names, say, folders=edits.FOLDERS):
     """The edits of these crates and the names that their NAMED.md list, by crate; and how many files are no edits."""
     tried, named, bad = {}, {}, 0
     for crate in names:
-        tried[crate], named[crate], strange = edits.edits_of(folder_of(crate), crate)
+        tried[crate], named[crate], strange = edits.edits_of(folder_of(crate), crate, folders)
         lost = named[crate] - {it.name for it in tried[crate]}
         strange.update({f"{crate}/{edits.NAMED_FILE}": f"it lists {it}, which is not there" for it in lost})
         for label, why in strange.items():

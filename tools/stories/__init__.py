@@ -5,9 +5,14 @@
     events   what happens in a line
     story    what happens in each line, and who holds what after it
     table    a story as a table of text, and the numbers of a script's messages
-    svg      shapes and texts of a picture
-    labels   the words at arrows and lanes
-    layout   where rows, lanes and bars of a picture are
+    flights  messages from the rows in which they are sent to those in which they arrive
+    columns  who holds each partition, from row to row
+    labels   the words at the arrows and lanes of a picture
+    layout   where the rows, lanes and bars of a picture are
+    svg      shapes and texts
+    look     colours, letters and strokes
+    arrows   messages as arrows
+    legend   what the marks of a picture mean
     picture  a story as a picture
     command  the command lines of tools/tell-run and tools/draw-run
 

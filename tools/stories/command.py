@@ -15,8 +15,9 @@ def parser(name: str, document: str) -> argparse.ArgumentParser:
     """Words that name a script, and where its output comes from."""
     made = argparse.ArgumentParser(prog=f"tools/{name}", description=document, formatter_class=argparse.RawDescriptionHelpFormatter)
     made.add_argument("script", metavar="SCRIPT", help="lines for `coord run`")
-    made.add_argument("output", metavar="OUTPUT", nargs="?", help="what it printed; without it the rules in tools/rules say so")
-    made.add_argument("--program", metavar="PATH", help="runs PATH run over the script, and takes its output")
+    outputs = made.add_mutually_exclusive_group()
+    outputs.add_argument("output", metavar="OUTPUT", nargs="?", help="what it printed; without it the rules in tools/rules say so")
+    outputs.add_argument("--program", metavar="PATH", help="runs PATH run over the script, and takes its output")
     return made
 
 

@@ -3,25 +3,24 @@
 from __future__ import annotations
 
 import dataclasses
-from typing import List, Optional, Tuple
+from typing import List, Tuple
 
 from stories import events
-from stories.names import code_name, counted, fault_name, moment_text, shortened
-from stories.story import OUT, Standing, Step, Story
+from stories.names import KINDS, code_name, counted, fault_name, moment_text, shortened
+from stories.story import OUT, Person, Standing, Step, Story
 
 Part = Tuple[str, str]
 Label = List[Part]
 
 WORD, ERROR, MARK, GOOD, QUIET, TOLD = "word", "error", "mark", "good", "quiet", "told"
-# The longest text of a message, of a client and of the coordinator, in characters.
-LONGEST_MESSAGE, LONGEST_OWN, LONGEST_TOLD = 34, 26, 70
-KINDS = {"join": "join", "short": "heartbeat", "owned": "heartbeat", "full": "full heartbeat", "leave": "leaves", "away": "goes away"}
+# The longest text of a message, of a client, of the coordinator, and below a client's name, in characters.
+LONGEST_MESSAGE, LONGEST_OWN, LONGEST_TOLD, LONGEST_UNDER = 34, 26, 70, 12
 ENDS = {"leave": "left", "away": "away"}
 
 
 @dataclasses.dataclass
 class Row:
-    """The words in a row: at the message of a client, at the client's lane, on the lane, and at the coordinator."""
+    """The words in a row: at a client's message, at the client's lane, and at the coordinator."""
 
     client: int = -1
     message: Label = dataclasses.field(default_factory=list)
@@ -35,7 +34,7 @@ class Labels:
     def __init__(self, story: Story):
         self.story, self.topics = story, story.topics
 
-    def rows(self) -> List[Row]:
+    def rows(self) -> list[Row]:
         before = tuple(OUT for _ in self.story.people)
         rows = []
         for step in self.story.steps:
@@ -43,7 +42,7 @@ class Labels:
             before = step.standings
         return rows
 
-    def row(self, step: Step, before: Tuple[Standing, ...]) -> Row:
+    def row(self, step: Step, before: tuple[Standing, ...]) -> Row:
         event = step.event
         if isinstance(event, events.Sent):
             return Row(event.client, self.sent(event))
@@ -78,7 +77,7 @@ class Labels:
         shows = "unchanged" if reply.shows is None else self.topics.text(reply.shows) if reply.shows else "nothing"
         return [(shortened(f"epoch {reply.epoch}, {shows}", LONGEST_MESSAGE), WORD)]
 
-    def taken(self, event: events.Taken, step: Step, before: Tuple[Standing, ...]) -> Label:
+    def taken(self, event: events.Taken, step: Step, before: tuple[Standing, ...]) -> Label:
         now, then = step.standings[event.client], before[event.client]
         if event.ignored:
             return [("ignored", QUIET)]
@@ -100,7 +99,8 @@ class Labels:
     def told(self, event: events.Event) -> str:
         """What happens at the coordinator, without a message."""
         if isinstance(event, events.ImageSet):
-            return ", ".join(f"{self.topics.label(topic)}: {counted(count, 'partition')}" for topic, count in event.topics) or "no topics"
+            topics = [f"{self.topics.label(topic)}: {counted(count, 'partition')}" for topic, count in event.topics]
+            return ", ".join(topics) or "no topics"
         if isinstance(event, events.ClockSet):
             return moment_text(event.moment)
         if isinstance(event, events.Ticked):
@@ -114,7 +114,7 @@ def marked(mark: str, label: Label) -> Label:
     return [(f"{mark}:", MARK), *label] if mark and label else [(mark, MARK)] if mark else label
 
 
-def pill_of(now: Standing, before: Standing, event: Optional[events.Event]) -> str:
+def pill_of(now: Standing, before: Standing, event: events.Event) -> str:
     """What is written on a lane where its client's epoch changes, or its place in the group."""
     if now.state == "gone" and before.state != "gone":
         return ENDS.get(event.kind, "gone") if isinstance(event, events.Sent) else "gone"
@@ -123,3 +123,9 @@ def pill_of(now: Standing, before: Standing, event: Optional[events.Event]) -> s
     if now.state == "outside":
         return "outside" if before.state != "outside" else ""
     return f"epoch {now.epoch}" if now.epoch != before.epoch else ""
+
+
+def under_name(person: Person, groups: int) -> list[str]:
+    """What stands below a client's name."""
+    static = [f"static, {shortened(person.instance, LONGEST_UNDER)}"] if person.instance is not None else []
+    return static + ([f"group {shortened(person.group, LONGEST_UNDER)}"] if groups > 1 else [])

@@ -32,6 +32,8 @@ FAULTS = {
     5: "larger than a frame may be",
     6: "the group has forgotten its id",
 }
+# What a request of each kind is called.
+KINDS = {"join": "join", "short": "heartbeat", "owned": "heartbeat", "full": "full heartbeat", "leave": "leaves", "away": "goes away"}
 # From this many neighbours on, partitions are shown as a range.
 RANGE = 3
 

@@ -11,7 +11,7 @@ from rules.lines import BadLine, Lines, shown
 
 SECONDS = 600
 STATE = "outside|steady|releasing|gone"
-ENTRY = "[0-9a-f]{8}(?:-[0-9a-f]{4}){3}-[0-9a-f]{12}/[0-9]+"
+ENTRY = "[0-9a-f]{8}(?:-[0-9a-f]{4}){3}-[0-9a-f]{12}/[0-9]{1,10}"
 SET = f"null|-|{ENTRY}(?:,{ENTRY})*"
 NUMBER = "(-?[0-9]{1,20})"
 # What the lines of each kind print where they aren't refused.

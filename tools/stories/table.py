@@ -2,16 +2,16 @@
 
 from __future__ import annotations
 
+import itertools
 import sys
 from typing import Iterator
 
 from stories import events
-from stories.names import code_name, counted, fault_name, moment_text, shortened
+from stories.names import KINDS, code_name, counted, fault_name, moment_text, shortened
 from stories.story import Person, Step, Story
 
 # The longest cell of each column, in characters.
 LONGEST_LINE, LONGEST_OUTCOME, LONGEST_HOLDING = 40, 60, 30
-KINDS = {"join": "join", "short": "heartbeat", "owned": "heartbeat", "full": "full heartbeat", "leave": "leave", "away": "goes away"}
 
 
 class Tale:
@@ -68,7 +68,8 @@ class Tale:
         if isinstance(event, events.Committed):
             return f"{self.name(event.client)}: commit {event.commit}, {event.topic}/{event.index} at offset {event.offset}"
         if isinstance(event, events.ImageSet):
-            return ", ".join(f"{self.topics.label(topic)} has {counted(count, 'partition')}" for topic, count in event.topics) or "no topics"
+            topics = [f"{self.topics.label(topic)} has {counted(count, 'partition')}" for topic, count in event.topics]
+            return ", ".join(topics) or "no topics"
         if isinstance(event, events.ClockSet):
             return f"it is {moment_text(event.moment)}"
         if isinstance(event, events.Ticked):
@@ -96,7 +97,8 @@ def head(person: Person) -> str:
     static = f", static as {person.instance}" if person.instance is not None else ""
     assignor = f", assignor {person.assignor}" if person.assignor is not None else ""
     topics = shortened(", ".join(person.topics), LONGEST_OUTCOME) or "no topics"
-    return f"{shortened(person.name, LONGEST_HOLDING)}: group {shortened(person.group, LONGEST_HOLDING)}{static}{assignor}, subscribes {topics}"
+    name, group = shortened(person.name, LONGEST_HOLDING), shortened(person.group, LONGEST_HOLDING)
+    return f"{name}: group {group}{static}{assignor}, subscribes {topics}"
 
 
 def table(story: Story) -> Iterator[str]:
@@ -105,10 +107,25 @@ def table(story: Story) -> Iterator[str]:
     yield ""
     yield from part(story, range(1, sys.maxsize))
     yield ""
+    yield from doubles(story)
     for at, standing in enumerate(story.last):
         epoch = f" at epoch {standing.epoch}" if standing.epoch else ""
         holds = f", holds {story.topics.text(standing.holds)}" if standing.holds else ""
         yield f"{shortened(story.people[at].name, LONGEST_HOLDING)} is {standing.state}{epoch}, id {story.report[at].member}{holds}"
+
+
+def doubles(story: Story) -> Iterator[str]:
+    """Where two members of a group, neither of them removed, come to hold a partition. By the rules there is none."""
+    pairs = [it for it in itertools.combinations(range(len(story.people)), 2) if len({story.people[at].group for at in it}) == 1]
+    before: dict[tuple[int, ...], events.Partitions] = {}
+    for step in story.steps:
+        for pair in pairs:
+            one, other = (step.standings[at] for at in pair)
+            both = one.holds & other.holds if not (one.is_removed or other.is_removed) else frozenset()
+            if both - before.get(pair, frozenset()):
+                names = " and ".join(story.people[at].name for at in pair)
+                yield f"line {step.line}: {names} both hold {story.topics.text(both)}"
+            before[pair] = both
 
 
 def part(story: Story, lines: range) -> Iterator[str]:
@@ -132,10 +149,10 @@ def columns(rows: list[list[str]]) -> Iterator[str]:
 
 def numbers(story: Story, script: list[str]) -> Iterator[str]:
     """The script as it stands, and beside each line the numbers of the messages that are made in it."""
-    beside = {step.line: number_text(step.event, story) for step in story.steps}
-    width = max((len(line) for number, line in enumerate(script, 1) if beside.get(number)), default=0)
+    made = {step.line: number_text(step.event, story) for step in story.steps}
+    width = max((len(line) for number, line in enumerate(script, 1) if made.get(number)), default=0)
     for number, line in enumerate(script, 1):
-        yield f"{line.ljust(width)}  {beside.get(number, '')}".rstrip()
+        yield f"{line.ljust(width)}  {made[number]}" if made.get(number) else line
 
 
 def number_text(event: events.Event, story: Story) -> str:

@@ -1,3 +1,2 @@
-pub mod Partitions
 pub mod Rates
 pub mod Statuses

@@ -5,7 +5,7 @@ ghost use Rattle.std.specs.Prelude.{◌≤◌, length};
 use crate::command_line::Mode;
 use crate::fault::Fault;
 use crate::group::{Seat, Wish, seats_of, subs_of, view_of};
-use crate::print::{print_growth_of, print_work};
+use crate::print::print_work;
 use crate::table::head_line;
 use crate::work::Work;
 use range_assign::{Assignor, Range, Spread, Subs};
@@ -27,13 +27,6 @@ struct Assigned<'a, 'm, A> {
     view: &'a View,
 }
 
-/// A member's partitions are looked up. Gives how many it has.
-#[derive(Clone, Copy)]
-struct Looked<'a> {
-    spread: &'a Spread,
-    id: &'a str,
-}
-
 impl<A: Assignor + Copy> Work for Assigned<'_, '_, A> {
     ghost can_be_done = { λ _. Unit {0} };
 
@@ -42,14 +35,6 @@ impl<A: Assignor + Copy> Work for Assigned<'_, '_, A> {
             .assignor
             .assign(self.alloc, self.former, self.subs, self.view)?;
         Ok(owned_in(&spread, self.subs))
-    }
-}
-
-impl Work for Looked<'_> {
-    ghost can_be_done = { λ _. Unit {0} };
-
-    fn once(&self, _out: &mut Vec<u8>) -> Result<usize, Fault> {
-        Ok(owned_by(self.spread, self.id))
     }
 }
 
@@ -67,30 +52,16 @@ fn owned_in(spread: &Spread, subs: &Subs<'_>) -> usize {
     owned
 }
 
-/// Prints what the assignors do, or how long they take.
+/// Prints what the assignors do, or how long they take: over one topic, and over most of 100.
 pub fn print_assignors(rt: &(impl AllocGlobal + Clock + Print), mode: Mode) -> Result<(), Fault> {
     rt.println(head_line(rt.alloc(), mode, "assignor", "members", "partitions")?)?;
-    print_over_one(rt, mode)?;
-    print_over_many(rt, mode)
-}
-
-/// Prints the groups that subscribe one topic.
-fn print_over_one(rt: &(impl AllocGlobal + Clock + Print), mode: Mode) -> Result<(), Fault> {
-    let view = view_of(rt.alloc(), 1, 100_000)?;
+    let one = view_of(rt.alloc(), 1, 100_000)?;
     for members in SIZES {
-        print_one_topic(rt, mode, &view, members)?;
+        print_one_topic(rt, mode, &one, members)?;
     }
-    match mode {
-        Mode::Counts => Ok(()),
-        Mode::Times => print_growth(rt, &view),
-    }
-}
-
-/// Prints the groups that subscribe most of 100 topics.
-fn print_over_many(rt: &(impl AllocGlobal + Clock + Print), mode: Mode) -> Result<(), Fault> {
-    let view = view_of(rt.alloc(), 100, 1_000)?;
+    let many = view_of(rt.alloc(), 100, 1_000)?;
     for members in SIZES {
-        print_many_topics(rt, mode, &view, members)?;
+        print_many_topics(rt, mode, &many, members)?;
     }
     Ok(())
 }
@@ -135,31 +106,17 @@ fn print_changes(
 {
     let former = &spread_of(rt.alloc(), Uniform, setting, members)?;
     let setting = Setting { former, ..setting };
-    let fewer = members.saturating_sub(1);
-    print_assigned(
-        rt,
-        mode,
-        "uniform, 1 topic, the same members",
-        Uniform,
-        setting,
-        members,
-    )?;
-    print_assigned(
-        rt,
-        mode,
-        "uniform, 1 topic, a member more",
-        Uniform,
-        setting,
-        more,
-    )?;
-    print_assigned(
-        rt,
-        mode,
-        "uniform, 1 topic, a member fewer",
-        Uniform,
-        setting,
-        fewer,
-    )
+    for (name, members) in [
+        ("uniform, 1 topic, the same members", members),
+        ("uniform, 1 topic, a member more", more),
+        (
+            "uniform, 1 topic, a member fewer",
+            members.saturating_sub(1),
+        ),
+    ] {
+        print_assigned(rt, mode, name, Uniform, setting, members)?;
+    }
+    Ok(())
 }
 
 /// Prints a group of so many members, each of which subscribes three of four topics.
@@ -204,98 +161,12 @@ fn print_assigned<A: Assignor + Copy>(
     requires { members ≤ length setting.seats.now }
 {
     let subs = &subs_of(rt.alloc(), setting.seats, members)?;
-    let work = over(rt.alloc(), assignor, setting.former, subs, setting.view);
-    print_work(rt, mode, name, subs.members().len(), &work)
-}
-
-/// Prints how many times as long 1,000 members take as 10: for range, and to look up one member's partitions.
-fn print_growth(rt: &(impl AllocGlobal + Clock + Print), view: &View) -> Result<(), Fault> {
-    print_growth_of_range(rt, view)?;
-    print_growth_of_looking(rt, view)
-}
-
-fn print_growth_of_range(
-    rt: &(impl AllocGlobal + Clock + Print),
-    view: &View,
-) -> Result<(), Fault> {
-    let seats = seats_of(rt.alloc(), 1_000, 1, Wish::All)?;
-    print_growth_among(rt, view, &seats)
-}
-
-fn print_growth_among(
-    rt: &(impl AllocGlobal + Clock + Print),
-    view: &View,
-    seats: &[Seat],
-) -> Result<(), Fault>
-    requires { 1000 ≤ length seats.now }
-{
-    let few = subs_of(rt.alloc(), seats, 10)?;
-    let many = subs_of(rt.alloc(), seats, 1_000)?;
-    print_growth_between(rt, view, &few, &many)
-}
-
-fn print_growth_between(
-    rt: &(impl AllocGlobal + Clock + Print),
-    view: &View,
-    few: &Subs<'_>,
-    many: &Subs<'_>,
-) -> Result<(), Fault> {
-    let nothing = Spread::empty(rt.alloc());
-    print_growth_of(
-        rt,
-        "range, 1 topic, 1000 members against 10",
-        &over(rt.alloc(), Range, &nothing, few, view),
-        &over(rt.alloc(), Range, &nothing, many, view),
-    )
-}
-
-fn print_growth_of_looking(
-    rt: &(impl AllocGlobal + Clock + Print),
-    view: &View,
-) -> Result<(), Fault> {
-    let seats = seats_of(rt.alloc(), 1_000, 1, Wish::All)?;
-    let setting = Setting {
-        seats: seats.as_slice(),
-        view,
-        former: &Spread::empty(rt.alloc()),
-    };
-    print_growth_of_looking_in(rt, setting)
-}
-
-fn print_growth_of_looking_in(
-    rt: &(impl AllocGlobal + Clock + Print),
-    setting: Setting<'_>,
-) -> Result<(), Fault>
-    requires { 1000 ≤ length setting.seats.now }
-{
-    let few = spread_of(rt.alloc(), Range, setting, 10)?;
-    let many = spread_of(rt.alloc(), Range, setting, 1_000)?;
-    print_growth_of(
-        rt,
-        "a member's partitions, 1000 members against 10",
-        &looked_up(&few, &setting.seats[9]),
-        &looked_up(&many, &setting.seats[999]),
-    )
-}
-
-fn over<'a, 'm, A: Assignor + Copy>(
-    alloc: Global,
-    assignor: A,
-    former: &'a Spread,
-    subs: &'a Subs<'m>,
-    view: &'a View,
-) -> Assigned<'a, 'm, A> {
-    Assigned {
-        alloc,
+    let work = Assigned {
+        alloc: rt.alloc(),
         assignor,
-        former,
+        former: setting.former,
         subs,
-        view,
-    }
-}
-
-/// The look-up of a member's partitions.
-fn looked_up<'a>(spread: &'a Spread, seat: &'a Seat) -> Looked<'a> {
-    let id = seat.id();
-    Looked { spread, id }
+        view: setting.view,
+    };
+    print_work(rt, mode, name, subs.members().len(), &work)
 }

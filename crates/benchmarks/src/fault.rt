@@ -1,19 +1,18 @@
 //! Why a run ends before its end.
 ghost use Rattle.std.specs.Prelude.{◌≡◌};
-ghost use Rattle.benchmarks.specs.declared.fault.Fault.TheVariants.{NoMemory, Unread, NoImage, NoAct, Io};
+ghost use Rattle.benchmarks.specs.declared.fault.Fault.TheVariants.{NoMemory, Unread, NoImage, Io};
 
 use kip_msgs::MsgFault;
 use std::alloc::{AllocError, AllocFailed};
 use std::io;
 use thiserror::Error;
 use topic_meta::ImageFault;
-use world_sim::WorldFault;
 
 /// Why a run ends before its end. The text is one line.
 #[derive(Debug, Drop, Error)]
 pub enum Fault {
     /// The command line is none that the program knows.
-    #[error("usage: benchmarks [times [PART] | spreads SEED INPUTS]")]
+    #[error("usage: benchmarks [times [messages | assignors | heartbeats]]")]
     CommandLine,
     #[error("out of memory")]
     NoMemory,
@@ -23,9 +22,6 @@ pub enum Fault {
     /// The measured topics make no image.
     #[error("making an image: {0}")]
     NoImage(ImageFault),
-    /// The measured world refuses an act.
-    #[error("an act of a world: {0}")]
-    NoAct(WorldFault),
     #[error("two measured members have one id")]
     OneId,
     /// A work that was done again gave something else.
@@ -47,7 +43,6 @@ impl Fault {
             Fault::NoMemory
             | Fault::Unread(_)
             | Fault::NoImage(_)
-            | Fault::NoAct(_)
             | Fault::OneId
             | Fault::Unsteady
             | Fault::Io(_) => 1,
@@ -84,14 +79,6 @@ impl From<ImageFault> for Fault {
 
     fn from(fault: ImageFault) -> Fault {
         Fault::NoImage(fault)
-    }
-}
-
-impl From<WorldFault> for Fault {
-    ghost from_gives = { λ refused fault. fault ≡ NoAct refused };
-
-    fn from(fault: WorldFault) -> Fault {
-        Fault::NoAct(fault)
     }
 }
 

@@ -38,13 +38,6 @@ pub struct Seat {
     names: NameSet,
 }
 
-impl Seat {
-    /// The member's id.
-    pub fn id(&self) -> &str {
-        self.id.as_str()
-    }
-}
-
 /// The topic's name.
 fn topic_name(alloc: Global, topic: u16) -> Result<String, AllocError> {
     format!(in alloc; "topic-{topic:05}")
@@ -59,14 +52,6 @@ pub fn image_of(alloc: Global, topics: u16, partitions: i32) -> Result<Image, Fa
     Ok(Image::of(alloc, list)?)
 }
 
-/// Two topics, which have so many partitions.
-pub fn image_of_two(alloc: Global, first: i32, second: i32) -> Result<Image, Fault> {
-    let mut list = Vec::new(alloc);
-    list.push(topic_of(alloc, 0, first)?)?;
-    list.push(topic_of(alloc, 1, second)?)?;
-    Ok(Image::of(alloc, list)?)
-}
-
 fn topic_of(alloc: Global, topic: u16, partitions: i32) -> Result<TopicEntry, AllocError> {
     Ok(TopicEntry {
         name: topic_name(alloc, topic)?,
@@ -76,12 +61,7 @@ fn topic_of(alloc: Global, topic: u16, partitions: i32) -> Result<TopicEntry, Al
 }
 
 /// The names of those of so many topics that a member subscribes.
-pub fn names_of(
-    alloc: Global,
-    topics: u16,
-    wish: Wish,
-    member: u16,
-) -> Result<NameSet, AllocError> {
+fn names_of(alloc: Global, topics: u16, wish: Wish, member: u16) -> Result<NameSet, AllocError> {
     let mut names = NameSet::new(alloc);
     for topic in 0..topics {
         if wish.takes(member, topic) {

@@ -1,38 +1,24 @@
-//! The program `benchmarks`: what the coordinator's parts cost.
+//! The program `benchmarks`: what the coordinator's parts cost, where the program `coord` can't show it from outside.
 //!
 //! Without an argument it prints what each measured work is over and gives, which is the same on every machine. With
-//! `times` it prints how long each measured work takes, with `times PART` that of one part alone, and with `spreads SEED INPUTS` so many random small groups and the
-//! owners of their partitions, by the assignor and by its plain rule ([`print_spreads`](spreads::print_spreads)). What is measured is a
-//! [`Work`](work::Work), or a [`Course`](course::Course) where it changes what it is done to, and how is [`pace_of`](timing::pace_of) or
-//! [`pace_of_course`](course::pace_of_course). Each [`Part`](command_line::Part) of the coordinator has a file of its works, which prints
-//! their lines. With the counts, [`print_samples`](samples::print_samples) shows what times look like.
+//! `times` it prints how long each takes, and with `times PART` that of one part alone. What is measured is a
+//! [`Work`](work::Work), and how is [`pace_of`](timing::pace_of). Each [`Part`](command_line::Part) has a file of its works.
 #![tactic(auto)]
 
 mod assignors;
-mod bodies;
+mod beats;
 mod command_line;
-mod commits;
-mod course;
 mod dice;
 mod fault;
 mod group;
 mod heartbeats;
-mod joins;
-mod measured;
-mod messages;
 mod pace;
-mod partitions;
-mod plain;
 mod print;
-mod samples;
-mod spreads;
+mod settled;
 mod table;
-mod ticks;
 mod timing;
-mod topics;
 mod wire;
 mod work;
-mod worlds;
 
 use command_line::{Mode, Part, Task};
 use fault::Fault;
@@ -50,38 +36,15 @@ fn main(rt: HostRuntime) -> ExitCode {
     }
 }
 
-/// The parts, in the order in which they are printed.
-const PARTS: [Part; 8] = [
-    Part::Messages,
-    Part::Assignors,
-    Part::Images,
-    Part::Heartbeats,
-    Part::Joins,
-    Part::Ticks,
-    Part::Commits,
-    Part::Worlds,
-];
-
 /// Prints what the command line asks for.
 fn run(rt: &(impl AllocGlobal + Clock + Env + Print + RandomSource)) -> Result<(), Fault> {
     match command_line::read(rt)? {
-        Task::Measure(mode) => measure(rt, mode),
+        Task::All(mode) => {
+            print_part(rt, mode, Part::Messages)?;
+            print_part(rt, mode, Part::Assignors)?;
+            print_part(rt, mode, Part::Heartbeats)
+        }
         Task::Time(part) => print_part(rt, Mode::Times, part),
-        Task::Spreads { seed, inputs } => spreads::print_spreads(rt, seed, inputs),
-    }
-}
-
-/// Prints what is measured.
-fn measure(
-    rt: &(impl AllocGlobal + Clock + Print + RandomSource),
-    mode: Mode,
-) -> Result<(), Fault> {
-    for part in PARTS {
-        print_part(rt, mode, part)?;
-    }
-    match mode {
-        Mode::Counts => samples::print_samples(rt),
-        Mode::Times => Ok(()),
     }
 }
 
@@ -94,11 +57,6 @@ fn print_part(
     match part {
         Part::Messages => wire::print_messages(rt, mode),
         Part::Assignors => assignors::print_assignors(rt, mode),
-        Part::Images => topics::print_topics(rt, mode),
         Part::Heartbeats => heartbeats::print_heartbeats(rt, mode),
-        Part::Joins => joins::print_joins(rt, mode),
-        Part::Ticks => ticks::print_ticks(rt, mode),
-        Part::Commits => commits::print_commits(rt, mode),
-        Part::Worlds => worlds::print_worlds(rt, mode),
     }
 }

@@ -13,8 +13,8 @@ pub fn head_line(
     given: &str,
 ) -> Result<String, AllocError> {
     match mode {
-        Mode::Counts => format!(in alloc; "{name:<40}{size:>8}{given:>12}"),
-        Mode::Times => format!(in alloc; "{name:<48}{size:>8}{:>14}{:>14}", "ns each", "a second"),
+        Mode::Counts => format!(in alloc; "{name:<44}{size:>8}{given:>12}"),
+        Mode::Times => format!(in alloc; "{name:<44}{size:>8}{:>14}{:>14}", "ns each", "a second"),
     }
 }
 
@@ -25,31 +25,13 @@ pub fn counts_line(
     size: usize,
     given: usize,
 ) -> Result<String, AllocError> {
-    format!(in alloc; "{name:<40}{size:>8}{given:>12}")
+    format!(in alloc; "{name:<44}{size:>8}{given:>12}")
 }
 
 /// How fast something is done with what has this size.
-pub fn pace_line(
-    alloc: Global,
-    name: &str,
-    act: &str,
-    size: usize,
-    pace: Pace,
-) -> Result<String, AllocError> {
+pub fn pace_line(alloc: Global, name: &str, size: usize, pace: Pace) -> Result<String, AllocError> {
     let tenths = pace.tenths_of_nanosecond();
     let (whole, tenth) = (tenths / 10, tenths % 10);
     let per_second = pace.per_second();
-    format!(in alloc; "{name:<40}{act:<8}{size:>8}{whole:>12}.{tenth}{per_second:>14}")
-}
-
-/// How many times as long one pace is as another.
-pub fn ratio_line(
-    alloc: Global,
-    name: &str,
-    long: Pace,
-    short: Pace,
-) -> Result<String, AllocError> {
-    let tenths = long.tenths_of_ratio(short);
-    let (whole, tenth) = (tenths / 10, tenths % 10);
-    format!(in alloc; "{name:<56}{whole:>12}.{tenth} times")
+    format!(in alloc; "{name:<44}{size:>8}{whole:>12}.{tenth}{per_second:>14}")
 }

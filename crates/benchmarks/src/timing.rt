@@ -8,10 +8,8 @@ use std::time::Instant;
 
 /// How long a batch lasts at least, in nanoseconds: a tenth of a second.
 const LONG_BATCH: u64 = 100_000_000;
-
 /// How many batches of that length are timed, of which the fastest counts.
 const BATCHES: u32 = 5;
-
 /// The most times that a batch is doubled.
 const MOST_DOUBLINGS: u32 = 40;
 

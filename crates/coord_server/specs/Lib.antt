@@ -1,3 +1,7 @@
 pub mod Desks
-pub mod Connections
+pub mod Ends
+pub mod Interrupted
+pub mod Plans
+pub mod Posts
 pub mod Rounds
+pub mod Ticks

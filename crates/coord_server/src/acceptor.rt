@@ -1,106 +1,136 @@
 //! Who numbers the connections.
-ghost use Rattle.std.specs.Prelude.{◌≡◌, ◌+◌, ◌%◌, ◌<◌, ◌≤◌, vec_len};
-ghost use Rattle.link_futures.specs.Steps.{IsNewLine};
+ghost use Rattle.std.specs.Prelude.{◌≡◌, ◌+◌, ◌<◌, ◌≤◌, vec_len, IfOk, OnOk};
+ghost use Rattle.coord_server.specs.Posts.{ArePosts};
 
-use crate::arrivals::Arrivals;
-use futures::Future;
-use futures::channel::mpsc::UnboundedSender;
-use futures::task::{Context, Poll};
-use link_futures::{Line, ReadPart, WriteParts};
-use std::alloc::Global;
-use std::sync::atomic::{AtomicU64, Ordering};
+use crate::bell::Bell;
+use crate::entrance::{Accepted, Entrance, Incoming, Watch};
+use crate::fault::ServerFault;
+use crate::handed::{Handed, Post};
+use std::sync::Wait;
+use std::time::Duration;
 
-/// The number of the worker that a connection goes to, of so many workers.
-pub fn worker_of(connection: u64, workers: usize) -> usize
-    requires { 0 < workers }
-    ensures worker { result ≡ connection % workers }
-    ensures there { result < workers }
-{
-    (connection % workers as u64) as usize
-}
-
-/// Numbers the connections from 1, and hands the line of connection `k`, of `n` workers, to the worker with number `k` modulo `n`.
-///
-/// It ends after so many connections, or once no more come. Where memory is short for a line, its connection is closed.
+/// Numbers the connections from 1, and hands connection `k`, of `n` workers, to the worker with number `k` modulo `n`.
 #[derive(Drop)]
-pub struct Acceptor<'a, S, I: Drop, O: Drop> {
-    connections: S,
-    workers: Vec<UnboundedSender<Line<I, O>>>,
+pub struct Acceptor<'a, S, K: Drop> {
+    entrance: Entrance<S>,
+    posts: Vec<Post<K>>,
     /// How many connections have come.
     accepted: u64,
     /// How many may come.
     most: u64,
-    /// Where the number is told that have come.
-    told: &'a AtomicU64,
-    alloc: Global,
-    ghost some: { 0 < vec_len workers },
+    bell: &'a Bell,
+    ghost some: { 0 < vec_len posts },
     ghost few: { accepted ≤ most },
+    ghost placed: { ArePosts (vec_len posts) posts.items },
 }
 
-impl<'a, S: Arrivals<I, O>, I: ReadPart, O: WriteParts> Acceptor<'a, S, I, O> {
-    /// An acceptor before the first connection.
+impl<'a, S: Incoming<K>, K: Drop> Acceptor<'a, S, K> {
+    /// An acceptor before the first connection, whose bell is that of its entrance.
     pub fn new(
-        alloc: Global,
-        connections: S,
-        workers: Vec<UnboundedSender<Line<I, O>>>,
+        entrance: Entrance<S>,
+        posts: Vec<Post<K>>,
         most: u64,
-        told: &'a AtomicU64,
-    ) -> Acceptor<'a, S, I, O>
-        requires { 0 < vec_len workers }
-        ensures { (result.connections ≡ connections) × (result.accepted ≡ 0) × (result.most ≡ most) }
+        bell: &'a Bell,
+    ) -> Acceptor<'a, S, K>
+        requires some { 0 < vec_len posts }
+        requires placed { ArePosts (vec_len posts) posts.items }
+        ensures { (result.posts ≡ posts) × (result.accepted ≡ 0) × (result.most ≡ most) }
     {
         Acceptor {
-            connections,
-            workers,
+            entrance,
+            posts,
             accepted: 0,
             most,
-            told,
-            alloc,
+            bell,
         }
     }
 
-    /// The line of the next connection, whose number is one above the last, and the number of its worker.
-    fn line_of(&mut self, reader: I, writer: O) -> (usize, Line<I, O>)
-        requires { self.old.accepted < self.old.most }
-        ensures line { IsNewLine result.1 (self.old.accepted + 1) reader writer }
-        ensures worker { result.0 ≡ (self.old.accepted + 1) % vec_len self.old.workers }
-        ensures counted { self.new.accepted ≡ self.old.accepted + 1 }
-        ensures others { (self.new.connections ≡ self.old.connections) × (self.new.workers ≡ self.old.workers) × (self.new.most ≡ self.old.most) }
+    /// Takes so many connections, and then no more: the workers hear of it. Waits until they all have ended. Gives how many it took.
+    ///
+    /// It stops, with a fault, where a thread has ended with a fault, and where the system refuses to wait.
+    pub fn run<R: Wait>(self, rt: &R) -> Result<u64, ServerFault>
+        ensures { IfOk result (λ accepted. accepted ≡ self.entry.most) }
     {
-        self.accepted += 1;
-        let line = Line::new(self.alloc, self.accepted, reader, writer);
-        (worker_of(self.accepted, self.workers.len()), line)
+        let mut acceptor = self;
+        acceptor.accept_all(rt)?;
+        let Acceptor {
+            entrance,
+            posts,
+            accepted,
+            most: _,
+            bell,
+        } = acceptor;
+        let Entrance { watch, incoming } = entrance;
+        let workers = posts.len();
+        drop(incoming);
+        drop(posts);
+        wait_for_workers(rt, watch, bell, workers)?;
+        Ok(accepted)
     }
 
-    /// Hands the line of the next connection to its worker.
-    fn hand_out(&mut self, reader: I, writer: O)
+    /// Takes connections until so many have come.
+    fn accept_all<R: Wait>(&mut self, rt: &R) -> Result<(), ServerFault>
+        ensures all { OnOk result (self.new.accepted ≡ self.old.most) }
+        ensures most { self.new.most ≡ self.old.most }
+    {
+        for _ in rt.forever() {
+            let wait = self.take_all(rt);
+            if self.accepted >= self.most {
+                return Ok(());
+            }
+            if self.bell.has_failed() {
+                return Err(ServerFault::Stopped);
+            }
+            self.entrance.watch.wait(wait)?;
+        }
+        unreachable!()
+    }
+
+    /// Takes the connections that wait, up to the last one that may come. Says for how long to wait for the next.
+    fn take_all<R: Wait>(&mut self, rt: &R) -> Option<Duration>
+        ensures { self.new.most ≡ self.old.most }
+    {
+        for _ in rt.forever() {
+            if self.accepted >= self.most || self.bell.has_failed() {
+                return None;
+            }
+            match self.entrance.accept() {
+                Accepted::One(connection) => self.hand_out(connection),
+                Accepted::Again => {}
+                other => return other.wait(),
+            }
+        }
+        unreachable!()
+    }
+
+    /// Hands the next connection, whose number is one above the last, to its worker.
+    fn hand_out(&mut self, connection: K)
         requires { self.old.accepted < self.old.most }
         ensures counted { self.new.accepted ≡ self.old.accepted + 1 }
-        ensures others { (self.new.connections ≡ self.old.connections) × (self.new.workers ≡ self.old.workers) × (self.new.most ≡ self.old.most) }
+        ensures others { (self.new.posts ≡ self.old.posts) × (self.new.most ≡ self.old.most) }
     {
-        let (worker, line) = self.line_of(reader, writer);
-        self.told.store(self.accepted, Ordering::SeqCst);
-        let _ = self.workers[worker].unbounded_send(line);
+        self.accepted += 1;
+        let handed = Handed::new(connection, self.accepted, self.posts.len());
+        self.posts[handed.worker].send(handed);
     }
 }
 
-impl<'a, S: Arrivals<I, O>, I: ReadPart, O: WriteParts> Future for Acceptor<'a, S, I, O> {
-    type Output = ();
-
-    ghost needs = { λ a. S.needs a.connections };
-
-    /// Looks once for a connection.
-    fn poll(&mut self, cx: &mut Context<'_>) -> Poll<()> {
-        if self.accepted >= self.most {
-            return Poll::Ready(());
+/// Waits until so many workers have ended.
+fn wait_for_workers<R: Wait>(
+    rt: &R,
+    watch: Watch,
+    bell: &Bell,
+    workers: usize,
+) -> Result<(), ServerFault> {
+    let mut watch = watch;
+    for _ in rt.forever() {
+        if bell.has_failed() {
+            return Err(ServerFault::Stopped);
         }
-        match self.connections.poll_arrival(cx) {
-            Poll::Ready(Some((reader, writer))) => {
-                self.hand_out(reader, writer);
-                cx.yield_now()
-            }
-            Poll::Ready(None) => Poll::Ready(()),
-            Poll::Pending => Poll::Pending,
+        if bell.ended() >= workers as u64 {
+            return Ok(());
         }
+        watch.wait(None)?;
     }
+    unreachable!()
 }

@@ -1,11 +1,12 @@
 //! The moments of a clock.
-ghost use Rattle.std.specs.Prelude.{◌≡◌, ◌≤◌, IfOk};
+ghost use Rattle.std.specs.Prelude.{◌≡◌, ◌-◌, ◌/◌, ◌^◌, ◌≤◌, min, IfOk};
+ghost use Rattle.std.specs.Duration.{as_nanos};
 
 use coord_shards::Moment;
 use link_futures::Moments;
 use std::alloc::AllocError;
 use std::io;
-use std::time::{Clock, Instant, SystemTime, UNIX_EPOCH};
+use std::time::{Clock, Duration, Instant, SystemTime, UNIX_EPOCH};
 
 /// The moments of a clock: milliseconds since the Unix epoch. The first one is read from the system's time, and the later ones
 /// go on from it by a clock that isn't set. They never fall. Where the clock can't be read, the last moment is given again.
@@ -25,7 +26,7 @@ impl<'a, R: Clock> ClockMoments<'a, R> {
         let began = Instant::now(clock)?;
         let now = SystemTime::now(clock)?;
         let first = match now.duration_since(UNIX_EPOCH) {
-            Ok(since) => moment_of(since.as_millis()),
+            Ok(since) => moment_of(since),
             Err(_) => Moment::of_millis(0),
         };
         Ok(ClockMoments {
@@ -63,14 +64,16 @@ impl<'a, R: Clock> Moments for ClockMoments<'a, R> {
 
     fn now(&mut self) -> Moment {
         if let Ok(elapsed) = self.began.elapsed(self.clock) {
-            let present = self.first.plus(moment_of(elapsed.as_millis()).millis());
+            let present = self.first.plus(moment_of(elapsed).millis());
             self.last = self.last.later(present);
         }
         self.last
     }
 }
 
-/// So many milliseconds as a moment, or the greatest moment.
-fn moment_of(millis: u128) -> Moment {
-    Moment::of_millis(u64::try_from(millis).unwrap_or(u64::MAX))
+/// The moment of so long a time after moment 0, in whole milliseconds, or the greatest moment where that is past it.
+fn moment_of(time: Duration) -> Moment
+    ensures { result ≡ min (as_nanos time / 1_000_000) (2 ^ 64 - 1) }
+{
+    Moment::of_millis(u64::try_from(time.as_millis()).unwrap_or(u64::MAX))
 }

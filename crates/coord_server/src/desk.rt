@@ -56,18 +56,8 @@ impl<'a, A: Ledger, C: Ledger, G: Gate, M: Moments, R: Wait> ShardsDesk<'a, A, C
         self.shards.call(self.rt, self.alloc, &mut self.seat, event)
     }
 
-    /// Lets the time of each shard go on to the present moment. A shard that refuses, for want of memory, goes on at a later tick.
-    pub fn tick_all(&mut self)
-        ensures ticks { (moment : ℕ) × M.hands self.old.moments moment self.new.moments
-            × CallsEach self.old.shards.now (λ shard. Event.Tick shard moment) self.old.shards.now.shards self.old.seat self.new.seat }
-        ensures others { self.new ≡ record self.old { seat = self.new.seat; moments = self.new.moments } }
-    {
-        let moment = self.moments.now();
-        self.tick_each(moment);
-    }
-
-    /// Lets the time of each shard go on to a moment, where the shard doesn't refuse.
-    fn tick_each(&mut self, moment: Moment)
+    /// Lets the time of each shard go on to a moment. A shard that refuses, for want of memory, goes on at a later tick.
+    pub fn tick_each(&mut self, moment: Moment)
         ensures ticks { CallsEach self.old.shards.now (λ shard. Event.Tick shard moment) self.old.shards.now.shards self.old.seat self.new.seat }
         ensures others { self.new ≡ record self.old { seat = self.new.seat } }
     {
@@ -140,12 +130,17 @@ impl<'a, A: Ledger, C: Ledger, G: Gate, M: Moments, R: Wait> Timed
     for ShardsDesk<'a, A, C, G, M, R> {
     ghost use Rattle.coord_shards.specs.declared.event.Event.TheVariants.{Tick};
 
-    ghost ticks = { λ d e. ((moment : ℕ) × M.hands d.moments moment e.moments
-        × CallsEach d.shards.now (λ shard. Tick shard moment) d.shards.now.shards d.seat e.seat)
-        × (e ≡ record d { seat = e.seat; moments = e.moments }) };
+    ghost hands = { λ d moment e. M.hands d.moments moment e.moments × (e ≡ record d { moments = e.moments }) };
+
+    ghost ticks = { λ d moment e. CallsEach d.shards.now (λ shard. Tick shard moment) d.shards.now.shards d.seat e.seat
+        × (e ≡ record d { seat = e.seat }) };
+
+    fn moment(&mut self) -> Moment {
+        self.moments.now()
+    }
 
     /// Ticks every shard.
-    fn tick(&mut self) {
-        self.tick_all();
+    fn tick(&mut self, moment: Moment) {
+        self.tick_each(moment);
     }
 }

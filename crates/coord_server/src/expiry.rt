@@ -1,54 +1,108 @@
 //! Who lets the time of the shards go on.
-ghost use Rattle.std.specs.Prelude.{◌≡◌, ◌⊎◌};
-ghost use Rattle.futures.specs.Channel.{unbounded_readable_source};
-ghost use Rattle.tokio.specs.Timers.{sleep_source, interval_delay};
+ghost use Rattle.std.specs.Prelude.{◌≡◌, ◌⊎◌, ◌+◌, ◌<◌, ◌≤◌, ◌↔◌, ◌*◌, IsTrue, IfOk, IsErr};
+ghost use Rattle.std.specs.Duration.{as_nanos};
+ghost use Rattle.futures.specs.Task.{Covers, Keeps};
+ghost use Rattle.futures.specs.Poll.{IfReady, OnPending};
+ghost use Rattle.tokio.specs.Timers.{sleep_source, interval_delay, interval_period, missed_tick_behavior as behavior_of};
 
+use crate::fault::ServerFault;
 use crate::timed::Timed;
-use futures::channel::mpsc::UnboundedReceiver;
+use coord_shards::Moment;
+use futures::Future;
 use futures::task::{Context, Poll};
-use futures::{Future, Stream};
-use tokio::time::Interval;
+use std::io;
+use std::time::{Clock, Duration};
+use tokio::time::{Handle, Interval, MissedTickBehavior};
 
-/// Ticks every shard of a desk at each instant of an interval, until no worker is left: each holds a sender of the channel whose end
-/// it hears.
+/// After how many milliseconds the time of the shards goes on.
+const TICK: u64 = 500;
+
+/// After so many milliseconds without a round the process was paused, and what waits for it goes first.
+const LONGEST_ROUND: u64 = 5_000;
+
+/// Lets the time of a desk's shards go on in rounds, one at each instant of an interval. The round after a pause, as where the
+/// process was stopped or the machine suspended, lets it stand: the frames that wait are to be answered before members are taken
+/// for silent.
 #[derive(Drop)]
 pub struct Expiry<D> {
     desk: D,
     ticks: Interval,
-    workers: UnboundedReceiver<()>,
+    /// The moment of the last round, or of the start.
+    last: Moment,
+}
+
+/// The instants of rounds: the first at once, and each 500 ms after the last one was seen.
+pub fn ticks_of(clock: &impl Clock, timers: &Handle) -> io::Result<Interval>
+    ensures period { IfOk result (λ ticks. as_nanos (interval_period ticks) ≡ 500 * 1_000_000) }
+    ensures delays { IfOk result (λ ticks. behavior_of ticks ≡ MissedTickBehavior.Delay) }
+{
+    let mut ticks = timers.interval(clock, Duration::from_millis(TICK))?;
+    ticks.set_missed_tick_behavior(MissedTickBehavior::Delay);
+    Ok(ticks)
+}
+
+/// Whether more than 5 s lie between the moments of two rounds.
+fn was_paused(last: Moment, moment: Moment) -> bool
+    ensures { IsTrue result ↔ (last + 5_000 < moment) }
+{
+    moment.millis().saturating_sub(last.millis()) > LONGEST_ROUND
 }
 
 impl<D: Timed> Expiry<D> {
-    /// An expiry worker before its first tick.
-    pub fn new(desk: D, ticks: Interval, workers: UnboundedReceiver<()>) -> Expiry<D>
-        ensures { (result.desk ≡ desk) × (result.ticks ≡ ticks) × (result.workers ≡ workers) }
+    ghost use Rattle.coord_server.specs.Ticks.{IsRound, Began};
+
+    /// An expiry worker before its first round.
+    pub fn new(desk: D, ticks: Interval) -> Expiry<D>
+        ensures ticks { result.ticks ≡ ticks }
+        ensures began { D.hands desk result.last result.desk }
     {
-        Expiry {
-            desk,
-            ticks,
-            workers,
+        let mut desk = desk;
+        let last = desk.moment();
+        Expiry { desk, ticks, last }
+    }
+
+    /// A round: the time of the shards goes on to the present moment, unless there was a pause.
+    fn go_round(&mut self)
+        ensures round { IsRound D.hands D.ticks self.old.desk self.old.last self.new.desk self.new.last }
+        ensures others { self.new.ticks ≡ self.old.ticks }
+    {
+        let moment = self.desk.moment();
+        let paused = was_paused(self.last, moment);
+        self.last = moment;
+        if !paused {
+            self.desk.tick(moment);
         }
     }
 }
 
 impl<D: Timed> Future for Expiry<D> {
-    type Output = ();
+    ghost use Rattle.coord_server.specs.Ticks.{IsRound};
+    ghost use Rattle.std.specs.Prelude.{Err, ⊤};
 
-    ghost needs = { λ e source. (source ≡ unbounded_readable_source e.workers) ⊎ (source ≡ sleep_source (interval_delay e.ticks)) };
+    type Output = Result<u64, ServerFault>;
 
-    /// Ticks every shard where an instant of the interval has passed.
-    fn poll(&mut self, cx: &mut Context<'_>) -> Poll<()> {
-        match self.workers.poll_next(cx) {
-            Poll::Ready(Some(())) => return cx.yield_now(),
-            Poll::Ready(None) => return Poll::Ready(()),
-            Poll::Pending => {}
-        }
+    ghost needs = { λ e source. source ≡ sleep_source (interval_delay e.ticks) };
+
+    ghost gives = { λ _ r. IsErr r };
+
+    /// Goes round where an instant of the interval has passed. It ends only where its timer fails.
+    fn poll(&mut self, cx: &mut Context<'_>) -> Poll<Result<u64, ServerFault>>
+        // Where it took an instant of the interval, it went round; else nothing has changed.
+        ensures rounds { OnPending result (
+            IsRound D.hands D.ticks self.old.desk self.old.last self.new.desk self.new.last
+            ⊎ (self.new ≡ record self.old { ticks = self.new.ticks }) × (interval_delay self.new.ticks ≡ interval_delay self.old.ticks)) }
+        ensures value { IfReady result IsErr }
+        ensures again { OnPending result ⊤ }
+        ensures same { OnPending result ((r : _) → IsErr r → IsErr r) }
+        ensures registered { OnPending result (Covers cx.new (λ source. source ≡ sleep_source (interval_delay self.new.ticks))) }
+        ensures kept { Keeps cx.old cx.new }
+    {
         match self.ticks.poll_tick(cx) {
             Poll::Ready(Ok(_)) => {
-                self.desk.tick();
+                self.go_round();
                 cx.yield_now()
             }
-            Poll::Ready(Err(_)) => Poll::Ready(()),
+            Poll::Ready(Err(error)) => Poll::Ready(Err(ServerFault::Timer(error))),
             Poll::Pending => Poll::Pending,
         }
     }

@@ -4,6 +4,7 @@ use coord_shards::ShardFault;
 use std::alloc::{AllocError, AllocFailed};
 use std::io;
 use thiserror::Error;
+use tokio::time::error::Error as TimerError;
 
 /// Why a server didn't run to its end.
 #[derive(Debug, Drop, Error)]
@@ -11,9 +12,27 @@ pub enum ServerFault {
     /// The shards gave out no seat to a worker.
     #[error("{0}")]
     Shards(ShardFault),
-    /// The system refused something.
+    /// The system refused something, before the first connection.
     #[error("{0}")]
     System(io::Error),
+    /// The system made no thread.
+    #[error("no thread can be made")]
+    NoThread,
+    /// It couldn't be announced that the threads are there.
+    #[error("announcing that it listens: {0}")]
+    Announce(io::Error),
+    /// The system refused to wait for connections.
+    #[error("waiting for connections: {0}")]
+    Incoming(io::Error),
+    /// The event loop of a worker failed.
+    #[error("the event loop of a worker: {0}")]
+    Loop(io::Error),
+    /// The expiry worker's timer failed.
+    #[error("the timer of the expiry worker: {0}")]
+    Timer(TimerError),
+    /// A worker has ended before its connections have.
+    #[error("a worker has ended before its connections")]
+    Stopped,
     /// No memory was left.
     #[error("out of memory")]
     NoMemory,

@@ -1,32 +1,47 @@
 //! The server: connections over sockets, or over anything else that is read and written, whose frames shards answer.
 //!
 //! An acceptor numbers the connections and hands them to the workers in turn; a worker gives each of its lines its turns,
-//! over a desk that calls the shards from a seat of its own; an expiry worker lets the time of the shards go on. Start from
-//! [`serve`], and from [`serve_sockets`] for a listening socket.
+//! over a desk that calls the shards from a seat of its own; an expiry worker lets the time of the shards go on. Each worker has
+//! a thread and an event loop of its own, and the acceptor has the calling thread. Start from [`serve`], and from
+//! [`serve_sockets`] for a listening socket.
 #![tactic(auto)]
 
 mod acceptor;
 mod arrivals;
+mod bell;
 mod clock;
-mod connections;
+mod connection;
 mod desk;
+mod entrance;
 mod expiry;
 mod fault;
-mod job;
+mod handed;
+mod listener;
+mod own_loop;
 mod plan;
+mod retried;
 mod server;
+mod threads;
 mod timed;
+mod works;
 
-pub use acceptor::{Acceptor, worker_of};
+pub use acceptor::Acceptor;
 pub use arrivals::Arrivals;
+pub use bell::Bell;
 pub use clock::ClockMoments;
-pub use connections::Connections;
+pub use connection::Connection;
 pub use coord_shards::{AlwaysOpen, Gate, Image, Moment, Shards, Stamp};
 pub use desk::ShardsDesk;
+pub use entrance::{Accepted, Entrance, Incoming, Watch};
 pub use expiry::Expiry;
 pub use fault::ServerFault;
-pub use job::{Job, Works};
+pub use handed::{Handed, Post, worker_of};
 pub use link_futures::Moments;
+pub use listener::Listener;
+pub use mio::{Registry, Token};
+pub use own_loop::OwnLoop;
 pub use plan::Plan;
+pub use retried::Retried;
 pub use server::{serve, serve_sockets};
 pub use timed::Timed;
+pub use works::Works;

@@ -1,4 +1,6 @@
 //! How large a server is, and when it ends.
+ghost use Rattle.std.specs.Prelude.{◌≡◌};
+ghost use Rattle.coord_server.specs.Plans.{clock_count};
 
 /// How large a server is, and when it ends.
 #[derive(Clone, Copy, Debug)]
@@ -9,4 +11,13 @@ pub struct Plan {
     pub connections: u64,
     /// Whether an expiry worker runs.
     pub expires: bool,
+}
+
+impl Plan {
+    /// How many expiry workers run.
+    pub fn clocks(self) -> usize
+        ensures { result ≡ clock_count self.expires }
+    {
+        if self.expires { 1 } else { 0 }
+    }
 }

@@ -1,40 +1,47 @@
 //! A server from its start to its end.
-ghost use Rattle.std.specs.Prelude.{◌≡◌, ◌<◌, vec_len, IfOk};
+ghost use Rattle.std.specs.Prelude.{◌≡◌, ◌+◌, ◌<◌, vec_len, All, IfOk, IsSome, ◌↔◌, IsTrue};
+ghost use Rattle.coord_server.specs.Plans.{clock_count};
+ghost use Rattle.coord_server.specs.Posts.{ArePosts};
 
 use crate::acceptor::Acceptor;
-use crate::arrivals::Arrivals;
-use crate::connections::Connections;
+use crate::arrivals::arrivals_of;
+use crate::bell::Bell;
+use crate::connection::Connection;
 use crate::desk::ShardsDesk;
-use crate::expiry::Expiry;
+use crate::entrance::{Entrance, Incoming};
+use crate::expiry::{Expiry, ticks_of};
 use crate::fault::ServerFault;
-use crate::job::{Job, Works};
+use crate::handed::Post;
+use crate::listener::Listener;
+use crate::own_loop::OwnLoop;
 use crate::plan::Plan;
+use crate::threads::{Stops, run_beside};
 use crate::timed::Timed;
+use crate::works::Works;
 use coord_shards::{Gate, Shards};
-use futures::channel::mpsc::{UnboundedReceiver, UnboundedSender, unbounded};
-use futures::stream;
-use link_futures::{Desk, Line, Moments, ReadPart, WriteParts};
-use std::alloc::{AllocGlobal, Global};
+use futures::Future;
+use futures::future::{Abortable, abortable};
+use link_futures::{Desk, Moments};
+use std::alloc::AllocGlobal;
+use std::io;
 use std::net::{Net, TcpListener};
 use std::random::RandomSource;
 use std::sync::Wait;
-use std::sync::atomic::{AtomicU64, Ordering};
 use std::sync::ledger::Ledger;
 use std::thread::Threads;
-use std::time::{Clock, Duration};
-use tokio::runtime::{Handle, Runtime};
-use tokio::time::Interval;
-
-/// After how many milliseconds the time of the shards goes on.
-const TICK: u64 = 500;
+use std::time::Clock;
+use tokio::runtime::LocalRuntime;
 
 /// Serves the connections of a listening socket over shards, until so many have ended as the plan says. Gives their number.
-pub fn serve_sockets<A, C, G, M, R>(
+///
+/// It announces that it serves once all its threads are there.
+pub fn serve_sockets<A, C, G, M, R, F>(
     rt: &R,
     shards: &Shards<A, C, G>,
     socket: TcpListener,
     moments: &M,
     plan: Plan,
+    announce: F,
 ) -> Result<u64, ServerFault>
 where
     A: Ledger + Send + Sync,
@@ -42,96 +49,69 @@ where
     G: Gate + Sync,
     M: Moments + Clone + Send,
     R: Wait + Threads + Clock + Net + RandomSource + AllocGlobal + Sync,
-    requires { 0 < plan.workers }
+    F: FnOnce() -> io::Result<()>,
+    requires workers { 0 < plan.workers }
+    requires announce { F.pre announce }
+    ensures { IfOk result (λ served. served ≡ plan.connections) }
 {
-    let mut runtime = Runtime::with_worker_threads(rt, plan.workers)?;
-    serve_socket_in(rt, &mut runtime, shards, socket, moments, plan)
+    let incoming = Listener::of(socket)?;
+    serve(rt, shards, incoming, moments, plan, announce)
 }
 
-/// Serves the connections of a listening socket over shards, in a runtime.
-fn serve_socket_in<A, C, G, M, R>(
+/// Serves connections over shards, until so many have ended as the plan says. Gives their number.
+pub fn serve<A, C, G, M, R, S, K, F>(
     rt: &R,
-    runtime: &mut Runtime,
     shards: &Shards<A, C, G>,
-    socket: TcpListener,
+    incoming: S,
     moments: &M,
     plan: Plan,
+    announce: F,
 ) -> Result<u64, ServerFault>
 where
     A: Ledger + Send + Sync,
     C: Ledger + Send + Sync,
     G: Gate + Sync,
     M: Moments + Clone + Send,
-    R: Wait + Threads + Clock + RandomSource + AllocGlobal + Sync,
-    requires { 0 < plan.workers }
+    R: Wait + Threads + Clock + Net + RandomSource + AllocGlobal + Sync,
+    S: Incoming<K>,
+    K: Connection + Send,
+    F: FnOnce() -> io::Result<()>,
+    requires workers { 0 < plan.workers }
+    requires announce { F.pre announce }
+    ensures { IfOk result (λ served. served ≡ plan.connections) }
 {
-    let connections = Connections::of(rt, socket, runtime.handle())?;
-    serve(rt, runtime, shards, connections, moments, plan)
-}
-
-/// Serves connections over shards, until so many have ended as the plan says, or until no more come. Gives their number.
-pub fn serve<A, C, G, M, R, S, I, O>(
-    rt: &R,
-    runtime: &mut Runtime,
-    shards: &Shards<A, C, G>,
-    connections: S,
-    moments: &M,
-    plan: Plan,
-) -> Result<u64, ServerFault>
-where
-    A: Ledger + Send + Sync,
-    C: Ledger + Send + Sync,
-    G: Gate + Sync,
-    M: Moments + Clone + Send,
-    R: Wait + Threads + Clock + RandomSource + AllocGlobal + Sync,
-    S: Arrivals<I, O> + Send,
-    I: ReadPart + Send,
-    O: WriteParts + Send,
-    requires { 0 < plan.workers }
-{
-    let clock = clock_of(rt, runtime.handle(), shards, moments, plan)?;
     let desks = desks_of(rt, shards, moments, plan.workers)?;
-    serve_from(rt, runtime, desks, clock, connections, plan.connections)
+    let clocks = desks_of(rt, shards, moments, plan.clocks())?;
+    serve_from(rt, plan, desks, clocks, incoming, announce)
 }
 
-/// Serves connections from so many desks, where there is a clock with an expiry worker beside the others.
-fn serve_from<D, R, S, I, O>(
+/// Serves connections with a worker at each of the desks, and lets the time of the shards of the clocks' desks go on.
+fn serve_from<D, R, S, K, F>(
     rt: &R,
-    runtime: &mut Runtime,
+    plan: Plan,
     desks: Vec<D>,
-    clock: Option<(D, Interval)>,
-    connections: S,
-    most: u64,
+    clocks: Vec<D>,
+    incoming: S,
+    announce: F,
 ) -> Result<u64, ServerFault>
 where
     D: Desk + Timed + Send,
-    R: Threads + RandomSource + AllocGlobal + Wait + Clock + Sync,
-    S: Arrivals<I, O> + Send,
-    I: ReadPart + Send,
-    O: WriteParts + Send,
-    requires { 0 < vec_len desks }
+    R: Wait + Threads + Clock + Net + RandomSource + AllocGlobal + Sync,
+    S: Incoming<K>,
+    K: Connection + Send,
+    F: FnOnce() -> io::Result<()>,
+    requires workers { 0 < plan.workers }
+    requires all { (vec_len desks ≡ plan.workers) × (vec_len clocks ≡ clock_count plan.expires) }
+    requires announce { F.pre announce }
+    ensures { IfOk result (λ served. served ≡ plan.connections) }
 {
-    let told = AtomicU64::new(0);
-    let jobs = jobs_of(rt.alloc(), desks, clock, connections, most, &told)?;
-    runtime.run_all(rt, stream::iter(jobs))?;
-    Ok(told.load(Ordering::SeqCst))
-}
-
-/// A desk over shards, with a seat of its own.
-fn desk_of<'a, A, C, G, M, R>(
-    rt: &'a R,
-    shards: &'a Shards<A, C, G>,
-    moments: &M,
-) -> Result<ShardsDesk<'a, A, C, G, M, R>, ServerFault>
-where
-    A: Ledger,
-    C: Ledger,
-    G: Gate,
-    M: Moments + Clone,
-    R: Wait + AllocGlobal,
-{
-    let moments = moments.clone()?;
-    Ok(ShardsDesk::new(rt, rt.alloc(), shards, moments)?)
+    let entrance = Entrance::new(rt, incoming)?;
+    let bell = entrance.bell()?;
+    let mut stops = Stops(Vec::new(rt.alloc()));
+    let (posts, workers) = workers_of(rt, desks, &bell, &mut stops)?;
+    let clocks = clocks_of(rt, clocks, &bell, &mut stops)?;
+    let acceptor = Acceptor::new(entrance, posts, plan.connections, &bell);
+    run_beside(rt, plan, workers, clocks, stops, acceptor, announce)
 }
 
 /// So many desks over shards, each with a seat of its own.
@@ -156,106 +136,110 @@ where
     Ok(desks)
 }
 
-/// Where the plan has an expiry worker, its desk, and the instants at which it lets the time of the shards go on.
-fn clock_of<'a, A, C, G, M, R>(
+/// A desk over shards, with a seat of its own.
+fn desk_of<'a, A, C, G, M, R>(
     rt: &'a R,
-    handle: &Handle,
     shards: &'a Shards<A, C, G>,
     moments: &M,
-    plan: Plan,
-) -> Result<Option<(ShardsDesk<'a, A, C, G, M, R>, Interval)>, ServerFault>
+) -> Result<ShardsDesk<'a, A, C, G, M, R>, ServerFault>
 where
     A: Ledger,
     C: Ledger,
     G: Gate,
     M: Moments + Clone,
-    R: Wait + Clock + AllocGlobal,
+    R: Wait + AllocGlobal,
 {
-    if !plan.expires {
-        return Ok(None);
-    }
-    let ticks = handle.time().interval(rt, Duration::from_millis(TICK))?;
-    Ok(Some((desk_of(rt, shards, moments)?, ticks)))
+    let moments = moments.clone()?;
+    Ok(ShardsDesk::new(rt, rt.alloc(), shards, moments)?)
 }
 
-/// The tasks of a server: a worker over each of the desks, its expiry worker where there is a desk with instants for one, and its acceptor.
-fn jobs_of<'a, D, S, I, O>(
-    alloc: Global,
+/// The ways of connections to the workers at these desks, in their order, and their loops.
+fn workers_of<'a, D, R, K>(
+    rt: &R,
     desks: Vec<D>,
-    clock: Option<(D, Interval)>,
-    connections: S,
-    most: u64,
-    told: &'a AtomicU64,
-) -> Result<Vec<Job<'a, D, S, I, O>>, ServerFault>
+    bell: &'a Bell,
+    stops: &mut Stops,
+) -> Result<(Vec<Post<K>>, Vec<OwnLoop<'a, Abortable<Works<K, D>>>>), ServerFault>
 where
-    D: Desk + Timed,
-    S: Arrivals<I, O>,
-    I: ReadPart,
-    O: WriteParts,
-    requires { 0 < vec_len desks }
+    D: Desk,
+    R: Clock + Net + RandomSource + AllocGlobal,
+    K: Connection,
+    ensures posts { IfOk result (λ made. vec_len made.0 ≡ vec_len desks) }
+    ensures placed { IfOk result (λ made. ArePosts (vec_len desks) made.0.items) }
+    ensures loops { IfOk result (λ made. vec_len made.1 ≡ vec_len desks) }
 {
-    let (running, workers) = unbounded(alloc)?;
-    let mut jobs = expiry_of(alloc, clock, workers)?;
-    let senders = add_workers(alloc, desks, &running, &mut jobs)?;
-    let acceptor = Acceptor::new(alloc, connections, senders, most, told);
-    jobs.push(Job::Accepts(acceptor))?;
-    Ok(jobs)
+    let workers = desks.len();
+    let mut posts = Vec::new(rt.alloc());
+    let mut loops = Vec::new(rt.alloc());
+    for desk in desks {
+        let (post, own) = worker_of(rt, desk, posts.len(), workers, bell, stops)?;
+        posts.push(post)?;
+        loops.push(own)?;
+    }
+    Ok((posts, loops))
 }
 
-/// The task of the expiry worker, where there is a clock for one.
-fn expiry_of<'a, D, S, I, O>(
-    alloc: Global,
-    clock: Option<(D, Interval)>,
-    workers: UnboundedReceiver<()>,
-) -> Result<Vec<Job<'a, D, S, I, O>>, ServerFault>
+/// The way of connections to the worker with this number, of so many, at a desk, and its loop.
+fn worker_of<'a, D, R, K>(
+    rt: &R,
+    desk: D,
+    worker: usize,
+    workers: usize,
+    bell: &'a Bell,
+    stops: &mut Stops,
+) -> Result<(Post<K>, OwnLoop<'a, Abortable<Works<K, D>>>), ServerFault>
+where
+    D: Desk,
+    R: Clock + Net + RandomSource + AllocGlobal,
+    K: Connection,
+    ensures { IfOk result (λ made. (made.0.worker ≡ worker) × (made.0.workers ≡ workers)) }
+{
+    let runtime = LocalRuntime::new(rt)?;
+    let handle = runtime.handle().reactor().clone()?;
+    let (post, arrivals) = arrivals_of(rt.alloc(), handle, worker, workers)?;
+    let works = Works::new(rt.alloc(), arrivals, desk);
+    Ok((post, own_loop(rt, runtime, works, bell, stops)?))
+}
+
+/// The loops of expiry workers at these desks.
+fn clocks_of<'a, D, R>(
+    rt: &R,
+    desks: Vec<D>,
+    bell: &'a Bell,
+    stops: &mut Stops,
+) -> Result<Vec<OwnLoop<'a, Abortable<Expiry<D>>>>, ServerFault>
 where
     D: Timed,
-    S: Drop,
-    I: Drop,
-    O: Drop,
+    R: Clock + Net + RandomSource + AllocGlobal,
+    ensures { IfOk result (λ loops. vec_len loops ≡ vec_len desks) }
 {
-    let mut jobs = Vec::new(alloc);
-    if let Some((desk, ticks)) = clock {
-        jobs.push(Job::Expires(Expiry::new(desk, ticks, workers)))?;
-    }
-    Ok(jobs)
-}
-
-/// Adds a task for each worker, and gives the senders of their lines.
-fn add_workers<'a, D, S, I, O>(
-    alloc: Global,
-    desks: Vec<D>,
-    running: &UnboundedSender<()>,
-    jobs: &mut Vec<Job<'a, D, S, I, O>>,
-) -> Result<Vec<UnboundedSender<Line<I, O>>>, ServerFault>
-where
-    D: Desk,
-    S: Drop,
-    I: ReadPart,
-    O: WriteParts,
-    ensures { IfOk result (λ senders. vec_len senders ≡ vec_len desks) }
-{
-    let mut senders = Vec::new(alloc);
+    let mut loops = Vec::new(rt.alloc());
     for desk in desks {
-        let (sender, works) = worker_of(alloc, desk, running)?;
-        jobs.push(Job::Works(works))?;
-        senders.push(sender)?;
+        let runtime = LocalRuntime::new(rt)?;
+        let ticks = ticks_of(rt, runtime.handle().time())?;
+        loops.push(own_loop(rt, runtime, Expiry::new(desk, ticks), bell, stops)?)?;
     }
-    Ok(senders)
+    Ok(loops)
 }
 
-/// A worker over a desk, and the sender of its lines.
-fn worker_of<D, I, O>(
-    alloc: Global,
-    desk: D,
-    running: &UnboundedSender<()>,
-) -> Result<(UnboundedSender<Line<I, O>>, Works<D, I, O>), ServerFault>
+/// A future and the loop that is to run it, which can be stopped.
+fn own_loop<'a, R, B>(
+    rt: &R,
+    runtime: LocalRuntime,
+    future: B,
+    bell: &'a Bell,
+    stops: &mut Stops,
+) -> Result<OwnLoop<'a, Abortable<B>>, ServerFault>
 where
-    D: Desk,
-    I: ReadPart,
-    O: WriteParts,
+    R: AllocGlobal,
+    B: Future,
+    ensures { IfOk result (λ own. own.future.task ≡ future) }
 {
-    let running = running.clone()?;
-    let (sender, arrivals) = unbounded(alloc)?;
-    Ok((sender, Works::new(alloc, arrivals, desk, running)))
+    let (future, stop) = abortable(rt.alloc(), future)?;
+    stops.0.push(stop)?;
+    Ok(OwnLoop {
+        runtime,
+        future,
+        bell,
+    })
 }

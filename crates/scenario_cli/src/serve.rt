@@ -1,11 +1,11 @@
 //! `coord serve`: the server over sockets of this machine.
-ghost use Rattle.std.specs.Prelude.{◌≡◌, ◌+◌, ◌≤◌, ◌<◌};
+ghost use Rattle.std.specs.Prelude.{◌≡◌, ◌+◌, ◌≤◌, ◌<◌, IfOk};
 
 use crate::service::Service;
 use coord_server::{
-    AlwaysOpen, ClockMoments, Moments, Plan, ServerFault, Shards, ShardsDesk, serve_sockets,
+    AlwaysOpen, ClockMoments, Moments, ServerFault, Shards, ShardsDesk, serve_sockets,
 };
-use std::alloc::AllocGlobal;
+use std::alloc::{AllocGlobal, Global};
 use std::collections::hash_map::RandomState;
 use std::io;
 use std::io::Write;
@@ -80,17 +80,17 @@ where
         Ok(moments) => moments,
         Err(error) => return Err(ServeFault::Clock(error)),
     };
-    print(writer, "listening", u64::from(port))?;
     let salt = moments.first().millis();
     let (entries, calls) = (Blank::new(shards as u64), Blank::new(SEATS + shards as u64));
-    let served = serve_over::<Brand, Brand, _, R>(
-        rt, service, keys, salt, socket, &moments, entries, calls,
+    let announce = || print(writer, "listening", u64::from(port));
+    let served = serve_over::<Brand, Brand, _, R, _>(
+        rt, service, keys, salt, socket, &moments, entries, calls, announce,
     )?;
-    print(writer, "served", served)
+    Ok(print(writer, "served", served)?)
 }
 
 /// Serves the connections of a socket over new shards with a salt. Gives their number.
-fn serve_over<A, C, M, R>(
+fn serve_over<A, C, M, R, F>(
     rt: &R,
     service: Service,
     keys: RandomState,
@@ -99,32 +99,42 @@ fn serve_over<A, C, M, R>(
     moments: &M,
     entries: Blank,
     calls: Blank,
+    announce: F,
 ) -> Result<u64, ServerFault>
 where
     A: Ledger + Send + Sync,
     C: Ledger + Send + Sync,
     M: Moments + Clone + Send,
     R: Wait + Threads + Clock + Net + RandomSource + AllocGlobal + Sync,
+    F: FnOnce() -> io::Result<()>,
+    requires announce { F.pre announce }
     requires entries { (entries.name ≡ A.name) × (entries.parts ≡ A.parts) × (entries.parts ≡ service.shards) }
     requires calls { (calls.name ≡ C.name) × (calls.parts ≡ C.parts) × (calls.parts ≡ 256 + service.shards) }
+    ensures { IfOk result (λ served. served ≡ service.connections) }
 {
-    let shards = Shards::<A, C, AlwaysOpen>::new(
-        rt.alloc(),
-        service.shards,
-        salt,
-        0,
-        keys,
-        AlwaysOpen,
-        entries,
-        calls,
-    )?;
+    let shards = shards_of::<A, C>(rt.alloc(), service.shards, salt, keys, entries, calls)?;
     set_image(rt, &shards, moments.clone()?, &service.image)?;
-    let plan = Plan {
-        workers: service.workers,
-        connections: service.connections,
-        expires: true,
-    };
-    serve_sockets(rt, &shards, socket, moments, plan)
+    serve_sockets(rt, &shards, socket, moments, service.plan(), announce)
+}
+
+/// So many new shards with a salt, which keep no journals.
+fn shards_of<A, C>(
+    alloc: Global,
+    shards: usize,
+    salt: u64,
+    keys: RandomState,
+    entries: Blank,
+    calls: Blank,
+) -> Result<Shards<A, C, AlwaysOpen>, ServerFault>
+where
+    A: Ledger,
+    C: Ledger,
+    requires entries { (entries.name ≡ A.name) × (entries.parts ≡ A.parts) }
+    requires calls { (calls.name ≡ C.name) × (calls.parts ≡ C.parts) × (calls.parts ≡ 256 + shards) }
+    ensures { IfOk result (λ made. made ≡ record { shards = shards; salt = salt; cap = 0 }) }
+{
+    let gate = AlwaysOpen;
+    Ok(Shards::<A, C, AlwaysOpen>::new(alloc, shards, salt, 0, keys, gate, entries, calls)?)
 }
 
 /// Gives every shard its topics.
@@ -146,13 +156,22 @@ where
 }
 
 /// Prints a line of a word and a number, and flushes it.
-fn print<W: Write>(writer: &mut W, word: &str, number: u64) -> Result<(), ServeFault> {
-    writeln!(writer, "{word} {number}").map_err(ServeFault::Write)?;
-    writer.flush().map_err(ServeFault::Write)
+fn print<W: Write>(writer: &mut W, word: &str, number: u64) -> io::Result<()> {
+    writeln!(writer, "{word} {number}")?;
+    writer.flush()
+}
+
+impl From<io::Error> for ServeFault {
+    fn from(error: io::Error) -> ServeFault {
+        ServeFault::Write(error)
+    }
 }
 
 impl From<ServerFault> for ServeFault {
     fn from(fault: ServerFault) -> ServeFault {
-        ServeFault::Server(fault)
+        match fault {
+            ServerFault::Announce(error) => ServeFault::Write(error),
+            other => ServeFault::Server(other),
+        }
     }
 }

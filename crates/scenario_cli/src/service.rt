@@ -1,10 +1,11 @@
 //! What `coord serve` is asked for.
-ghost use Rattle.std.specs.Prelude.{◌≡◌, ◌≤◌, ◌<◌, IfOk};
+ghost use Rattle.std.specs.Prelude.{◌≡◌, ◌≤◌, ◌<◌, true, IfOk};
 
 use crate::command_line::CommandLineFault;
 use crate::fault::LineFault;
 use crate::topics::topic_of;
 use clap::{Arg, ArgAction, ArgMatches, Command};
+use coord_server::Plan;
 use std::alloc::{AllocError, Global};
 use topic_meta::{Image, TopicEntry};
 
@@ -36,6 +37,21 @@ pub struct Service {
     pub ghost workers_are: { (1 ≤ workers) × (workers ≤ 64) },
     pub ghost shards_are: { (1 ≤ shards) × (shards ≤ 64) },
     pub ghost connections_are: { (1 ≤ connections) × (connections ≤ 1000000) },
+}
+
+impl Service {
+    /// How large the server is: as many workers and connections as are asked for, and an expiry worker.
+    pub fn plan(&self) -> Plan
+        ensures workers { result.workers ≡ self.now.workers }
+        ensures connections { result.connections ≡ self.now.connections }
+        ensures expires { result.expires ≡ true }
+    {
+        Plan {
+            workers: self.workers,
+            connections: self.connections,
+            expires: true,
+        }
+    }
 }
 
 /// The subcommand `serve`, with its words.

@@ -1,5 +1,5 @@
 -- The places and the takers of a board.
-use Rattle.std.proofs.Common.{◌≡◌, ℕ, ◌<◌, List, [], ◌∷◌, length, get_or, map, refl, sym, ap, subst, ◌∙◌, arith, Some}
+use Rattle.std.proofs.Common.{◌≡◌, ℕ, ◌<◌, List, [], ◌∷◌, length, get_or, map, refl, sym, ap, ◌∙◌, Some}
 use Rattle.std.specs.FinMap as finite
 use Rattle.std.specs.Global.{Vec}
 use Rattle.std.specs.List.{All, slice_get}
@@ -14,7 +14,7 @@ use Rattle.uniform_assign.specs.declared.board.Board.{Board}
 use Rattle.uniform_assign.specs.Boards.{AreTakersOf, IsBare, IsBoard, members_on, shown_place}
 use Rattle.uniform_assign.specs.Drafts.{IsLeast}
 use Rattle.uniform_assign.proofs.Drawn.{AreApart}
-use Rattle.uniform_assign.proofs.Lists.{option_map-from, some_at, slice_get-map_at, slice_get-map_from}
+use Rattle.uniform_assign.proofs.Lists.{option_map-from, slice_get-map_at, slice_get-map_from}
 use Rattle.uniform_assign.proofs.Apart.{AreApart-view}
 
 -- what a board has at a place in partition order
@@ -28,8 +28,10 @@ pub record IsAt (board : Board) (k : ℕ) (place : Place) : Type 0 where
   pub topic : Text × Topic
   pub is_topic : slice_get (finite.entries board.view.now) place.topic ≡ Some topic
   pub is_part : slice_get (in_partition_order board.view.now) k ≡ Some (topic.0, place.partition)
+  pub class : ℕ
+  pub is_class : slice_get board.classes.items place.topic ≡ Some class
   pub takers : Vec ℕ
-  pub are_there : slice_get board.takers.items place.topic ≡ Some takers
+  pub are_there : slice_get board.takers.items class ≡ Some takers
   pub are_takers : AreTakersOf (members_on board) topic.0 takers.items
 
 module _ (board : Board) (is : IsBare board) where
@@ -52,8 +54,15 @@ module _ (board : Board) (is : IsBare board) where
 pub at_place : (board : Board) → IsBoard board → (k : ℕ) (place : Place) → slice_get board.places.items k ≡ Some place → IsAt board k place
 at_place board is k place here =
     let part = part_at board is.bare k place here in
-    let (v, is_v, takers) = is.takers.there place.topic part.topic part.is_topic in
-    record { topic = part.topic; is_topic = part.is_topic; is_part = part.is_part; takers = v; are_there = is_v; are_takers = takers }
+    let (class, v, is_class, is_v, takers) = is.takers.there place.topic part.topic part.is_topic in
+    record { topic = part.topic; is_topic = part.is_topic; is_part = part.is_part; class = class; is_class = is_class; takers = v; are_there = is_v; are_takers = takers }
+
+-- the takers of its class
+pub same_takers : (board : Board) (k : ℕ) (place : Place) (at : IsAt board k place) (class : ℕ) (takers : Vec ℕ) → slice_get board.classes.items place.topic ≡ Some class
+    → slice_get board.takers.items class ≡ Some takers → at.takers ≡ takers
+same_takers board k place at class takers is_class is_takers =
+    let same : at.class ≡ class = same_Some at.class class (sym at.is_class ∙ is_class) in
+    same_Some at.takers takers (sym at.are_there ∙ ap (slice_get board.takers.items) same ∙ is_takers)
 
 -- ---- takers
 
@@ -84,15 +93,6 @@ all_takers subs name takers are k d within =
     let (m, is_m, there) = taker_here subs name takers k (get_or takers k d) are (slice_get-get_or takers k d within) in
     slice_get_within subs (get_or takers k d) m is_m
 
--- the takers that were read at a place
-pub takers_read : (board : Board) (k : ℕ) (place : Place) (at : IsAt board k place) (v : Vec ℕ) (xs : List ℕ) → v ≡ get_or board.takers.items place.topic v → xs ≡ v.items
-    → (slice_get board.takers.items place.topic ≡ Some v) × AreTakersOf (members_on board) at.topic.0 xs
-takers_read board k place at v xs read items =
-    let within = slice_get_within board.takers.items place.topic at.takers at.are_there in
-    let there = slice_get_read board.takers.items (length board.takers.items) place.topic v refl within read in
-    let same : at.takers ≡ v = same_Some at.takers v (sym at.are_there ∙ there) in
-    (there, subst (AreTakersOf (members_on board) at.topic.0) (ap (λ (w : Vec ℕ). w.items) same ∙ sym items) at.are_takers)
-
 -- the least taker is a member
 pub least-within : (subs : List Subscriber) (name : Text) (counts takers : List ℕ) (m : ℕ) → AreTakersOf subs name takers → IsLeast counts takers m → (s : Subscriber) × (slice_get subs m ≡ Some s)
 least-within subs name counts takers m are least =
@@ -104,11 +104,10 @@ place_here items places k place same within read = ap (λ xs. slice_get xs k) (s
 
 -- each of a board's takers has a place among the members
 pub takers_within : (board : Board) → IsBoard board → (k : ℕ) (v : Vec ℕ) → slice_get board.takers.items k ≡ Some v → All (λ t. t < length (members_on board)) v.items
-takers_within board is k v here =
-    let topics = finite.entries board.view.now in
-    let low = slice_get_within board.takers.items k v here in
-    let many = is.takers.as_many in
-    let (topic, is_topic) = some_at topics k (omega arith) in
-    let (w, is_w, of) = is.takers.there k topic is_topic in
-    let same : w ≡ v = same_Some w v (sym is_w ∙ here) in
-    subst (λ (x : Vec ℕ). All (λ t. t < length (members_on board)) x.items) same (all_takers (members_on board) topic.0 w.items of)
+takers_within board is k v here = let (topic, of) = is.takers.each k v here in all_takers (members_on board) topic.0 v.items of
+
+pub taker_within : (board : Board) → IsBoard board → (c k m : ℕ) (v : Vec ℕ) → slice_get board.takers.items c ≡ Some v → slice_get v.items k ≡ Some m → m < length (members_on board)
+taker_within board is c k m v is_v is_m =
+    let (topic, of) = is.takers.each c v is_v in
+    let (s, is_s, there) = taker_here (members_on board) topic.0 v.items k m of is_m in
+    slice_get_within (members_on board) m s is_s

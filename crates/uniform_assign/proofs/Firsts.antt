@@ -9,19 +9,17 @@ use Rattle.uniform_assign.specs.declared.pile.Pile.{Pile}
 use Rattle.uniform_assign.specs.Boards.{IsBoard}
 use Rattle.uniform_assign.specs.Drafts.{IsDraft}
 use Rattle.uniform_assign.specs.Moves.{IsEarlier, IsFirstAmong, IsFirstOf, IsMoveOf}
-use Rattle.uniform_assign.specs.Piles.{AreOfTopic, IsIn}
+use Rattle.uniform_assign.specs.Piles.{AreOfClass, IsIn}
 use Rattle.uniform_assign.proofs.Moves.{can-within, give-other}
 use Rattle.uniform_assign.proofs.Shown.{can_give-owns}
 
 module _ (board : Board) (draft : Draft) (is : IsBoard board) (are : IsDraft board draft) where
   -- of a pile
-  pub IsFirstAmong-pile : (pile : Pile) (from at : ℕ) (o : Option Move) → AreOfTopic board.places.items pile → IsIn at pile → slice_get draft.owners.items at ≡ Some (Some from)
+  pub IsFirstAmong-pile : (pile : Pile) (from at : ℕ) (o : Option Move) → AreOfClass board pile → IsIn at pile → slice_get draft.owners.items at ≡ Some (Some from)
       → ((k : ℕ) → IsIn k pile → at ≤ k) → IsMoveOf board draft at o → IsFirstAmong board draft from (λ k. IsIn k pile) o
-  IsFirstAmong-pile pile from at None of_topic there owns first stays = λ k is_k can.
-      let (one, is_one, topic_one) = of_topic k is_k in
-      let (other, is_other, topic_other) = of_topic at there in
-      stays from (give-other board draft is are from k at one other is_one is_other (topic_one ∙ sym topic_other) owns can)
-  IsFirstAmong-pile pile from at (Some m) of_topic there owns first (same, move) = (
+  IsFirstAmong-pile pile from at None of_class there owns first stays = λ k is_k can.
+      stays from (give-other board draft is are from k at pile.class (of_class k is_k) (of_class at there) owns can)
+  IsFirstAmong-pile pile from at (Some m) of_class there owns first (same, move) = (
     move,
     same_Some m.from from (same_Some (Some m.from) (Some from) (sym move.owns ∙ ap (slice_get draft.owners.items) same ∙ owns)),
     λ k is_k can. let low = first k is_k in omega arith,

@@ -13,13 +13,14 @@ pub mod Shown
 pub mod Moves
 pub mod Made
 pub mod Taken
+pub mod Classed
+pub mod Seated
 pub mod FormerOwners
 pub mod LastOwner
 pub mod Kept
 pub mod Known
 pub mod Filled
 pub mod Settled
-pub mod Fewest
 pub mod Dealt
 pub mod Hands
 pub mod Heaps
@@ -29,7 +30,6 @@ pub mod Ordered
 pub mod Searched
 pub mod Ranked
 pub mod Queued
-pub mod Between
 pub mod Located
 pub mod Staying
 pub mod Turned

@@ -1,12 +1,11 @@
 -- What can move, in the spread that a draft shows.
 use Rattle.std.proofs.Common.{◌≡◌, ℕ, ◌<◌, ◌≤◌, ◌+◌, List, [], ◌∷◌, ◌++◌, length, get_or, set as set_at, refl, sym, ap, subst, ◌∙◌, arith, Option, Some, None, length-set}
 use Rattle.std.specs.Global.{Vec}
-use Rattle.std.specs.FinMap as finite
-use Rattle.std.specs.List.{Contains, slice_get}
+use Rattle.std.specs.List.{slice_get}
 use Rattle.std.proofs.lemmas.Option.{same_Some, slice_get_within}
 use Rattle.group_types.specs.declared.partition.Partition.{Partition}
 use Rattle.group_types.specs.Text.{Text}
-use Rattle.group_types.specs.Topics.{Topic, Topics}
+use Rattle.group_types.specs.Topics.{Topics}
 use Rattle.group_types.specs.Assignors.{Subscriber, subscribers_of}
 use Rattle.group_types.specs.Owners.{Spread}
 use Rattle.group_types.specs.Uniform.{AreMoves, IsFewest, IsLevel, IsNextMove, in_partition_order}
@@ -14,10 +13,10 @@ use Rattle.uniform_assign.specs.declared.board.Board.{Board}
 use Rattle.uniform_assign.specs.declared.board.Place.{Place}
 use Rattle.uniform_assign.specs.declared.draft.Draft.{Draft}
 use Rattle.uniform_assign.specs.declared.level.Move.{Move}
-use Rattle.uniform_assign.specs.Boards.{AreTakersOf, IsBoard, members_on}
-use Rattle.uniform_assign.specs.Drafts.{AreCounts, IsDraft, IsLeast, IsLeastOf, drawn_on}
-use Rattle.uniform_assign.specs.Moves.{AreFewest, CanGive, IsFirst, IsGiversLimit, IsMove, IsNext}
-use Rattle.uniform_assign.proofs.Boards.{as_many_places, at_place, here_taker, parts_are_apart, taker_here}
+use Rattle.uniform_assign.specs.Boards.{AreTakersOf, IsBoard, IsOfClass, members_on}
+use Rattle.uniform_assign.specs.Drafts.{AreCounts, IsDraft, IsLeast, drawn_on}
+use Rattle.uniform_assign.specs.Moves.{CanGive, IsFirst, IsGiversLimit, IsMove, IsNext}
+use Rattle.uniform_assign.proofs.Boards.{as_many_places, at_place, here_taker, parts_are_apart, same_takers, taker_here}
 use Rattle.uniform_assign.proofs.Shown.{can_give-owns, count-shown, owner-at}
 use Rattle.uniform_assign.proofs.Drawn.{drawn-owner, drawn-set}
 use Rattle.uniform_assign.proofs.Lists.{Contains-at, at_Contains, some_at}
@@ -70,8 +69,8 @@ module _ (board : Board) (draft : Draft) (is : IsBoard board) (are : IsDraft boa
   move-taker m move x is_x =
       let at = at_place board is m.partition move.place move.is_place in
       let same_x : (at.topic.0, move.place.partition) ≡ x = same_Some _ x (sym at.is_part ∙ is_x) in
-      let same_takers : at.takers ≡ move.takers = same_Some at.takers move.takers (sym at.are_there ∙ move.are_takers) in
-      let least = subst (λ (v : Vec ℕ). IsLeast draft.counts.items v.items m.to) (sym same_takers) move.is_least in
+      let same : at.takers ≡ move.takers = same_takers board m.partition move.place at move.class move.takers move.is_class move.are_takers in
+      let least = subst (λ (v : Vec ℕ). IsLeast draft.counts.items v.items m.to) (sym same) move.is_least in
       let (to, is_to, there) = taker_here subs at.topic.0 at.takers.items least.place m.to at.are_takers least.is_there in
       (to, is_to, subst (λ y. IsFewest spread (subscribers_of subs y.0) to) same_x (fewest-shown at.topic.0 at.takers.items m.to to at.are_takers least is_to))
 
@@ -98,31 +97,31 @@ module _ (board : Board) (draft : Draft) (is : IsBoard board) (are : IsDraft boa
   pub no_owner-stays : (k : ℕ) → slice_get draft.owners.items k ≡ Some None → (from : ℕ) → ¬ CanGive board draft from k
   no_owner-stays k none from can = let owns = can_give-owns board draft is.bare are from k can in cc
 
-  taker-of : (k from : ℕ) (place : Place) (takers : Vec ℕ) → slice_get board.places.items k ≡ Some place → slice_get board.takers.items place.topic ≡ Some takers → (can : CanGive board draft from k)
-      → (j t : ℕ) × (slice_get takers.items j ≡ Some t) × (slice_get subs t ≡ Some can.other)
-  taker-of k from place takers is_place is_takers can =
+  taker-of : (k from : ℕ) (place : Place) (class : ℕ) (takers : Vec ℕ) → slice_get board.places.items k ≡ Some place → slice_get board.classes.items place.topic ≡ Some class → slice_get board.takers.items class ≡ Some takers
+      → (can : CanGive board draft from k) → (j t : ℕ) × (slice_get takers.items j ≡ Some t) × (slice_get subs t ≡ Some can.other)
+  taker-of k from place class takers is_place is_class is_takers can =
       let at = at_place board is k place is_place in
       let same_x : (at.topic.0, place.partition) ≡ can.moved = same_Some _ can.moved (sym at.is_part ∙ can.is_partition) in
-      let same_takers : at.takers ≡ takers = same_Some at.takers takers (sym at.are_there ∙ is_takers) in
+      let same : at.takers ≡ takers = same_takers board k place at class takers is_class is_takers in
       let (j, is_j) = at_Contains (subscribers_of subs can.moved.0) can.other can.subscribes in
       let (t, is_t, there) = here_taker subs at.topic.0 at.takers.items j can.other at.are_takers (ap (λ y. slice_get (subscribers_of subs y.0) j) same_x ∙ is_j) in
-      (j, t, ap (λ (v : Vec ℕ). slice_get v.items j) (sym same_takers) ∙ is_t, there)
+      (j, t, ap (λ (v : Vec ℕ). slice_get v.items j) (sym same) ∙ is_t, there)
 
-  pub no_taker-stays : (k : ℕ) (place : Place) (takers : Vec ℕ) → slice_get board.places.items k ≡ Some place → slice_get board.takers.items place.topic ≡ Some takers → takers.items ≡ []
-      → (from : ℕ) → ¬ CanGive board draft from k
-  no_taker-stays k place takers is_place is_takers none from can =
-      let (j, t, is_t, there) = taker-of k from place takers is_place is_takers can in
+  pub no_taker-stays : (k : ℕ) (place : Place) (class : ℕ) (takers : Vec ℕ) → slice_get board.places.items k ≡ Some place → slice_get board.classes.items place.topic ≡ Some class → slice_get board.takers.items class ≡ Some takers
+      → takers.items ≡ [] → (from : ℕ) → ¬ CanGive board draft from k
+  no_taker-stays k place class takers is_place is_class is_takers none from can =
+      let (j, t, is_t, there) = taker-of k from place class takers is_place is_class is_takers can in
       let nowhere : slice_get [] j ≡ Some t = ap (λ xs. slice_get xs j) (sym none) ∙ is_t in
       nobody j t nowhere
     where
       nobody : (j t : ℕ) → slice_get [] j ≡ Some t → ⊥
       nobody j t is_t = cc
 
-  pub near-stays : (k owner to : ℕ) (place : Place) (takers : Vec ℕ) → slice_get board.places.items k ≡ Some place → slice_get board.takers.items place.topic ≡ Some takers
+  pub near-stays : (k owner to : ℕ) (place : Place) (class : ℕ) (takers : Vec ℕ) → slice_get board.places.items k ≡ Some place → slice_get board.classes.items place.topic ≡ Some class → slice_get board.takers.items class ≡ Some takers
       → slice_get draft.owners.items k ≡ Some (Some owner) → IsLeast draft.counts.items takers.items to → get_or draft.counts.items owner 0 ≤ get_or draft.counts.items to 0 + 1
       → (from : ℕ) → ¬ CanGive board draft from k
-  near-stays k owner to place takers is_place is_takers owns least near from can =
-      let (j, t, is_t, there) = taker-of k from place takers is_place is_takers can in
+  near-stays k owner to place class takers is_place is_class is_takers owns least near from can =
+      let (j, t, is_t, there) = taker-of k from place class takers is_place is_class is_takers can in
       let same : owner ≡ from = same_Some owner from (same_Some (Some owner) (Some from) (sym owns ∙ can_give-owns board draft is.bare are from k can)) in
       let low = least.least j t is_t in
       let his = count-shown board draft is.bare are t can.other there in
@@ -132,26 +131,24 @@ module _ (board : Board) (draft : Draft) (is : IsBoard board) (are : IsDraft boa
       omega arith
 
   -- a member within the limit gives nothing away
-  pub poor-stays : (fewest : List (Option ℕ)) (limit from : ℕ) → AreFewest board draft fewest → IsGiversLimit draft.counts.items fewest limit → get_or draft.counts.items from 0 ≤ limit
-      → (k : ℕ) → ¬ CanGive board draft from k
-  poor-stays fewest limit from least low few k can =
-      let owns = can_give-owns board draft is.bare are from k can in
+  pub poor-stays : (limit from : ℕ) → IsGiversLimit board draft.counts.items limit → get_or draft.counts.items from 0 ≤ limit → (k : ℕ) → ¬ CanGive board draft from k
+  poor-stays limit from low few k can =
       let (place, is_place) = some_at board.places.items k (let in_parts = slice_get_within parts k can.moved can.is_partition in let many = as_many_places board is.bare in omega arith) in
       let at = at_place board is k place is_place in
-      let (o, is_o, of) = least place.topic at.takers at.are_there in
-      elim o as (λ o. slice_get fewest place.topic ≡ Some o → IsLeastOf draft.counts.items at.takers.items o → ⊥) [
-        | None ↦ λ is_none none. no_taker-stays k place at.takers is_place at.are_there none from can
-        | Some to ↦ λ is_to least_to. near-stays k from to place at.takers is_place at.are_there owns least_to (let below = low place.topic to is_to in omega arith) from can
-      ] is_o of
+      let (j, t, is_t, there) = taker-of k from place at.class at.takers is_place at.is_class at.are_there can in
+      let below = low at.class j t at.takers at.are_there is_t in
+      let his = count-shown board draft is.bare are t can.other there in
+      let mine = count-shown board draft is.bare are from can.owner can.is_member in
+      let fewer = can.fewer in
+      omega arith
 
-  -- a member can give any of its partitions of a topic away, or none
-  pub give-other : (from k at : ℕ) (one other : Place) → slice_get board.places.items k ≡ Some one → slice_get board.places.items at ≡ Some other → one.topic ≡ other.topic
-      → slice_get draft.owners.items at ≡ Some (Some from) → CanGive board draft from k → CanGive board draft from at
-  give-other from k at one other is_one is_other same owns can =
-      let here = at_place board is k one is_one in
+  -- a member can give any of its partitions of a class away, or none
+  pub give-other : (from k at class : ℕ) → IsOfClass board k class → IsOfClass board at class → slice_get draft.owners.items at ≡ Some (Some from) → CanGive board draft from k → CanGive board draft from at
+  give-other from k at class (one, is_one, class_one) (other, is_other, class_other) owns can =
       let there = at_place board is at other is_other in
-      let topics : here.topic ≡ there.topic = same_Some here.topic there.topic (sym here.is_topic ∙ ap (slice_get (finite.entries board.view.now)) same ∙ there.is_topic) in
-      let moved : (here.topic.0, one.partition) ≡ can.moved = same_Some _ can.moved (sym here.is_part ∙ can.is_partition) in
+      let (j, t, is_t, is_sub) = taker-of k from one there.class there.takers is_one (class_one ∙ sym class_other ∙ there.is_class) there.are_there can in
+      let (m, is_m, taker) = taker_here subs there.topic.0 there.takers.items j t there.are_takers is_t in
+      let same : m ≡ can.other = same_Some m can.other (sym is_m ∙ is_sub) in
       record {
         owner = can.owner;
         is_member = can.is_member;
@@ -159,7 +156,7 @@ module _ (board : Board) (draft : Draft) (is : IsBoard board) (are : IsDraft boa
         is_partition = there.is_part;
         owns = drawn-owner subs parts draft.owners.items at (there.topic.0, other.partition) from can.owner (parts_are_apart board is.bare) there.is_part owns can.is_member;
         other = can.other;
-        subscribes = subst (λ name. Contains (subscribers_of subs name) can.other) (sym (ap (λ (x : Text × Partition). x.0) moved) ∙ ap (λ (t : Text × Topic). t.0) topics) can.subscribes;
+        subscribes = Contains-at (subscribers_of subs there.topic.0) j can.other (taker ∙ ap Some same);
         fewer = can.fewer;
       }
 

@@ -5,73 +5,73 @@ use Rattle.std.specs.List.{All}
 use Rattle.std.proofs.lemmas.Option.{get_or_from_slice_get, same_Some, slice_get_within}
 use Rattle.uniform_assign.specs.declared.pile.Pile.{Pile}
 use Rattle.uniform_assign.specs.declared.board.Board.{Board}
-use Rattle.uniform_assign.specs.declared.board.Place.{Place}
 use Rattle.uniform_assign.specs.declared.draft.Draft.{Draft}
 use Rattle.uniform_assign.specs.declared.piles.Owned.{Owned}
-use Rattle.uniform_assign.specs.Piles.{AreHeld, AreListed, AreOfTopic, Hand, IsHand, IsHeld, IsIn, IsInHand, IsInTopic, IsListedIn, Listed}
+use Rattle.uniform_assign.specs.Boards.{IsOfClass}
+use Rattle.uniform_assign.specs.Piles.{AreHeld, AreListed, AreOfClass, Hand, IsHand, IsHeld, IsIn, IsInHand, IsInClass, IsListedIn, Listed}
 use Rattle.uniform_assign.proofs.Counts.{cases_equal}
 use Rattle.uniform_assign.proofs.Kept.{slice_get-set_other, slice_get-set_same}
 use Rattle.uniform_assign.proofs.Lists.{pushed_at, slice_get-append_cases, slice_get-append_left}
 
 -- a pile was written
-module _ (hand : List Pile) (at : ℕ) (old new : Pile) (is_old : slice_get hand at ≡ Some old) (topic : new.topic ≡ old.topic) where
+module _ (hand : List Pile) (at : ℕ) (old new : Pile) (is_old : slice_get hand at ≡ Some old) (class : new.class ≡ old.class) where
   here : slice_get (set_at hand at new) at ≡ Some new
   here = slice_get-set_same hand at new (slice_get_within hand at old is_old)
 
   -- nothing else than before
-  pub InTopic-fewer : ((k : ℕ) → IsIn k new → IsIn k old) → (t k : ℕ) → IsInTopic (set_at hand at new) t k → IsInTopic hand t k
-  InTopic-fewer fewer t k (i, pile, is_pile, of_topic, is) = elim (cases_equal i at) [
+  pub InClass-fewer : ((k : ℕ) → IsIn k new → IsIn k old) → (t k : ℕ) → IsInClass (set_at hand at new) t k → IsInClass hand t k
+  InClass-fewer fewer t k (i, pile, is_pile, of_class, is) = elim (cases_equal i at) [
     | inl same ↦
         let equal : new ≡ pile = same_Some new pile (sym here ∙ ap (slice_get (set_at hand at new)) (sym same) ∙ is_pile) in
-        (at, old, is_old, sym topic ∙ ap (λ (p : Pile). p.topic) equal ∙ of_topic, fewer k (subst (IsIn k) (sym equal) is))
-    | inr apart ↦ (i, pile, sym (slice_get-set_other hand at i new apart) ∙ is_pile, of_topic, is)
+        (at, old, is_old, sym class ∙ ap (λ (p : Pile). p.class) equal ∙ of_class, fewer k (subst (IsIn k) (sym equal) is))
+    | inr apart ↦ (i, pile, sym (slice_get-set_other hand at i new apart) ∙ is_pile, of_class, is)
   ]
 
-  pub InTopic-kept : (t k : ℕ) → (IsIn k old → IsIn k new) → IsInTopic hand t k → IsInTopic (set_at hand at new) t k
-  InTopic-kept t k kept (i, pile, is_pile, of_topic, is) = elim (cases_equal i at) [
+  pub InClass-kept : (t k : ℕ) → (IsIn k old → IsIn k new) → IsInClass hand t k → IsInClass (set_at hand at new) t k
+  InClass-kept t k kept (i, pile, is_pile, of_class, is) = elim (cases_equal i at) [
     | inl same ↦
         let equal : old ≡ pile = same_Some old pile (sym is_old ∙ ap (slice_get hand) (sym same) ∙ is_pile) in
-        (at, new, here, topic ∙ ap (λ (p : Pile). p.topic) equal ∙ of_topic, kept (subst (IsIn k) (sym equal) is))
-    | inr apart ↦ (i, pile, slice_get-set_other hand at i new apart ∙ is_pile, of_topic, is)
+        (at, new, here, class ∙ ap (λ (p : Pile). p.class) equal ∙ of_class, kept (subst (IsIn k) (sym equal) is))
+    | inr apart ↦ (i, pile, slice_get-set_other hand at i new apart ∙ is_pile, of_class, is)
   ]
 
   module _ (place : ℕ) (added : (k : ℕ) → IsIn k new ↔ (IsIn k old ⊎ (k ≡ place))) where
     pub InHand-written : IsInHand (set_at hand at new) place
-    InHand-written = (new.topic, (at, new, here, refl, (added place).1 (inr refl)))
+    InHand-written = (new.class, (at, new, here, refl, (added place).1 (inr refl)))
 
     pub InHand-kept : (k : ℕ) → IsInHand hand k → IsInHand (set_at hand at new) k
-    InHand-kept k (t, is) = (t, InTopic-kept t k (λ there. (added k).1 (inl there)) is)
+    InHand-kept k (t, is) = (t, InClass-kept t k (λ there. (added k).1 (inl there)) is)
 
-    pub InTopic-written : (t k : ℕ) → IsInTopic (set_at hand at new) t k → IsInTopic hand t k ⊎ ((t ≡ old.topic) × (k ≡ place))
-    InTopic-written t k (i, pile, is_pile, of_topic, is) = elim (cases_equal i at) [
+    pub InClass-written : (t k : ℕ) → IsInClass (set_at hand at new) t k → IsInClass hand t k ⊎ ((t ≡ old.class) × (k ≡ place))
+    InClass-written t k (i, pile, is_pile, of_class, is) = elim (cases_equal i at) [
       | inl same ↦
           let equal : new ≡ pile = same_Some new pile (sym here ∙ ap (slice_get (set_at hand at new)) (sym same) ∙ is_pile) in
-          let of_old : old.topic ≡ t = sym topic ∙ ap (λ (p : Pile). p.topic) equal ∙ of_topic in
+          let of_old : old.class ≡ t = sym class ∙ ap (λ (p : Pile). p.class) equal ∙ of_class in
           elim ((added k).0 (subst (IsIn k) (sym equal) is)) [
             | inl there ↦ inl (at, old, is_old, of_old, there)
             | inr this ↦ inr (sym of_old, this)
           ]
-      | inr apart ↦ inl (i, pile, sym (slice_get-set_other hand at i new apart) ∙ is_pile, of_topic, is)
+      | inr apart ↦ inl (i, pile, sym (slice_get-set_other hand at i new apart) ∙ is_pile, of_class, is)
     ]
 
 -- a pile was added
 module _ (hand : List Pile) (new : Pile) (place : ℕ) (alone : (k : ℕ) → IsIn k new ↔ (k ≡ place)) where
   pub InHand-pushed : IsInHand (hand ++ new ∷ []) place
-  InHand-pushed = (new.topic, (length hand, new, pushed_at hand new, refl, (alone place).1 refl))
+  InHand-pushed = (new.class, (length hand, new, pushed_at hand new, refl, (alone place).1 refl))
 
   pub InHand-left : (k : ℕ) → IsInHand hand k → IsInHand (hand ++ new ∷ []) k
-  InHand-left k (t, (i, pile, is_pile, of_topic, is)) = (t, (i, pile, slice_get-append_left hand (new ∷ []) i pile is_pile, of_topic, is))
+  InHand-left k (t, (i, pile, is_pile, of_class, is)) = (t, (i, pile, slice_get-append_left hand (new ∷ []) i pile is_pile, of_class, is))
 
-  pub InTopic-pushed : (t k : ℕ) → IsInTopic (hand ++ new ∷ []) t k → IsInTopic hand t k ⊎ ((t ≡ new.topic) × (k ≡ place))
-  InTopic-pushed t k (i, pile, is_pile, of_topic, is) = elim (slice_get-append_cases hand (new ∷ []) i pile is_pile) [
-    | inl before ↦ inl (i, pile, before, of_topic, is)
+  pub InClass-pushed : (t k : ℕ) → IsInClass (hand ++ new ∷ []) t k → IsInClass hand t k ⊎ ((t ≡ new.class) × (k ≡ place))
+  InClass-pushed t k (i, pile, is_pile, of_class, is) = elim (slice_get-append_cases hand (new ∷ []) i pile is_pile) [
+    | inl before ↦ inl (i, pile, before, of_class, is)
     | inr (j, at, end) ↦ last j end
   ]
     where
-      last : (j : ℕ) → slice_get (new ∷ []) j ≡ Some pile → IsInTopic hand t k ⊎ ((t ≡ new.topic) × (k ≡ place))
+      last : (j : ℕ) → slice_get (new ∷ []) j ≡ Some pile → IsInClass hand t k ⊎ ((t ≡ new.class) × (k ≡ place))
       last zero end =
           let same : new ≡ pile = same_Some new pile end in
-          inr (sym of_topic ∙ ap (λ (p : Pile). p.topic) (sym same), (alone k).0 (subst (IsIn k) (sym same) is))
+          inr (sym of_class ∙ ap (λ (p : Pile). p.class) (sym same), (alone k).0 (subst (IsIn k) (sym same) is))
       last (suc j) end = cc
 
 -- one of the first n piles has the place
@@ -79,12 +79,12 @@ abbrev pub IsInBelow : List Pile → ℕ → ℕ → Type 0
 IsInBelow hand n k = (i : ℕ) × (pile : Pile) × (i < n) × (slice_get hand i ≡ Some pile) × IsIn k pile
 
 -- the pile after the first n was searched
-module _ (board : Board) (draft : Draft) (from : ℕ) (hand : List Pile) (at : ℕ) (old new : Pile) (is_old : slice_get hand at ≡ Some old) (topic : new.topic ≡ old.topic)
+module _ (board : Board) (draft : Draft) (from : ℕ) (hand : List Pile) (at : ℕ) (old new : Pile) (is_old : slice_get hand at ≡ Some old) (class : new.class ≡ old.class)
     (fewer : (k : ℕ) → IsIn k new → IsIn k old) (kept : (k : ℕ) → IsIn k old → slice_get draft.owners.items k ≡ Some (Some from) → IsIn k new) where
   pub IsHand-searched : IsHand board draft from hand → IsHand board draft from (set_at hand at new)
   IsHand-searched is = record {
-    of_topics = λ t k there. is.of_topics t k (InTopic-fewer hand at old new is_old topic fewer t k there);
-    all = λ k owns. let (t, there) = is.all k owns in (t, InTopic-kept hand at old new is_old topic t k (λ was. kept k was owns) there);
+    of_classes = λ t k there. is.of_classes t k (InClass-fewer hand at old new is_old class fewer t k there);
+    all = λ k owns. let (t, there) = is.all k owns in (t, InClass-kept hand at old new is_old class t k (λ was. kept k was owns) there);
   }
 
   pub IsInBelow-either : (k : ℕ) → IsInBelow (set_at hand at new) (at + 1) k → IsInBelow hand at k ⊎ IsIn k new
@@ -98,12 +98,12 @@ module _ (board : Board) (draft : Draft) (from : ℕ) (hand : List Pile) (at : �
         inl (i, pile, below, sym (slice_get-set_other hand at i new apart) ∙ is_pile, is)
   ]
 
--- what a pile of a hand has is of the pile's topic
-pub IsHand-pile : (board : Board) (draft : Draft) (m at : ℕ) (hand : List Pile) (pile : Pile) → IsHand board draft m hand → slice_get hand at ≡ Some pile → AreOfTopic board.places.items pile
-IsHand-pile board draft m at hand pile is is_pile k is_k = is.of_topics pile.topic k (at, pile, is_pile, refl, is_k)
+-- what a pile of a hand has is of the pile's class
+pub IsHand-pile : (board : Board) (draft : Draft) (m at : ℕ) (hand : List Pile) (pile : Pile) → IsHand board draft m hand → slice_get hand at ≡ Some pile → AreOfClass board pile
+IsHand-pile board draft m at hand pile is is_pile k is_k = is.of_classes pile.class k (at, pile, is_pile, refl, is_k)
 
 -- one of several was written
-written : {X : Type 0} (xs : List X) (m j : ℕ) (new x : X) → m < length xs → (P : ℕ → X → Type 0) → P m new → slice_get (set_at xs m new) j ≡ Some x
+pub written : {X : Type 0} (xs : List X) (m j : ℕ) (new x : X) → m < length xs → (P : ℕ → X → Type 0) → P m new → slice_get (set_at xs m new) j ≡ Some x
     → (((j ≡ m) → ⊥) → slice_get xs j ≡ Some x → P j x) → P j x
 written xs m j new x low P here is there = elim (cases_equal j m) [
   | inl same ↦
@@ -116,36 +116,36 @@ written xs m j new x low P here is there = elim (cases_equal j m) [
 
 module _ (list : List Owned) (one : Owned) where
   IsListedIn-left : (t k : ℕ) → IsListedIn list t k → IsListedIn (list ++ one ∷ []) t k
-  IsListedIn-left t k (i, it, is_it, of_topic, at) = (i, it, slice_get-append_left list (one ∷ []) i it is_it, of_topic, at)
+  IsListedIn-left t k (i, it, is_it, of_class, at) = (i, it, slice_get-append_left list (one ∷ []) i it is_it, of_class, at)
 
-  IsListedIn-last : IsListedIn (list ++ one ∷ []) one.topic one.place
+  IsListedIn-last : IsListedIn (list ++ one ∷ []) one.class one.place
   IsListedIn-last = (length list, one, pushed_at list one, refl, refl)
 
-  IsListedIn-pushed : (t k : ℕ) → IsListedIn (list ++ one ∷ []) t k → IsListedIn list t k ⊎ ((one.topic ≡ t) × (one.place ≡ k))
-  IsListedIn-pushed t k (i, it, is_it, of_topic, at) = elim (slice_get-append_cases list (one ∷ []) i it is_it) [
-    | inl before ↦ inl (i, it, before, of_topic, at)
+  IsListedIn-pushed : (t k : ℕ) → IsListedIn (list ++ one ∷ []) t k → IsListedIn list t k ⊎ ((one.class ≡ t) × (one.place ≡ k))
+  IsListedIn-pushed t k (i, it, is_it, of_class, at) = elim (slice_get-append_cases list (one ∷ []) i it is_it) [
+    | inl before ↦ inl (i, it, before, of_class, at)
     | inr (j, there, end) ↦ inr (last j end)
   ]
     where
-      last : (j : ℕ) → slice_get (one ∷ []) j ≡ Some it → (one.topic ≡ t) × (one.place ≡ k)
-      last zero end = let same : one ≡ it = same_Some one it end in (ap (λ (o : Owned). o.topic) same ∙ of_topic, ap (λ (o : Owned). o.place) same ∙ at)
+      last : (j : ℕ) → slice_get (one ∷ []) j ≡ Some it → (one.class ≡ t) × (one.place ≡ k)
+      last zero end = let same : one ≡ it = same_Some one it end in (ap (λ (o : Owned). o.class) same ∙ of_class, ap (λ (o : Owned). o.place) same ∙ at)
       last (suc j) end = cc
 
 nothing_listed : (list : List Owned) (t k : ℕ) → list ≡ [] → IsListedIn list t k → ⊥
-nothing_listed list t k none (i, one, is_one, of_topic, at) = let there : slice_get [] i ≡ Some one = ap (λ xs. slice_get xs i) (sym none) ∙ is_one in cc
+nothing_listed list t k none (i, one, is_one, of_class, at) = let there : slice_get [] i ≡ Some one = ap (λ xs. slice_get xs i) (sym none) ∙ is_one in cc
 
-nothing_in_hand : (hand : List Pile) (t k : ℕ) → hand ≡ [] → IsInTopic hand t k → ⊥
-nothing_in_hand hand t k none (i, pile, is_pile, of_topic, is) = let there : slice_get [] i ≡ Some pile = ap (λ xs. slice_get xs i) (sym none) ∙ is_pile in cc
+nothing_in_hand : (hand : List Pile) (t k : ℕ) → hand ≡ [] → IsInClass hand t k → ⊥
+nothing_in_hand hand t k none (i, pile, is_pile, of_class, is) = let there : slice_get [] i ≡ Some pile = ap (λ xs. slice_get xs i) (sym none) ∙ is_pile in cc
 
 -- one of several empty ones
-empty_at : {X : Type 0} (xs : List X) (items : X → Type 0) (m : ℕ) (x : X) → All items xs → slice_get xs m ≡ Some x → items x
+pub empty_at : {X : Type 0} (xs : List X) (items : X → Type 0) (m : ℕ) (x : X) → All items xs → slice_get xs m ≡ Some x → items x
 empty_at xs items m x empty is = subst items (get_or_from_slice_get xs m x x is) (empty m x (slice_get_within xs m x is))
 
 module _ (board : Board) (draft : Draft) where
   pub AreListed-none : (lists : List Listed) → length lists ≡ length draft.counts.items → All (λ (list : Listed). list.items ≡ []) lists → AreListed board draft 0 lists
   AreListed-none lists many empty = record {
     as_many = many;
-    of_topics = λ m t k list is_list listed. absurd (nothing_listed list.items t k (empty_at lists (λ (l : Listed). l.items ≡ []) m list empty is_list) listed);
+    of_classes = λ m t k list is_list listed. absurd (nothing_listed list.items t k (empty_at lists (λ (l : Listed). l.items ≡ []) m list empty is_list) listed);
     all = λ m k list low. absurd (omega arith);
   }
 
@@ -154,7 +154,7 @@ module _ (board : Board) (draft : Draft) where
     pub AreListed-skip : ((m : ℕ) → ¬ (slice_get draft.owners.items n ≡ Some (Some m))) → AreListed board draft (n + 1) lists
     AreListed-skip nobody = record {
       as_many = are.as_many;
-      of_topics = are.of_topics;
+      of_classes = are.of_classes;
       all = λ m k list low is_list owns. elim (cases_order k n) [
         | inl same ↦ absurd (nobody m (ap (slice_get draft.owners.items) (sym same) ∙ owns))
         | inr apart ↦ elim apart [ inl less ↦ are.all m k list less is_list owns | inr more ↦ absurd (omega arith) ]
@@ -162,22 +162,22 @@ module _ (board : Board) (draft : Draft) where
     }
 
     -- it was added to its owner's list
-    pub AreListed-added : (m : ℕ) (place : Place) (old new : Listed) (one : Owned) → slice_get draft.owners.items n ≡ Some (Some m) → slice_get board.places.items n ≡ Some place
-        → slice_get lists m ≡ Some old → new.items ≡ old.items ++ one ∷ [] → one.topic ≡ place.topic → one.place ≡ n → AreListed board draft (n + 1) (set_at lists m new)
-    AreListed-added m place old new one owned is_place is_old pushed topic at = record {
+    pub AreListed-added : (m : ℕ) (old new : Listed) (one : Owned) → slice_get draft.owners.items n ≡ Some (Some m)
+        → slice_get lists m ≡ Some old → new.items ≡ old.items ++ one ∷ [] → IsOfClass board n one.class → one.place ≡ n → AreListed board draft (n + 1) (set_at lists m new)
+    AreListed-added m old new one owned is_old pushed class at = record {
       as_many = length-set lists m new ∙ are.as_many;
-      of_topics = λ j t k list is_list. written lists m j new list low
-          (λ i (l : Listed). IsListedIn l.items t k → (place : Place) × (slice_get board.places.items k ≡ Some place) × (place.topic ≡ t))
+      of_classes = λ j t k list is_list. written lists m j new list low
+          (λ i (l : Listed). IsListedIn l.items t k → IsOfClass board k t)
           (λ listed. elim (IsListedIn-pushed old.items one t k (subst (λ xs. IsListedIn xs t k) pushed listed)) [
-            | inl before ↦ are.of_topics m t k old is_old before
-            | inr (of_topic, there) ↦ (place, ap (slice_get board.places.items) (sym there ∙ at) ∙ is_place, sym topic ∙ of_topic)
+            | inl before ↦ are.of_classes m t k old is_old before
+            | inr (of_class, there) ↦ subst (λ i. IsOfClass board i t) (sym at ∙ there) (subst (IsOfClass board n) of_class class)
           ])
           is_list
-          (λ apart was. are.of_topics j t k list was);
+          (λ apart was. are.of_classes j t k list was);
       all = λ j k list within is_list owns. written lists m j new list low
           (λ i (l : Listed). (slice_get draft.owners.items k ≡ Some (Some i)) → (t : ℕ) × IsListedIn l.items t k)
           (λ mine. elim (cases_order k n) [
-            | inl same ↦ (one.topic, subst (λ i. IsListedIn new.items one.topic i) (at ∙ sym same) (subst (λ xs. IsListedIn xs one.topic one.place) (sym pushed) (IsListedIn-last old.items one)))
+            | inl same ↦ (one.class, subst (λ i. IsListedIn new.items one.class i) (at ∙ sym same) (subst (λ xs. IsListedIn xs one.class one.place) (sym pushed) (IsListedIn-last old.items one)))
             | inr other ↦ elim other [
               | inl less ↦ let (t, listed) = are.all m k old less is_old mine in (t, subst (λ xs. IsListedIn xs t k) (sym pushed) (IsListedIn-left old.items one t k listed))
               | inr more ↦ absurd (omega arith)
@@ -205,8 +205,8 @@ AreHeld-none board draft hands lists owners many empty are = record {
   as_many = many;
   as_many_lists = are.as_many;
   held = λ m hand list is_hand is_list. record {
-    of_topics = λ t k there. absurd (nothing_in_hand hand.items t k (empty_at hands (λ (h : Hand). h.items ≡ []) m hand empty is_hand) there);
-    listed_topics = λ t k listed. are.of_topics m t k list is_list listed;
+    of_classes = λ t k there. absurd (nothing_in_hand hand.items t k (empty_at hands (λ (h : Hand). h.items ≡ []) m hand empty is_hand) there);
+    listed_classes = λ t k listed. are.of_classes m t k list is_list listed;
     all = λ k owns. let low = slice_get_within draft.owners.items k (Some m) owns in inr (are.all m k list (omega arith) is_list owns);
   };
 }
@@ -221,7 +221,7 @@ module _ (board : Board) (draft : Draft) (hands : List Hand) (lists : List Liste
     as_many = length-set hands m new ∙ are.as_many;
     as_many_lists = are.as_many_lists;
     held = λ j hand list is_hand is_list. written hands m j new hand low_hand (λ i (h : Hand). slice_get lists i ≡ Some list → IsHeld board draft i h.items list.items)
-        (λ is_mine. let held = are.held m old list is_old is_mine in record { of_topics = is.of_topics; listed_topics = held.listed_topics; all = λ k owns. inl (is.all k owns) })
+        (λ is_mine. let held = are.held m old list is_old is_mine in record { of_classes = is.of_classes; listed_classes = held.listed_classes; all = λ k owns. inl (is.all k owns) })
         is_hand
         (λ apart was. are.held j hand list was)
         is_list;
@@ -232,15 +232,15 @@ module _ (board : Board) (draft : Draft) (hands : List Hand) (lists : List Liste
   IsHand-drawn list is_list none =
       let held = are.held m old list is_old is_list in
       record {
-        of_topics = held.of_topics;
+        of_classes = held.of_classes;
         all = λ k owns. elim (held.all k owns) [ inl there ↦ there | inr (t, listed) ↦ absurd (nothing_listed list.items t k none listed) ];
       }
 
   -- what was listed is in the piles
   pub AreHeld-drawn : (new : Hand) (list empty : Listed) → slice_get lists m ≡ Some list → empty.items ≡ [] → ((t k : ℕ) → IsListedIn list.items t k → IsInHand new.items k)
-      → ((k : ℕ) → IsInHand old.items k → IsInHand new.items k) → ((t k : ℕ) → IsInTopic new.items t k → IsInTopic old.items t k ⊎ IsListedIn list.items t k)
+      → ((k : ℕ) → IsInHand old.items k → IsInHand new.items k) → ((t k : ℕ) → IsInClass new.items t k → IsInClass old.items t k ⊎ IsListedIn list.items t k)
       → AreHeld board draft (set_at hands m new) (set_at lists m empty)
-  AreHeld-drawn new list empty is_list none drawn kept topics = record {
+  AreHeld-drawn new list empty is_list none drawn kept classes = record {
     as_many = length-set hands m new ∙ are.as_many;
     as_many_lists = length-set lists m empty ∙ are.as_many_lists;
     held = λ j hand other is_hand is_other. written hands m j new hand low_hand (λ i (h : Hand). slice_get (set_at lists m empty) i ≡ Some other → IsHeld board draft i h.items other.items)
@@ -248,8 +248,8 @@ module _ (board : Board) (draft : Draft) (hands : List Hand) (lists : List Liste
         let here : empty ≡ other = same_Some empty other (sym (slice_get-set_same lists m empty (slice_get_within lists m list is_list)) ∙ is_mine) in
         let nothing : other.items ≡ [] = ap (λ (l : Listed). l.items) (sym here) ∙ none in
         record {
-          of_topics = λ t k there. elim (topics t k there) [ inl was ↦ held.of_topics t k was | inr listed ↦ held.listed_topics t k listed ];
-          listed_topics = λ t k listed. absurd (nothing_listed other.items t k nothing listed);
+          of_classes = λ t k there. elim (classes t k there) [ inl was ↦ held.of_classes t k was | inr listed ↦ held.listed_classes t k listed ];
+          listed_classes = λ t k listed. absurd (nothing_listed other.items t k nothing listed);
           all = λ k owns. inl (elim (held.all k owns) [ inl was ↦ kept k was | inr (t, listed) ↦ drawn t k listed ]);
         })
         is_hand
@@ -261,20 +261,20 @@ module _ (board : Board) (draft : Draft) (hands : List Hand) (lists : List Liste
       held = are.held m old list is_old is_list
 
 -- a partition was given to a member
-pub AreHeld-gained : (board : Board) (old new : Draft) (hands : List Hand) (lists : List Listed) → AreHeld board old hands lists → (m k : ℕ) (place : Place) (hand more : Hand)
-    → slice_get hands m ≡ Some hand → slice_get board.places.items k ≡ Some place → length new.counts.items ≡ length old.counts.items → new.owners.items ≡ set_at old.owners.items k (Some m)
-    → IsInHand more.items k → ((i : ℕ) → IsInHand hand.items i → IsInHand more.items i) → ((t i : ℕ) → IsInTopic more.items t i → IsInTopic hand.items t i ⊎ ((t ≡ place.topic) × (i ≡ k)))
+pub AreHeld-gained : (board : Board) (old new : Draft) (hands : List Hand) (lists : List Listed) → AreHeld board old hands lists → (m k class : ℕ) (hand more : Hand)
+    → slice_get hands m ≡ Some hand → IsOfClass board k class → length new.counts.items ≡ length old.counts.items → new.owners.items ≡ set_at old.owners.items k (Some m)
+    → IsInHand more.items k → ((i : ℕ) → IsInHand hand.items i → IsInHand more.items i) → ((t i : ℕ) → IsInClass more.items t i → IsInClass hand.items t i ⊎ ((t ≡ class) × (i ≡ k)))
     → AreHeld board new (set_at hands m more) lists
-AreHeld-gained board old new hands lists are m k place hand more is_hand is_place many given added kept topics = record {
+AreHeld-gained board old new hands lists are m k class hand more is_hand is_class many given added kept classes = record {
   as_many = length-set hands m more ∙ are.as_many ∙ sym many;
   as_many_lists = are.as_many_lists ∙ sym many;
   held = λ j h list there is_list. written hands m j more h (slice_get_within hands m hand is_hand) (λ i (x : Hand). slice_get lists i ≡ Some list → IsHeld board new i x.items list.items)
       (λ is_mine. let is = are.held m hand list is_hand is_mine in record {
-        of_topics = λ t i inside. elim (topics t i inside) [
-          | inl was ↦ is.of_topics t i was
-          | inr (of_topic, this) ↦ (place, ap (slice_get board.places.items) this ∙ is_place, sym of_topic)
+        of_classes = λ t i inside. elim (classes t i inside) [
+          | inl was ↦ is.of_classes t i was
+          | inr (of_class, this) ↦ subst (IsOfClass board i) (sym of_class) (subst (λ j. IsOfClass board j class) (sym this) is_class)
         ];
-        listed_topics = is.listed_topics;
+        listed_classes = is.listed_classes;
         all = λ i owns. elim (before i m owns) [
           | inl was ↦ elim (is.all i was) [ inl inside ↦ inl (kept i inside) | inr listed ↦ inr listed ]
           | inr this ↦ inl (subst (IsInHand more.items) (sym this.0) added)
@@ -282,8 +282,8 @@ AreHeld-gained board old new hands lists are m k place hand more is_hand is_plac
       })
       there
       (λ apart was is_his. let is = are.held j h list was is_his in record {
-        of_topics = is.of_topics;
-        listed_topics = is.listed_topics;
+        of_classes = is.of_classes;
+        listed_classes = is.listed_classes;
         all = λ i owns. elim (before i j owns) [ inl his ↦ is.all i his | inr this ↦ absurd (apart this.1) ];
       })
       is_list;

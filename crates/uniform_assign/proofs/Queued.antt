@@ -1,7 +1,7 @@
--- The queue of a topic's subscribers, and what a partition that is given changes in it.
-use Rattle.std.proofs.Common.{◌≡◌, ℕ, zero, suc, ◌<◌, ◌≤◌, ◌+◌, List, [], ◌∷◌, ◌++◌, length, get_or, set as set_at, slice_get, refl, sym, ap, subst, ◌∙◌, arith, inl, inr, Option, Some, None, length-set, get_or-set_other, get_or-set_same}
+-- The queue of a class's takers, and what a partition that is given changes in it.
+use Rattle.std.proofs.Common.{◌≡◌, ◌⊎◌, ℕ, zero, suc, ◌<◌, ◌≤◌, ◌+◌, List, [], ◌∷◌, ◌++◌, length, get_or, set as set_at, slice_get, refl, sym, ap, subst, ◌∙◌, arith, inl, inr, Option, Some, None, length-set, get_or-set_other, get_or-set_same}
 use Rattle.std.specs.Global.{Vec}
-use Rattle.std.proofs.lemmas.List.{length-map, length_push}
+use Rattle.std.proofs.lemmas.List.{length-map, length_push, set-set}
 use Rattle.std.proofs.lemmas.Bool.{cases_lt, cases_order}
 use Rattle.std.proofs.lemmas.Option.{get_or_from_slice_get, same_Some, slice_get_within}
 use Rattle.group_types.specs.Text.{Text}
@@ -12,15 +12,17 @@ use Rattle.uniform_assign.specs.declared.board.Place.{Place}
 use Rattle.uniform_assign.specs.declared.draft.Draft.{Draft}
 use Rattle.uniform_assign.specs.declared.ranking.Rank.{Rank}
 use Rattle.uniform_assign.specs.declared.ranking.Ranking.{Ranking}
-use Rattle.uniform_assign.specs.Boards.{AreTakersOf, IsBoard, Rises, members_on}
+use Rattle.uniform_assign.specs.Boards.{AreTakersOf, IsBoard, IsOfClass, Rises, members_on}
 use Rattle.uniform_assign.specs.Drafts.{AreCounts, IsDraft, IsLeast}
+use Rattle.uniform_assign.specs.declared.seats.Seat.{Seat}
 use Rattle.uniform_assign.specs.declared.wheel.Wheel.{Wheel}
 use Rattle.uniform_assign.specs.Wheels.{IsWheel, IsWheelOf}
-use Rattle.uniform_assign.specs.Rankings.{AreRankings, IsLeastAt, IsOfTopic, IsRanking, counts_of}
-use Rattle.uniform_assign.proofs.Boards.{IsAt, at_place, least-within, taker_here}
+use Rattle.uniform_assign.specs.Rankings.{AreRankings, IsFirstRank, IsLeastAt, IsRanking, counts_of}
+use Rattle.uniform_assign.specs.Seats.{AreSeatsOf}
+use Rattle.uniform_assign.proofs.Boards.{IsAt, at_place, least-within, taker_here, taker_within}
 use Rattle.uniform_assign.proofs.Counts.{AreCounts-given, cases_equal}
 use Rattle.uniform_assign.proofs.Kept.{slice_get-set_other, slice_get-set_same}
-use Rattle.uniform_assign.proofs.Lists.{AreOnce, AreOnce-filter, slice_get-append_cases, slice_get-map_at, slice_get-map_from}
+use Rattle.uniform_assign.proofs.Lists.{AreOnce, AreOnce-filter, slice_get-append_cases, slice_get-map_at, slice_get-map_from, some_at}
 
 -- no member takes a topic twice
 pub AreOnce-takers : (subs : List Subscriber) (name : Text) (takers : List ℕ) → IdsAreApart subs → AreTakersOf subs name takers → AreOnce takers
@@ -110,24 +112,24 @@ module _ (owners : List (Option ℕ)) (counts new takers : List ℕ) (at k m : �
       same_counts (set_at owners at (Some m)) new (set_at counts m (get_or counts m 0 + 1)) m after (AreCounts-given owners counts at m are free low) (omega arith) (omega arith)
       ∙ get_or-set_same counts m (get_or counts m 0 + 1) 0 low
 
--- ---- the queue of a partition's topic
+-- ---- the queue of a partition's class
 
--- the takers of the partition's topic, whose queue it is
-pub record IsQueued (board : Board) (draft : Draft) (at topic : ℕ) (wheel : Wheel) : Type 0 where
+-- the takers of the partition's class, whose queue it is
+pub record IsQueued (board : Board) (draft : Draft) (at class : ℕ) (wheel : Wheel) : Type 0 where
   pub place : Place
   pub is_at : IsAt board at place
-  pub are_takers : slice_get board.takers.items topic ≡ Some is_at.takers
+  pub are_takers : slice_get board.takers.items class ≡ Some is_at.takers
   pub wheel_of : IsWheel (counts_of draft.counts.items is_at.takers.items) wheel
 
-pub IsQueued-of : (board : Board) (draft : Draft) (at topic : ℕ) (wheel : Wheel) → IsBoard board → IsOfTopic board at topic → IsWheelOf board draft topic wheel → IsQueued board draft at topic wheel
-IsQueued-of board draft at topic wheel is (place, is_place, same) of =
+pub IsQueued-of : (board : Board) (draft : Draft) (at class : ℕ) (wheel : Wheel) → IsBoard board → IsOfClass board at class → IsWheelOf board draft class wheel → IsQueued board draft at class wheel
+IsQueued-of board draft at class wheel is (place, is_place, is_class) of =
     let here = at_place board is at place is_place in
-    let are = ap (slice_get board.takers.items) (sym same) ∙ here.are_there in
+    let are = ap (slice_get board.takers.items) (same_Some class here.class (sym is_class ∙ here.is_class)) ∙ here.are_there in
     record { place = place; is_at = here; are_takers = are; wheel_of = of here.takers are }
 
 -- the first in the queue
-pub record IsFirstIn (board : Board) (draft : Draft) (at topic : ℕ) (wheel : Wheel) (k m : ℕ) : Type 0 where
-  pub queued : IsQueued board draft at topic wheel
+pub record IsFirstIn (board : Board) (draft : Draft) (at class : ℕ) (wheel : Wheel) (k m : ℕ) : Type 0 where
+  pub queued : IsQueued board draft at class wheel
   pub is_taker : slice_get queued.is_at.takers.items k ≡ Some m
   pub least : IsLeast draft.counts.items queued.is_at.takers.items m
   pub member : Subscriber
@@ -135,13 +137,13 @@ pub record IsFirstIn (board : Board) (draft : Draft) (at topic : ℕ) (wheel : W
   pub within : m < length draft.counts.items
   pub room : k < length wheel.counts.items
 
-pub first-within : (board : Board) (draft : Draft) (at topic k : ℕ) (wheel : Wheel) → (queued : IsQueued board draft at topic wheel) → IsLeastAt (counts_of draft.counts.items queued.is_at.takers.items) k → k < length queued.is_at.takers.items
-first-within board draft at topic k wheel queued least =
+pub first-within : (board : Board) (draft : Draft) (at class k : ℕ) (wheel : Wheel) → (queued : IsQueued board draft at class wheel) → IsLeastAt (counts_of draft.counts.items queued.is_at.takers.items) k → k < length queued.is_at.takers.items
+first-within board draft at class k wheel queued least =
     let long = length-map queued.is_at.takers.items (λ u. get_or draft.counts.items u 0) in let low = least.within in omega arith
 
-pub IsFirstIn-of : (board : Board) (draft : Draft) (at topic k m : ℕ) (wheel : Wheel) → IsDraft board draft → (queued : IsQueued board draft at topic wheel) → IsLeastAt (counts_of draft.counts.items queued.is_at.takers.items) k
-    → slice_get queued.is_at.takers.items k ≡ Some m → IsFirstIn board draft at topic wheel k m
-IsFirstIn-of board draft at topic k m wheel are queued least is_m =
+pub IsFirstIn-of : (board : Board) (draft : Draft) (at class k m : ℕ) (wheel : Wheel) → IsDraft board draft → (queued : IsQueued board draft at class wheel) → IsLeastAt (counts_of draft.counts.items queued.is_at.takers.items) k
+    → slice_get queued.is_at.takers.items k ≡ Some m → IsFirstIn board draft at class wheel k m
+IsFirstIn-of board draft at class k m wheel are queued least is_m =
     let takers = queued.is_at.takers.items in
     let is_least = IsLeast-ranked draft.counts.items takers k m least is_m in
     let (s, is_s) = least-within (members_on board) queued.is_at.topic.0 draft.counts.items takers m queued.is_at.are_takers is_least in
@@ -151,7 +153,7 @@ IsFirstIn-of board draft at topic k m wheel are queued least is_m =
     let inside = least.within in
     record { queued = queued; is_taker = is_m; least = is_least; member = s; is_member = is_s; within = omega arith; room = omega arith }
 
--- ---- all topics
+-- ---- all classes
 
 pub AreOnce-rises : (xs : List ℕ) → Rises xs → AreOnce xs
 AreOnce-rises xs rise i j x is_i is_j = elim (cases_order i j) [
@@ -199,57 +201,127 @@ IsRanking-unwritten counts takers member count nodes away is =
     ∙ ap Some (sym (get_or-set_other counts member t count 0 (λ taker. away j (is_t ∙ ap Some taker))) ∙ same))
     is
 
--- the topics before the nth have the new count of the member, and the others have their old rankings
-pub record AreRenewed (board : Board) (old new : List Ranking) (member count n : ℕ) : Type 0 where
+-- the ranking has the new count of the member
+abbrev IsRenewed : Board → List Ranking → List Ranking → ℕ → ℕ → ℕ → Type 0
+IsRenewed board old new member count class =
+    (counts : List ℕ) (takers : Vec ℕ) (ranking : Ranking) → member < length counts → AreRankings board counts old → slice_get board.takers.items class ≡ Some takers → slice_get new class ≡ Some ranking
+    → IsRanking (counts_of (set_at counts member count) takers.items) ranking.nodes.items
+
+-- the classes of the first n places have the new count of the member, and each other class has it or is as it was
+pub record AreRenewed (board : Board) (old new : List Ranking) (seats : List Seat) (member count n : ℕ) : Type 0 where
   pub as_many : length new ≡ length old
-  pub rest : (t : ℕ) → n ≤ t → slice_get new t ≡ slice_get old t
-  pub renewed : (counts : List ℕ) → member < length counts → AreRankings board counts old → (t : ℕ) (takers : Vec ℕ) (ranking : Ranking) → t < n → slice_get board.takers.items t ≡ Some takers → slice_get new t ≡ Some ranking
-      → IsRanking (counts_of (set_at counts member count) takers.items) ranking.nodes.items
+  pub either : (c : ℕ) → (slice_get new c ≡ slice_get old c) ⊎ IsRenewed board old new member count c
+  pub renewed : (i : ℕ) (seat : Seat) → i < n → slice_get seats i ≡ Some seat → IsRenewed board old new member count seat.class
 
-pub AreRenewed-none : (board : Board) (old : List Ranking) (member count : ℕ) → AreRenewed board old old member count 0
-AreRenewed-none board old member count = record { as_many = refl; rest = λ t low. refl; renewed = λ counts low are t takers ranking early. absurd (omega arith) }
+pub AreRenewed-none : (board : Board) (old : List Ranking) (seats : List Seat) (member count : ℕ) → AreRenewed board old old seats member count 0
+AreRenewed-none board old seats member count = record { as_many = refl; either = λ c. inl refl; renewed = λ i seat early. absurd (omega arith) }
 
-module _ (board : Board) (old new : List Ranking) (member count n : ℕ) (before : AreRenewed board old new member count n) (takers : Vec ℕ) (is_takers : slice_get board.takers.items n ≡ Some takers) where
-  pub AreRenewed-skip : ((k : ℕ) → slice_get takers.items k ≡ Some member → ⊥) → AreRenewed board old new member count (n + 1)
-  AreRenewed-skip away = record {
-    as_many = before.as_many;
-    rest = λ t low. before.rest t (omega arith);
-    renewed = λ counts within are t others ranking low is_others is_ranking. elim (cases_lt t n) [
-      | inl below ↦ before.renewed counts within are t others ranking below is_others is_ranking
-      | inr above ↦
-          let last : t ≡ n = omega arith in
-          let same : takers ≡ others = same_Some takers others (sym is_takers ∙ ap (slice_get board.takers.items) (sym last) ∙ is_others) in
-          let was = are.each t others ranking is_others (sym (before.rest t (omega arith)) ∙ is_ranking) in
-          IsRanking-unwritten counts others.items member count ranking.nodes.items (subst (λ (v : Vec ℕ). (k : ℕ) → slice_get v.items k ≡ Some member → ⊥) same away) was
+-- how many nodes the ranking of a class has while counts are written
+pub nodes-renewed : (board : Board) (old new : List Ranking) (seats : List Seat) (member count n : ℕ) → AreRenewed board old new seats member count n → (counts : List ℕ) → member < length counts → AreRankings board counts old
+    → (class : ℕ) (takers : Vec ℕ) (ranking : Ranking) → slice_get board.takers.items class ≡ Some takers → slice_get new class ≡ Some ranking → length ranking.nodes.items ≡ length takers.items + length takers.items
+nodes-renewed board old new seats member count n done counts within are class takers ranking is_takers is_ranking = elim (done.either class) [
+  | inl same ↦
+      let many = (are.each class takers ranking is_takers (sym same ∙ is_ranking)).are_ranks.as_many in
+      let long = length-map takers.items (λ t. get_or counts t 0) in
+      omega arith
+  | inr renewed ↦
+      let many = (renewed counts takers ranking within are is_takers is_ranking).are_ranks.as_many in
+      let long = length-map takers.items (λ t. get_or (set_at counts member count) t 0) in
+      omega arith
+]
+
+-- the count is written in one class more
+module _ (board : Board) (old new : List Ranking) (seats : List Seat) (member count n : ℕ) (before : AreRenewed board old new seats member count n) (is_board : IsBoard board)
+    (seat : Seat) (is_seat : slice_get seats n ≡ Some seat) (takers : Vec ℕ) (is_takers : slice_get board.takers.items seat.class ≡ Some takers) (is_member : slice_get takers.items seat.place ≡ Some member)
+    (was now : Ranking) (is_was : slice_get new seat.class ≡ Some was) (sets : (counts : List ℕ) → IsRanking counts was.nodes.items → IsRanking (set_at counts seat.place count) now.nodes.items) where
+  abbrev after : List Ranking
+  after = set_at new seat.class now
+
+  once : AreOnce takers.items
+  once = AreOnce-rises takers.items (is_board.rise seat.class takers is_takers)
+
+  -- the ranking that was written
+  written : (counts : List ℕ) → member < length counts → AreRankings board counts old → IsRanking (counts_of (set_at counts member count) takers.items) now.nodes.items
+  written counts within are = elim (before.either seat.class) [
+    | inl same ↦
+        IsRanking-written counts takers.items member count seat.place now.nodes.items once is_member within
+        (sets (counts_of counts takers.items) (are.each seat.class takers was is_takers (sym same ∙ is_was)))
+    | inr renewed ↦
+        let twice = set_at counts member count in
+        let long = length-set counts member count in
+        subst (λ (xs : List ℕ). IsRanking (counts_of xs takers.items) now.nodes.items) (set-set counts member count count)
+        (IsRanking-written twice takers.items member count seat.place now.nodes.items once is_member (omega arith)
+        (sets (counts_of twice takers.items) (renewed counts takers was within are is_takers is_was)))
+  ]
+
+  here : (class : ℕ) → class ≡ seat.class → IsRenewed board old after member count class
+  here class same counts others ranking within are is_others is_ranking =
+      let taken : takers ≡ others = same_Some takers others (sym is_takers ∙ ap (slice_get board.takers.items) (sym same) ∙ is_others) in
+      let put : now ≡ ranking = same_Some now ranking (sym (slice_get-set_same new seat.class now (slice_get_within new seat.class was is_was)) ∙ ap (slice_get after) (sym same) ∙ is_ranking) in
+      subst (λ (v : Vec ℕ). IsRanking (counts_of (set_at counts member count) v.items) ranking.nodes.items) taken
+      (subst (λ (r : Ranking). IsRanking (counts_of (set_at counts member count) takers.items) r.nodes.items) put (written counts within are))
+
+  there : (class : ℕ) → (class ≡ seat.class → ⊥) → IsRenewed board old new member count class → IsRenewed board old after member count class
+  there class apart renewed counts others ranking within are is_others is_ranking =
+      renewed counts others ranking within are is_others (sym (slice_get-set_other new seat.class class now apart) ∙ is_ranking)
+
+  pub AreRenewed-more : AreRenewed board old (set_at new seat.class now) seats member count (n + 1)
+  AreRenewed-more = record {
+    as_many = length-set new seat.class now ∙ before.as_many;
+    either = λ c. elim (cases_equal c seat.class) [
+      | inl same ↦ inr (here c same)
+      | inr apart ↦ elim (before.either c) [
+        | inl same ↦ inl (slice_get-set_other new seat.class c now apart ∙ same)
+        | inr renewed ↦ inr (there c apart renewed)
+      ]
+    ];
+    renewed = λ i other low is_other. elim (cases_equal other.class seat.class) [
+      | inl same ↦ here other.class same
+      | inr apart ↦ elim (cases_lt i n) [
+        | inl below ↦ there other.class apart (before.renewed i other below is_other)
+        | inr above ↦
+            let last : n ≡ i = omega arith in
+            let one : seat ≡ other = same_Some seat other (sym is_seat ∙ ap (slice_get seats) last ∙ is_other) in
+            absurd (apart (ap (λ (s : Seat). s.class) (sym one)))
+      ]
     ];
   }
 
-  pub AreRenewed-set : (k : ℕ) (was now : Ranking) → AreOnce takers.items → slice_get takers.items k ≡ Some member → slice_get new n ≡ Some was
-      → ((counts : List ℕ) → IsRanking counts was.nodes.items → IsRanking (set_at counts k count) now.nodes.items) → AreRenewed board old (set_at new n now) member count (n + 1)
-  AreRenewed-set k was now once is_member is_was sets = record {
-    as_many = length-set new n now ∙ before.as_many;
-    rest = λ t low. slice_get-set_other new n t now (λ same. omega arith) ∙ before.rest t (omega arith);
-    renewed = λ counts within are t others ranking low is_others is_ranking. elim (cases_lt t n) [
-      | inl below ↦ before.renewed counts within are t others ranking below is_others (sym (slice_get-set_other new n t now (λ same. omega arith)) ∙ is_ranking)
-      | inr above ↦
-          let last : n ≡ t = omega arith in
-          let same : takers ≡ others = same_Some takers others (sym is_takers ∙ ap (slice_get board.takers.items) last ∙ is_others) in
-          let here : now ≡ ranking = same_Some now ranking (sym (slice_get-set_same new n now (slice_get_within new n was is_was)) ∙ ap (slice_get (set_at new n now)) last ∙ is_ranking) in
-          let ranked = are.each n takers was is_takers (sym (before.rest n (omega arith)) ∙ is_was) in
-          subst (λ (v : Vec ℕ). IsRanking (counts_of (set_at counts member count) v.items) ranking.nodes.items) same
-          (subst (λ (r : Ranking). IsRanking (counts_of (set_at counts member count) takers.items) r.nodes.items) here
-          (IsRanking-written counts takers.items member count k now.nodes.items once is_member within (sets (counts_of counts takers.items) ranked)))
-    ];
-  }
+-- a number is in a list, or it isn't
+is_among : (xs : List ℕ) (m : ℕ) → ((k : ℕ) × (slice_get xs k ≡ Some m)) ⊎ ((k : ℕ) → slice_get xs k ≡ Some m → ⊥)
+is_among [] m = inr (nowhere m)
+  where
+    nowhere : (m k : ℕ) → slice_get [] k ≡ Some m → ⊥
+    nowhere m k is = cc
+is_among (x ∷ xs) m = elim (cases_equal x m) [
+  | inl same ↦ inl (0, ap Some same)
+  | inr apart ↦ elim (is_among xs m) [
+    | inl (k, is) ↦ inl (suc k, is)
+    | inr away ↦ inr (neither apart away)
+  ]
+]
+  where
+    neither : (x ≡ m → ⊥) → ((k : ℕ) → slice_get xs k ≡ Some m → ⊥) → (k : ℕ) → slice_get (x ∷ xs) k ≡ Some m → ⊥
+    neither apart away zero is = apart (same_Some x m is)
+    neither apart away (suc k) is = away k is
 
-pub AreRenewed-all : (board : Board) (old new : List Ranking) (member count n : ℕ) → AreRenewed board old new member count n → length board.takers.items ≤ n → (counts : List ℕ) → member < length counts → AreRankings board counts old
-    → AreRankings board (set_at counts member count) new
-AreRenewed-all board old new member count n done all counts within are = record {
+pub AreRenewed-all : (board : Board) (old new : List Ranking) (seats : List Seat) (member count n : ℕ) → AreRenewed board old new seats member count n → AreSeatsOf board member seats → length seats ≤ n
+    → (counts : List ℕ) → member < length counts → AreRankings board counts old → AreRankings board (set_at counts member count) new
+AreRenewed-all board old new seats member count n done seated all counts within are = record {
   as_many = done.as_many ∙ are.as_many;
-  each = λ t takers ranking is_takers is_ranking. done.renewed counts within are t takers ranking (let low = slice_get_within board.takers.items t takers is_takers in omega arith) is_takers is_ranking;
+  each = λ c takers ranking is_takers is_ranking. elim (is_among takers.items member) [
+    | inl (k, is) ↦
+        let (i, is_seat) = seated.all (record { class = c; place = k }) (takers, is_takers, is) in
+        let low = slice_get_within seats i (record { class = c; place = k }) is_seat in
+        done.renewed i (record { class = c; place = k }) (omega arith) is_seat counts takers ranking within are is_takers is_ranking
+    | inr away ↦ elim (done.either c) [
+      | inl same ↦ IsRanking-unwritten counts takers.items member count ranking.nodes.items away (are.each c takers ranking is_takers (sym same ∙ is_ranking))
+      | inr renewed ↦ renewed counts takers ranking within are is_takers is_ranking
+    ]
+  ];
 }
 
--- the first n topics have their rankings
+-- the first n classes have their rankings
 pub record AreRankingsTo (board : Board) (counts : List ℕ) (n : ℕ) (rankings : List Ranking) : Type 0 where
   pub as_many : length rankings ≡ n
   pub each : (t : ℕ) (takers : Vec ℕ) (ranking : Ranking) → slice_get board.takers.items t ≡ Some takers → slice_get rankings t ≡ Some ranking → IsRanking (counts_of counts takers.items) ranking.nodes.items
@@ -281,3 +353,31 @@ AreRankingsTo-more board counts n rankings takers ranking before is_takers is = 
     last : (j : ℕ) (other : Ranking) → slice_get (ranking ∷ []) j ≡ Some other → (j ≡ 0) × (ranking ≡ other)
     last zero other end = (refl, same_Some ranking other end)
     last (suc j) other end = cc
+
+-- ---- the first of a class
+
+-- the first of a class's ranking is the taker that owns the fewest
+pub record IsFirstTaker (draft : Draft) (takers : List ℕ) (rank : Rank) : Type 0 where
+  pub member : ℕ
+  pub is_member : slice_get takers rank.place ≡ Some member
+  pub least : IsLeast draft.counts.items takers member
+  pub count : rank.count ≡ get_or draft.counts.items member 0
+  pub within : member < length draft.counts.items
+
+pub IsFirstTaker-of : (board : Board) (draft : Draft) → IsBoard board → IsDraft board draft → (class : ℕ) (takers : Vec ℕ) (rank : Rank) → slice_get board.takers.items class ≡ Some takers
+    → IsFirstRank (counts_of draft.counts.items takers.items) rank → IsFirstTaker draft takers.items rank
+IsFirstTaker-of board draft is are class takers rank is_takers first =
+    let counts = draft.counts.items in
+    let long = length-map takers.items (λ u. get_or counts u 0) in
+    let inside = first.least.within in
+    let (m, is_m) = some_at takers.items rank.place (omega arith) in
+    let low = taker_within board is class rank.place m takers is_takers is_m in
+    let many = are.as_many_counts in
+    let value = get_or_from_slice_get (counts_of counts takers.items) rank.place (get_or counts m 0) 0 (slice_get-map_at (λ u. get_or counts u 0) takers.items rank.place m is_m) in
+    record {
+      member = m;
+      is_member = is_m;
+      least = IsLeast-ranked counts takers.items rank.place m first.least is_m;
+      count = sym first.count ∙ value;
+      within = omega arith;
+    }

@@ -1,12 +1,12 @@
 -- The move that follows, as it is looked for member by member in their order.
-use Rattle.std.proofs.Common.{◌≡◌, ℕ, zero, suc, ◌<◌, ◌≤◌, ◌+◌, List, [], ◌∷◌, ◌++◌, length, get_or, set as set_at, slice_get, sym, ap, subst, arith, inl, inr, Option, Some, None, sum_by}
+use Rattle.std.proofs.Common.{◌≡◌, ℕ, zero, suc, ◌<◌, ◌≤◌, ◌+◌, List, [], ◌∷◌, ◌++◌, length, get_or, set as set_at, slice_get, sym, ap, subst, arith, inl, inr, Some, None, sum_by}
 use Rattle.uniform_assign.specs.declared.board.Board.{Board}
 use Rattle.uniform_assign.specs.declared.draft.Draft.{Draft}
 use Rattle.uniform_assign.specs.declared.level.Move.{Move}
 use Rattle.uniform_assign.specs.declared.order.Order.{Order}
 use Rattle.uniform_assign.specs.Boards.{IsBoard}
 use Rattle.uniform_assign.specs.Drafts.{IsDraft}
-use Rattle.uniform_assign.specs.Moves.{AreFewest, CanGive, IsFirst, IsFirstOf, IsGiversLimit, IsNext}
+use Rattle.uniform_assign.specs.Moves.{CanGive, IsFirst, IsFirstOf, IsGiversLimit, IsNext}
 use Rattle.uniform_assign.specs.Orders.{AreShown, IsGreatestAt, IsOrder}
 use Rattle.uniform_assign.proofs.Lists.{slice_get-append_cases}
 use Rattle.uniform_assign.proofs.Moves.{can-within, move-can, poor-stays}
@@ -90,9 +90,8 @@ module _ (board : Board) (draft : Draft) where
         }
 
     -- nobody is left that owns more than the limit
-    pub IsNext-searched : (fewest : List (Option ℕ)) → AreFewest board draft fewest → IsGiversLimit draft.counts.items fewest limit → ((m : ℕ) → m < length is.shown → get_or is.shown m 0 ≤ limit)
-        → IsNext board draft (length board.places.items) None
-    IsNext-searched fewest least is_limit few = λ i k low can.
+    pub IsNext-searched : IsGiversLimit board draft.counts.items limit → ((m : ℕ) → m < length is.shown → get_or is.shown m 0 ≤ limit) → IsNext board draft (length board.places.items) None
+    IsNext-searched is_limit few = λ i k low can.
         let (within, his) = shown-giver i k can in
         let at = few i within in
-        poor-stays board draft is_board are fewest limit i least is_limit (omega arith) k can
+        poor-stays board draft is_board are limit i is_limit (omega arith) k can

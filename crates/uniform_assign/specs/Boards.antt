@@ -31,7 +31,7 @@ ArePlaces topics places = map (shown_place topics) places ≡ map Some (flat_map
 abbrev pub AreTakersOf : List Subscriber → Text → List ℕ → Type 0
 AreTakersOf subs name takers = map (slice_get subs) takers ≡ map Some (subscribers_of subs name)
 
--- each topic's takers are at its place
+-- the takers of the topics, listed topic by topic
 pub record AreTakers (topics : List (Text × Topic)) (subs : List Subscriber) (takers : List (Vec ℕ)) : Type 0 where
   pub as_many : length takers ≡ length topics
   pub there : (t : ℕ) (topic : Text × Topic) → slice_get topics t ≡ Some topic
@@ -62,11 +62,32 @@ pub record IsBare (board : Board) : Type 0 where
   pub sorted : IsSorted member_cmp (members_on board)
   pub places : ArePlaces (finite.entries board.view.now) board.places.items
 
+-- the list stands at a place
+abbrev pub IsListAt : List (Vec ℕ) → List ℕ → ℕ → Type 0
+IsListAt lists list at = (v : Vec ℕ) × (slice_get lists at ≡ Some v) × (v.items ≡ list)
+
+-- each list stands at the place of its class, and each class has one of them
+pub record AreClasses (lists : List (Vec ℕ)) (classes : List ℕ) (takers : List (Vec ℕ)) : Type 0 where
+  pub as_many : length classes ≡ length lists
+  pub there : (t : ℕ) (list : Vec ℕ) → slice_get lists t ≡ Some list → (c : ℕ) × (slice_get classes t ≡ Some c) × IsListAt takers list.items c
+  pub each : (c : ℕ) (v : Vec ℕ) → slice_get takers c ≡ Some v → (t : ℕ) × IsListAt lists v.items t
+
+-- the takers of each topic's class are those of the topic, and each class has the takers of a topic
+pub record AreClassTakers (topics : List (Text × Topic)) (subs : List Subscriber) (classes : List ℕ) (takers : List (Vec ℕ)) : Type 0 where
+  pub as_many : length classes ≡ length topics
+  pub there : (t : ℕ) (topic : Text × Topic) → slice_get topics t ≡ Some topic
+      → (c : ℕ) × (v : Vec ℕ) × (slice_get classes t ≡ Some c) × (slice_get takers c ≡ Some v) × AreTakersOf subs topic.0 v.items
+  pub each : (c : ℕ) (v : Vec ℕ) → slice_get takers c ≡ Some v → (topic : Text × Topic) × AreTakersOf subs topic.0 v.items
+
 -- what is true of a board
 pub record IsBoard (board : Board) : Type 0 where
   pub bare : IsBare board
-  pub takers : AreTakers (finite.entries board.view.now) (members_on board) board.takers.items
+  pub takers : AreClassTakers (finite.entries board.view.now) (members_on board) board.classes.items board.takers.items
   pub rise : AllRise board.takers.items
+
+-- the partition at a place is of the class
+abbrev pub IsOfClass : Board → ℕ → ℕ → Type 0
+IsOfClass board at class = (place : Place) × (slice_get board.places.items at ≡ Some place) × (slice_get board.classes.items place.topic ≡ Some class)
 
 -- each topic whose place is told of a member is one that the member subscribes
 pub record AreKnown (board : Board) (known : List (Option ℕ)) : Type 0 where

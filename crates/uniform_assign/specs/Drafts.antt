@@ -1,5 +1,5 @@
 -- What a draft of owners shows.
-use Rattle.std.specs.Prelude.{◌≡◌, ◌==◌, ℕ, ◌<◌, ◌≤◌, Bool, false, List, [], ◌∷◌, length, Option, Some, None, slice_get, slice_index, count_by, MatchOption}
+use Rattle.std.specs.Prelude.{◌≡◌, ◌==◌, ℕ, ◌<◌, ◌≤◌, Bool, false, List, [], ◌∷◌, length, Option, Some, None, slice_get, slice_index, count_by}
 use Rattle.std.specs.Option.{option_and_then, option_map_or}
 use Rattle.std.specs.FinMap as finite
 use Rattle.group_types.specs.declared.partition.Partition.{Partition}
@@ -48,10 +48,6 @@ pub record IsLeast (counts takers : List ℕ) (m : ℕ) : Type 0 where
   pub is_there : slice_get takers place ≡ Some m
   pub least : (k t : ℕ) → slice_get takers k ≡ Some t → slice_index counts m ≤ slice_index counts t
   pub first : (k t : ℕ) → k < place → slice_get takers k ≡ Some t → slice_index counts m < slice_index counts t
-
--- one of them if there are any
-abbrev pub IsLeastOf : List ℕ → List ℕ → Option ℕ → Type 0
-IsLeastOf counts takers o = MatchOption o (takers ≡ []) (IsLeast counts takers)
 
 -- a levelling: moves from one spread to another, in which no partition can move
 pub record IsLevelled (view : Topics) (subs : List Subscriber) (old new : Spread) : Type 0 where

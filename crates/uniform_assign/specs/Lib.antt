@@ -8,4 +8,5 @@ pub mod Hands
 pub mod Orders
 pub mod Piles
 pub mod Rankings
+pub mod Seats
 pub mod Wheels

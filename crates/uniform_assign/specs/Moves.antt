@@ -6,17 +6,13 @@ use Rattle.uniform_assign.specs.declared.board.Board.{Board}
 use Rattle.uniform_assign.specs.declared.board.Place.{Place}
 use Rattle.uniform_assign.specs.declared.draft.Draft.{Draft}
 use Rattle.uniform_assign.specs.declared.level.Move.{Move}
-use Rattle.uniform_assign.specs.Drafts.{IsLeast, IsLeastOf, drawn_on}
+use Rattle.uniform_assign.specs.Drafts.{IsLeast, drawn_on}
 use Rattle.uniform_assign.specs.Boards.{members_on}
 
--- for each topic the taker with the least count
-abbrev pub AreFewest : Board → Draft → List (Option ℕ) → Type 0
-AreFewest board draft fewest = (t : ℕ) (takers : Vec ℕ) → slice_get board.takers.items t ≡ Some takers
-    → (o : Option ℕ) × (slice_get fewest t ≡ Some o) × IsLeastOf draft.counts.items takers.items o
-
--- a member that owns no more than the limit owns at most one more than each topic's taker with the least count
-abbrev pub IsGiversLimit : List ℕ → List (Option ℕ) → ℕ → Type 0
-IsGiversLimit counts fewest limit = (t m : ℕ) → slice_get fewest t ≡ Some (Some m) → limit ≤ slice_index counts m + 1
+-- the limit is at most one more than what any taker owns
+abbrev pub IsGiversLimit : Board → List ℕ → ℕ → Type 0
+IsGiversLimit board counts limit =
+    (c k m : ℕ) (takers : Vec ℕ) → slice_get board.takers.items c ≡ Some takers → slice_get takers.items k ≡ Some m → limit ≤ slice_index counts m + 1
 
 -- the member at a place can give the partition at a place away
 abbrev pub CanGive : Board → Draft → ℕ → ℕ → Type 0
@@ -27,8 +23,10 @@ pub record IsMove (board : Board) (draft : Draft) (m : Move) : Type 0 where
   pub owns : slice_get draft.owners.items m.partition ≡ Some (Some m.from)
   pub place : Place
   pub is_place : slice_get board.places.items m.partition ≡ Some place
+  pub class : ℕ
+  pub is_class : slice_get board.classes.items place.topic ≡ Some class
   pub takers : Vec ℕ
-  pub are_takers : slice_get board.takers.items place.topic ≡ Some takers
+  pub are_takers : slice_get board.takers.items class ≡ Some takers
   pub is_least : IsLeast draft.counts.items takers.items m.to
   pub fewer : slice_index draft.counts.items m.to + 1 < slice_index draft.counts.items m.from
 

@@ -2,7 +2,6 @@
 use Rattle.std.specs.Prelude.{◌≡◌, ◌⊎◌, ℕ, ◌+◌, ◌<◌, ◌≤◌, List, [], length, map, Option, Some, slice_get, slice_index, slice_set, MatchOption}
 use Rattle.std.specs.Global.{Vec}
 use Rattle.uniform_assign.specs.declared.board.Board.{Board}
-use Rattle.uniform_assign.specs.declared.board.Place.{Place}
 use Rattle.uniform_assign.specs.declared.ranking.Rank.{Rank}
 use Rattle.uniform_assign.specs.declared.ranking.Ranking.{Ranking}
 
@@ -67,15 +66,7 @@ IsFirstRankOf counts o = MatchOption o (counts ≡ []) (IsFirstRank counts)
 abbrev pub counts_of : List ℕ → List ℕ → List ℕ
 counts_of counts takers = map (slice_index counts) takers
 
--- the partition at a place is of the topic
-abbrev pub IsOfTopic : Board → ℕ → ℕ → Type 0
-IsOfTopic board at topic = (place : Place) × (slice_get board.places.items at ≡ Some place) × (place.topic ≡ topic)
-
--- each topic's ranking is of its takers
+-- each class's ranking is of its takers
 pub record AreRankings (board : Board) (counts : List ℕ) (rankings : List Ranking) : Type 0 where
   pub as_many : length rankings ≡ length board.takers.items
-  pub each : (t : ℕ) (takers : Vec ℕ) (ranking : Ranking) → slice_get board.takers.items t ≡ Some takers → slice_get rankings t ≡ Some ranking → IsRanking (counts_of counts takers.items) ranking.nodes.items
-
--- the place of a number in a list
-abbrev pub IsPlaceAmong : List ℕ → ℕ → Option ℕ → Type 0
-IsPlaceAmong xs x o = MatchOption o ((k : ℕ) → slice_get xs k ≡ Some x → ⊥) (λ k. slice_get xs k ≡ Some x)
+  pub each : (c : ℕ) (takers : Vec ℕ) (ranking : Ranking) → slice_get board.takers.items c ≡ Some takers → slice_get rankings c ≡ Some ranking → IsRanking (counts_of counts takers.items) ranking.nodes.items

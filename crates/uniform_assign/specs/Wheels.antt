@@ -18,6 +18,6 @@ pub record IsOfLevel (counts : List ℕ) (level from k : ℕ) : Type 0 where
   pub is_level : slice_index counts k ≡ level
   pub first : (j : ℕ) → from ≤ j → j < k → slice_index counts j ≡ level → ⊥
 
--- the wheel is of the topic's takers
+-- the wheel is of the class's takers
 abbrev pub IsWheelOf : Board → Draft → ℕ → Wheel → Type 0
-IsWheelOf board draft topic wheel = (takers : Vec ℕ) → slice_get board.takers.items topic ≡ Some takers → IsWheel (counts_of draft.counts.items takers.items) wheel
+IsWheelOf board draft class wheel = (takers : Vec ℕ) → slice_get board.takers.items class ≡ Some takers → IsWheel (counts_of draft.counts.items takers.items) wheel

@@ -1,10 +1,11 @@
 //! What the assignor goes over: the partitions of a view in partition order, and who may take them.
 
-ghost use Rattle.std.specs.Prelude.{◌≡◌, ◌++◌, ◌≤◌, ◌^◌, All, IfOk, OnOk, map};
+ghost use Rattle.std.specs.Prelude.{◌≡◌, ◌++◌, ◌<◌, ◌≤◌, ◌^◌, All, IfOk, OnOk, length, map};
 ghost use Rattle.std.specs.List.{range_with_len};
 ghost use Rattle.topic_meta.specs.Views.{all_named};
-ghost use Rattle.uniform_assign.specs.Boards.{ArePlaces, IsBare, IsBoard, members_on, place_at};
+ghost use Rattle.uniform_assign.specs.Boards.{ArePlaces, IsBare, IsBoard, IsOfClass, members_on, place_at};
 
+use crate::classes::classes_of;
 use crate::takers::takers_of;
 use group_types::Partition;
 use range_assign::{Subs, Subscriber};
@@ -25,8 +26,10 @@ pub(crate) struct Board<'a> {
     pub view: &'a View,
     /// The partitions in partition order: by their topics' names, then by the index.
     pub places: Vec<Place>,
-    /// For each topic the places of its subscribers among the members, rising. They are found only where a partition has
-    /// no owner or may move.
+    /// For each topic its class. Topics with the same subscribers are of one class. The classes are found only where a
+    /// partition has no owner or may move.
+    pub classes: Vec<usize>,
+    /// For each class the places of its topics' subscribers among the members, rising.
     pub takers: Vec<Vec<usize>>,
 }
 
@@ -42,6 +45,7 @@ impl<'a> Board<'a> {
             members: subs.members(),
             view,
             places,
+            classes: Vec::new(alloc),
             takers: Vec::new(alloc),
         })
     }
@@ -50,10 +54,23 @@ impl<'a> Board<'a> {
     pub fn find_takers(&mut self, alloc: Global) -> Result<(), AllocError>
         requires { IsBare self.old }
         ensures board { OnOk result (IsBoard self.new) }
-        ensures same { OnOk result (self.new ≡ record self.old { takers = self.new.takers }) }
+        ensures same { OnOk result (self.new ≡ record self.old { classes = self.new.classes; takers = self.new.takers }) }
     {
-        self.takers = takers_of(alloc, self.view.topics(), self.members)?;
+        let lists = takers_of(alloc, self.view.topics(), self.members)?;
+        let found = classes_of(alloc, &lists)?;
+        self.classes = found.classes;
+        self.takers = found.takers;
         Ok(())
+    }
+
+    /// The class of the partition at a place.
+    pub fn class_at(&self, at: usize) -> usize
+        requires board { IsBoard self.now }
+        requires within { at < length self.now.places.items }
+        ensures class { IsOfClass self.now at result }
+        ensures below { result < length self.now.takers.items }
+    {
+        self.classes[self.places[at].topic]
     }
 }
 
@@ -70,7 +87,7 @@ fn places_of(alloc: Global, topics: &[ViewTopic]) -> Result<Vec<Place>, AllocErr
 }
 
 /// How many partitions the topics have together, so that room for them is taken once.
-pub(crate) fn partition_count(topics: &[ViewTopic]) -> usize {
+fn partition_count(topics: &[ViewTopic]) -> usize {
     let mut all = 0usize;
     for topic in topics {
         all = all.saturating_add(topic.count as usize);

@@ -4,9 +4,8 @@ ghost use Rattle.std.specs.Prelude.{◌≡◌, ◌<◌, None, OnOk, Some, length
 ghost use Rattle.group_types.specs.declared.partition.Partition.{Partition as Key};
 ghost use Rattle.group_types.specs.Text.{Text};
 ghost use Rattle.group_types.specs.Uniform.{AreFilled, Fills, in_partition_order};
-ghost use Rattle.uniform_assign.specs.Boards.{IsBoard, members_on};
+ghost use Rattle.uniform_assign.specs.Boards.{IsBoard, IsOfClass, members_on};
 ghost use Rattle.uniform_assign.specs.Drafts.{IsDraft, drawn_on};
-ghost use Rattle.uniform_assign.specs.Rankings.{IsOfTopic};
 ghost use Rattle.uniform_assign.specs.Wheels.{IsWheelOf};
 
 use crate::board::Board;
@@ -14,10 +13,10 @@ use crate::draft::Draft;
 use crate::wheel::Wheel;
 use std::alloc::{AllocError, Global};
 
-/// The subscribers of a topic, by their places among its takers, in turn by their counts.
+/// The takers of a class, by their places among them, in turn by their counts.
 #[derive(Drop)]
 struct Queue {
-    topic: usize,
+    class: usize,
     wheel: Wheel,
 }
 
@@ -32,59 +31,59 @@ impl Board<'_> {
             (in_partition_order self.now.view.now) (drawn_on self.now draft.new.owners.items)) }
     {
         let mut queue = Queue {
-            topic: self.takers.len(),
+            class: self.takers.len(),
             wheel: Wheel {
                 counts: Vec::new(alloc),
                 turn: 0,
                 level: 0,
             },
         };
-        for (at, place) in self.places.iter().enumerate() {
+        for at in 0..self.places.len() {
             if draft.owners[at].is_none() {
-                self.turn_to(alloc, draft, &mut queue, place.topic)?;
+                self.turn_to(alloc, draft, &mut queue, self.class_at(at))?;
                 self.give_first(draft, &mut queue, at);
             }
         }
         Ok(())
     }
 
-    /// Makes the queue that of a topic, if it isn't.
+    /// Makes the queue that of a class, if it isn't.
     fn turn_to(
         &self,
         alloc: Global,
         draft: &Draft,
         queue: &mut Queue,
-        topic: usize,
+        class: usize,
     ) -> Result<(), AllocError>
         requires board { IsBoard self.now }
         requires draft { IsDraft self.now draft.now }
-        requires topic_in { topic < length self.now.takers.items }
-        requires queue { IsWheelOf self.now draft.now queue.old.topic queue.old.wheel }
-        ensures topic { OnOk result (queue.new.topic ≡ topic) }
-        ensures queue { OnOk result (IsWheelOf self.now draft.now topic queue.new.wheel) }
+        requires class_in { class < length self.now.takers.items }
+        requires queue { IsWheelOf self.now draft.now queue.old.class queue.old.wheel }
+        ensures class { OnOk result (queue.new.class ≡ class) }
+        ensures queue { OnOk result (IsWheelOf self.now draft.now class queue.new.wheel) }
     {
-        if queue.topic != topic {
-            queue.wheel = Wheel::of(alloc, &draft.counts, &self.takers[topic])?;
-            queue.topic = topic;
+        if queue.class != class {
+            queue.wheel = Wheel::of(alloc, &draft.counts, &self.takers[class])?;
+            queue.class = class;
         }
         Ok(())
     }
 
-    /// Gives a partition of the queue's topic to the first in the queue, if anybody is in it.
+    /// Gives a partition of the queue's class to the first in the queue, if anybody is in it.
     fn give_first(&self, draft: &mut Draft, queue: &mut Queue, at: usize)
         requires board { IsBoard self.now }
         requires draft { IsDraft self.now draft.old }
         requires free { slice_get draft.old.owners.items at ≡ Some None }
-        requires topic { IsOfTopic self.now at queue.old.topic }
-        requires queue { IsWheelOf self.now draft.old queue.old.topic queue.old.wheel }
+        requires class { IsOfClass self.now at queue.old.class }
+        requires queue { IsWheelOf self.now draft.old queue.old.class queue.old.wheel }
         ensures draft { IsDraft self.now draft.new }
-        ensures topic { queue.new.topic ≡ queue.old.topic }
-        ensures queue { IsWheelOf self.now draft.new queue.old.topic queue.new.wheel }
+        ensures class { queue.new.class ≡ queue.old.class }
+        ensures queue { IsWheelOf self.now draft.new queue.old.class queue.new.wheel }
         ensures filled { (x : Text × Key) → slice_get (in_partition_order self.now.view.now) at ≡ Some x
             → Fills (members_on self.now) (drawn_on self.now draft.old.owners.items) x (drawn_on self.now draft.new.owners.items) }
     {
         if let Some(first) = queue.wheel.first() {
-            let member = self.takers[queue.topic][first];
+            let member = self.takers[queue.class][first];
             draft.give(at, member);
             queue.wheel.set(first, draft.counts[member]);
         }

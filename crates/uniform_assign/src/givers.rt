@@ -1,21 +1,36 @@
 //! Which members have nothing to give away, told by the counts alone.
 
-ghost use Rattle.std.specs.Prelude.{◌≡◌, ◌≤◌, All, slice_index};
+ghost use Rattle.std.specs.Prelude.{◌≤◌, ℕ, List, All};
 ghost use Rattle.std.specs.Bool.{OnTrue};
+ghost use Rattle.uniform_assign.specs.declared.board.Board.{Board};
 ghost use Rattle.uniform_assign.specs.Moves.{IsGiversLimit};
+ghost use Rattle.uniform_assign.specs.Rankings.{AreRankings};
 
-/// A count from which on members may have a partition to give away: it is at most one more than that of each of the
-/// members, of which there is one for each topic.
-pub(crate) fn givers_limit(counts: &[usize], fewest: &[Option<usize>]) -> usize
-    ensures { IsGiversLimit counts.now fewest.now result }
+use crate::ranking::Ranking;
+
+/// A count from which on members may have a partition to give away: it is at most one more than that of each taker.
+pub(crate) fn givers_limit(rankings: &[Ranking]) -> usize
+    ensures { (board : Board) (counts : List ℕ) → AreRankings board counts rankings.now → IsGiversLimit board counts result }
 {
     let mut limit = usize::MAX;
-    for taker in fewest {
-        if let Some(member) = *taker {
-            limit = least_of_two(limit, count_of(counts, member).saturating_add(1));
+    for ranking in rankings {
+        if let Some(first) = ranking.first() {
+            limit = least_of_two(limit, first.count.saturating_add(1));
         }
     }
     limit
+}
+
+/// A limit, which is looked for where it is 0.
+pub(crate) fn raised_limit(rankings: &[Ranking], limit: usize) -> usize
+    ensures { (board : Board) (counts : List ℕ) → AreRankings board counts rankings.now → IsGiversLimit board counts limit
+        → IsGiversLimit board counts result }
+{
+    if limit == 0 {
+        givers_limit(rankings)
+    } else {
+        limit
+    }
 }
 
 /// The lesser of two numbers.
@@ -24,17 +39,6 @@ fn least_of_two(one: usize, other: usize) -> usize
     ensures second { result ≤ other }
 {
     if one < other { one } else { other }
-}
-
-/// The count at a place, and 0 past the end.
-fn count_of(counts: &[usize], member: usize) -> usize
-    ensures { result ≡ slice_index counts.now member }
-{
-    if member < counts.len() {
-        counts[member]
-    } else {
-        0
-    }
 }
 
 /// Whether no count is greater than the limit.

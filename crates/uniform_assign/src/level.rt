@@ -4,14 +4,14 @@ ghost use Rattle.std.specs.Prelude.{◌≡◌, ◌<◌, ◌+◌, ℕ, [], IfOk, 
 ghost use Rattle.std.specs.Bool.{OnTrue};
 ghost use Rattle.uniform_assign.specs.Boards.{IsBoard, members_on};
 ghost use Rattle.uniform_assign.specs.Drafts.{IsDraft, IsLevelled, drawn_on};
-ghost use Rattle.uniform_assign.specs.Moves.{AreFewest, IsEarlier, IsFirstAmong, IsFirstOf, IsMoveOf, IsNext};
+ghost use Rattle.uniform_assign.specs.Moves.{IsEarlier, IsFirstAmong, IsFirstOf, IsMoveOf, IsNext};
 ghost use Rattle.uniform_assign.specs.Orders.{IsOrder, IsOrderBut};
-ghost use Rattle.uniform_assign.specs.Piles.{AreOfTopic, ArePiles, IsHand, IsIn};
+ghost use Rattle.uniform_assign.specs.Piles.{AreOfClass, ArePiles, IsHand, IsIn};
 ghost use Rattle.uniform_assign.specs.Rankings.{AreRankings};
 
 use crate::board::Board;
 use crate::draft::Draft;
-use crate::givers::{are_within, givers_limit};
+use crate::givers::{are_within, givers_limit, raised_limit};
 use crate::order::Order;
 use crate::pile::Pile;
 use crate::piles::Piles;
@@ -35,30 +35,41 @@ impl Board<'_> {
         ensures levelled { OnOk result (IsLevelled self.now.view.now (members_on self.now)
             (drawn_on self.now draft.old.owners.items) (drawn_on self.now draft.new.owners.items)) }
     {
-        let fewest = self.least_takers(alloc, draft)?;
-        if self.is_level(draft, &fewest) {
+        let mut rankings = self.rankings(alloc, draft)?;
+        if self.is_level(draft, &rankings) {
             return Ok(());
         }
-        self.move_each(alloc, draft)
+        self.move_each(alloc, draft, &mut rankings)
     }
 
     /// Moves one partition after the other until none can move: each is found by the order of the members, the orders of
-    /// the topics' subscribers and the members' piles.
-    fn move_each(&self, alloc: Global, draft: &mut Draft) -> Result<(), AllocError>
+    /// the classes' takers and the members' piles.
+    fn move_each(
+        &self,
+        alloc: Global,
+        draft: &mut Draft,
+        rankings: &mut Vec<Ranking>,
+    ) -> Result<(), AllocError>
         requires board { IsBoard self.now }
         requires draft { IsDraft self.now draft.old }
+        requires rankings { AreRankings self.now draft.old.counts.items rankings.old.items }
         ensures draft { OnOk result (IsDraft self.now draft.new) }
         ensures levelled { OnOk result (IsLevelled self.now.view.now (members_on self.now)
             (drawn_on self.now draft.old.owners.items) (drawn_on self.now draft.new.owners.items)) }
     {
-        let mut rankings = self.rankings(alloc, draft)?;
+        let seats = self.seats(alloc)?;
         let mut order = Order::of(alloc, &draft.counts)?;
         let mut piles = self.piles(alloc, draft)?;
-        while let Some(next) = self.next_move(alloc, draft, &rankings, &mut order, &mut piles)? {
+        while let Some(next) = self.next_move(alloc, draft, rankings, &mut order, &mut piles)? {
             self.gain(alloc, &mut piles, next.to, next.partition)?;
             draft.give(next.partition, next.to);
-            self.renew(&mut rankings, next.from, draft.counts[next.from]);
-            self.renew(&mut rankings, next.to, draft.counts[next.to]);
+            self.renew(
+                rankings,
+                &seats[next.from],
+                next.from,
+                draft.counts[next.from],
+            );
+            self.renew(rankings, &seats[next.to], next.to, draft.counts[next.to]);
             order.set(next.from, draft.counts[next.from]);
             order.set(next.to, draft.counts[next.to]);
         }
@@ -66,17 +77,17 @@ impl Board<'_> {
     }
 
     /// Whether no partition can move.
-    fn is_level(&self, draft: &Draft, fewest: &[Option<usize>]) -> bool
+    fn is_level(&self, draft: &Draft, rankings: &[Ranking]) -> bool
         requires board { IsBoard self.now }
         requires draft { IsDraft self.now draft.now }
-        requires fewest { AreFewest self.now draft.now fewest.now }
+        requires rankings { AreRankings self.now draft.now.counts.items rankings.now }
         ensures { OnTrue result (IsNext self.now draft.now (length self.now.places.items) None) }
     {
-        if are_within(&draft.counts, givers_limit(&draft.counts, fewest)) {
+        if are_within(&draft.counts, givers_limit(rankings)) {
             return true;
         }
         for at in 0..self.places.len() {
-            if self.move_of(draft, fewest, at).is_some() {
+            if self.move_of(draft, rankings, at).is_some() {
                 return false;
             }
         }
@@ -84,7 +95,7 @@ impl Board<'_> {
     }
 
     /// The move that follows, if a partition can move: of the members that can give one away, the one that owns the
-    /// most gives the first that it can to the subscriber that owns the fewest.
+    /// most gives the first that it can to the subscriber that owns the rankings.
     fn next_move(
         &self,
         alloc: Global,
@@ -102,26 +113,26 @@ impl Board<'_> {
         ensures piles { OnOk result (ArePiles self.now draft.now piles.new) }
         ensures next { IfOk result (IsNext self.now draft.now (length self.now.places.items)) }
     {
-        let fewest = self.fewest(alloc, rankings)?;
         let mut aside = Vec::new(alloc);
-        let next = self.move_in_order(alloc, draft, &fewest, order, piles, &mut aside)?;
+        let next = self.move_in_order(alloc, draft, rankings, order, piles, &mut aside)?;
         order.put_back(&aside, &draft.counts);
         Ok(next)
     }
 
-    /// The same, looked for member by member in their order. The members before the one that gives are set aside.
+    /// The same, looked for member by member in their order. The members before the one that gives are set aside. The limit is looked for
+    /// once the first member has nothing to give.
     fn move_in_order(
         &self,
         alloc: Global,
         draft: &Draft,
-        fewest: &[Option<usize>],
+        rankings: &[Ranking],
         order: &mut Order,
         piles: &mut Piles,
         aside: &mut Vec<usize>,
     ) -> Result<Option<Move>, AllocError>
         requires board { IsBoard self.now }
         requires draft { IsDraft self.now draft.now }
-        requires fewest { AreFewest self.now draft.now fewest.now }
+        requires rankings { AreRankings self.now draft.now.counts.items rankings.now }
         requires order { IsOrder draft.now.counts.items order.old }
         requires piles { ArePiles self.now draft.now piles.old }
         requires none { aside.old.items ≡ [] }
@@ -129,14 +140,15 @@ impl Board<'_> {
         ensures piles { OnOk result (ArePiles self.now draft.now piles.new) }
         ensures next { IfOk result (IsNext self.now draft.now (length self.now.places.items)) }
     {
-        let limit = givers_limit(&draft.counts, fewest);
+        let mut limit = 0;
         while let Some(from) = order.first_above(limit) {
-            let found = self.move_from(alloc, draft, fewest, piles, from)?;
+            let found = self.move_from(alloc, draft, rankings, piles, from)?;
             if found.is_some() {
                 return Ok(found);
             }
             order.set(from, 0);
             aside.push(from)?;
+            limit = raised_limit(rankings, limit);
         }
         Ok(None)
     }
@@ -146,40 +158,40 @@ impl Board<'_> {
         &self,
         alloc: Global,
         draft: &Draft,
-        fewest: &[Option<usize>],
+        rankings: &[Ranking],
         piles: &mut Piles,
         from: usize,
     ) -> Result<Option<Move>, AllocError>
         requires board { IsBoard self.now }
         requires draft { IsDraft self.now draft.now }
-        requires fewest { AreFewest self.now draft.now fewest.now }
+        requires rankings { AreRankings self.now draft.now.counts.items rankings.now }
         requires piles { ArePiles self.now draft.now piles.old }
         requires member { from < length draft.now.counts.items }
         ensures piles { OnOk result (ArePiles self.now draft.now piles.new) }
         ensures first { IfOk result (IsFirstOf self.now draft.now from) }
     {
         self.make_piles(alloc, piles, from)?;
-        Ok(self.first_move(draft, fewest, &mut piles.hands[from], from))
+        Ok(self.first_move(draft, rankings, &mut piles.hands[from], from))
     }
 
     /// The same, looked for pile by pile.
     fn first_move(
         &self,
         draft: &Draft,
-        fewest: &[Option<usize>],
+        rankings: &[Ranking],
         hand: &mut Vec<Pile>,
         from: usize,
     ) -> Option<Move>
         requires board { IsBoard self.now }
         requires draft { IsDraft self.now draft.now }
-        requires fewest { AreFewest self.now draft.now fewest.now }
+        requires rankings { AreRankings self.now draft.now.counts.items rankings.now }
         requires hand { IsHand self.now draft.now from hand.old.items }
         ensures hand { IsHand self.now draft.now from hand.new.items }
         ensures first { IsFirstOf self.now draft.now from result }
     {
         let mut best = None;
         for at in 0..hand.len() {
-            let found = self.first_in(draft, fewest, &mut hand[at], from);
+            let found = self.first_in(draft, rankings, &mut hand[at], from);
             best = earlier(best, found);
         }
         best
@@ -189,38 +201,39 @@ impl Board<'_> {
     fn first_in(
         &self,
         draft: &Draft,
-        fewest: &[Option<usize>],
+        rankings: &[Ranking],
         pile: &mut Pile,
         from: usize,
     ) -> Option<Move>
         requires board { IsBoard self.now }
         requires draft { IsDraft self.now draft.now }
-        requires fewest { AreFewest self.now draft.now fewest.now }
-        requires pile { AreOfTopic self.now.places.items pile.old }
-        ensures topic { pile.new.topic ≡ pile.old.topic }
+        requires rankings { AreRankings self.now draft.now.counts.items rankings.now }
+        requires pile { AreOfClass self.now pile.old }
+        ensures class { pile.new.class ≡ pile.old.class }
         ensures fewer { (k : ℕ) → IsIn k pile.new → IsIn k pile.old }
         ensures kept { (k : ℕ) → IsIn k pile.old → slice_get draft.now.owners.items k ≡ Some (Some from) → IsIn k pile.new }
         ensures first { IsFirstAmong self.now draft.now from (λ k. IsIn k pile.new) result }
     {
         let at = pile.first_owned(&draft.owners, from)?;
-        self.move_of(draft, fewest, at)
+        self.move_of(draft, rankings, at)
     }
 
-    /// The move of the partition at a place to the subscriber that owns the fewest, if it can move.
-    fn move_of(&self, draft: &Draft, fewest: &[Option<usize>], at: usize) -> Option<Move>
+    /// The move of the partition at a place to the subscriber that owns the rankings, if it can move.
+    fn move_of(&self, draft: &Draft, rankings: &[Ranking], at: usize) -> Option<Move>
         requires board { IsBoard self.now }
         requires draft { IsDraft self.now draft.now }
-        requires fewest { AreFewest self.now draft.now fewest.now }
+        requires rankings { AreRankings self.now draft.now.counts.items rankings.now }
         requires within { at < length self.now.places.items }
         ensures { IsMoveOf self.now draft.now at result }
     {
         let from = draft.owners[at]?;
-        let to = fewest[self.places[at].topic]?;
-        if draft.counts[to] + 1 < draft.counts[from] {
+        let class = self.class_at(at);
+        let first = rankings[class].first()?;
+        if first.count + 1 < draft.counts[from] {
             Some(Move {
                 partition: at,
                 from,
-                to,
+                to: self.takers[class][first.place],
             })
         } else {
             None

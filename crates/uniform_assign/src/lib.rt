@@ -5,6 +5,7 @@
 #![tactic(auto)]
 
 mod board;
+mod classes;
 mod draft;
 mod fill;
 mod former;
@@ -12,13 +13,13 @@ mod givers;
 mod keep;
 mod lawful;
 mod laws;
-mod least;
 mod level;
 mod order;
 mod pile;
 mod piles;
 mod ranking;
 mod rankings;
+mod seats;
 mod settle;
 mod shares;
 mod stay;

@@ -1,4 +1,4 @@
-//! The partitions of a topic that a member owns, so that the first of them is at hand.
+//! The partitions of a class of topics that a member owns, so that the first of them is at hand.
 
 ghost use Rattle.std.specs.Prelude.{◌≡◌, ◌⊎◌, ◌↔◌, ◌<◌, ℕ, OnOk, Some, length, slice_get};
 ghost use Rattle.std.specs.BinaryHeap.{IsHeap, heap_items};
@@ -9,11 +9,11 @@ use std::alloc::{AllocError, Global};
 use std::cmp::Reverse;
 use std::collections::BinaryHeap;
 
-/// Those of a topic's partitions that a member owns, by their places in partition order. It may also have some that the
+/// Those of a class's partitions that a member owns, by their places in partition order. It may also have some that the
 /// member has given away.
 #[derive(Drop)]
 pub(crate) struct Pile {
-    pub topic: usize,
+    pub class: usize,
     /// One of the places. Most piles have no other, and so take no memory.
     pub one: Option<usize>,
     /// The others.
@@ -25,12 +25,12 @@ impl Pile {
     ghost use Rattle.uniform_assign.specs.Piles.{IsFirstIn, IsFirstOwned, IsIn, how_many};
 
     /// The pile that has this place alone. Takes no memory.
-    pub fn of(alloc: Global, topic: usize, place: usize) -> Pile
-        ensures topic { result.topic ≡ topic }
+    pub fn of(alloc: Global, class: usize, place: usize) -> Pile
+        ensures class { result.class ≡ class }
         ensures alone { (k : ℕ) → IsIn k result ↔ (k ≡ place) }
     {
         Pile {
-            topic,
+            class,
             one: Some(place),
             places: BinaryHeap::new(alloc),
         }
@@ -38,7 +38,7 @@ impl Pile {
 
     /// Adds a place.
     pub fn push(&mut self, place: usize) -> Result<(), AllocError>
-        ensures topic { self.new.topic ≡ self.old.topic }
+        ensures class { self.new.class ≡ self.old.class }
         ensures added { OnOk result ((k : ℕ) → IsIn k self.new ↔ (IsIn k self.old ⊎ (k ≡ place))) }
     {
         if self.one.is_none() {
@@ -52,7 +52,7 @@ impl Pile {
     /// The first place that the member owns. Takes those out that come before it.
     pub fn first_owned(&mut self, owners: &[Option<usize>], member: usize) -> Option<usize>
         requires { (k : ℕ) → IsIn k self.old → k < length owners.now }
-        ensures topic { self.new.topic ≡ self.old.topic }
+        ensures class { self.new.class ≡ self.old.class }
         ensures fewer { (k : ℕ) → IsIn k self.new → IsIn k self.old }
         ensures kept { (k : ℕ) → IsIn k self.old → slice_get owners.now k ≡ Some (Some member) → IsIn k self.new }
         ensures first { IsFirstOwned owners.now member self.new result }
@@ -81,7 +81,7 @@ impl Pile {
     /// Takes the first place out.
     fn drop_first(&mut self, first: usize)
         requires { IsFirstIn self.old (Some first) }
-        ensures topic { self.new.topic ≡ self.old.topic }
+        ensures class { self.new.class ≡ self.old.class }
         ensures fewer { (k : ℕ) → IsIn k self.new → IsIn k self.old }
         ensures kept { (k : ℕ) → IsIn k self.old → (k ≡ first) ⊎ IsIn k self.new }
         ensures shorter { how_many self.new < how_many self.old }

@@ -2,18 +2,19 @@
 
 ghost use Rattle.std.specs.Prelude.{◌≡◌, ◌⊎◌, ◌<◌, ℕ, List, [], All, IfOk, IfSome, OnOk, Some, length, slice_set};
 ghost use Rattle.uniform_assign.specs.declared.draft.Draft.{Draft as Drafted};
+ghost use Rattle.uniform_assign.specs.Boards.{IsBoard};
 ghost use Rattle.uniform_assign.specs.Drafts.{IsDraft};
-ghost use Rattle.uniform_assign.specs.Piles.{AreListed, ArePiles, Hand, IsDrawn, IsInHand, IsInTopic, IsListedIn, IsOfTopic, Listed};
+ghost use Rattle.uniform_assign.specs.Piles.{AreListed, ArePiles, Hand, IsDrawn, IsInHand, IsInClass, IsListedIn, IsPileOf, Listed};
 
 use crate::board::Board;
 use crate::draft::Draft;
 use crate::pile::Pile;
 use std::alloc::{AllocError, Global};
 
-/// A partition by its place in partition order, and its topic.
+/// A partition by its place in partition order, and its class.
 #[derive(Clone, Copy)]
 pub(crate) struct Owned {
-    pub topic: usize,
+    pub class: usize,
     pub place: usize,
 }
 
@@ -22,14 +23,15 @@ pub(crate) struct Owned {
 pub(crate) struct Piles {
     /// For each member what it owned when the moves began and is in none of its piles yet, in partition order.
     pub listed: Vec<Vec<Owned>>,
-    /// For each member its piles, one a topic.
+    /// For each member its piles, one a class.
     pub hands: Vec<Vec<Pile>>,
 }
 
 impl Board<'_> {
     /// Each member's partitions.
     pub fn piles(&self, alloc: Global, draft: &Draft) -> Result<Piles, AllocError>
-        requires { IsDraft self.now draft.now }
+        requires board { IsBoard self.now }
+        requires draft { IsDraft self.now draft.now }
         ensures { IfOk result (ArePiles self.now draft.now) }
     {
         Ok(Piles {
@@ -40,14 +42,15 @@ impl Board<'_> {
 
     /// Each member's partitions, in partition order.
     fn listed(&self, alloc: Global, draft: &Draft) -> Result<Vec<Vec<Owned>>, AllocError>
-        requires { IsDraft self.now draft.now }
+        requires board { IsBoard self.now }
+        requires draft { IsDraft self.now draft.now }
         ensures { IfOk result (λ listed. AreListed self.now draft.now (length self.now.places.items) listed.items) }
     {
         let mut listed = no_lists(alloc, &draft.counts)?;
-        for (at, place) in self.places.iter().enumerate() {
+        for at in 0..self.places.len() {
             if let Some(owner) = draft.owners[at] {
                 listed[owner].push(Owned {
-                    topic: place.topic,
+                    class: self.class_at(at),
                     place: at,
                 })?;
             }
@@ -80,13 +83,14 @@ impl Board<'_> {
         member: usize,
         at: usize,
     ) -> Result<(), AllocError>
+        requires board { IsBoard self.now }
         requires member { member < length piles.old.hands.items }
         requires within { at < length self.now.places.items }
         ensures { OnOk result ((old new : Drafted) → ArePiles self.now old piles.old
             → length new.counts.items ≡ length old.counts.items
             → new.owners.items ≡ slice_set old.owners.items at (Some member) → ArePiles self.now new piles.new) }
     {
-        add(alloc, &mut piles.hands[member], self.places[at].topic, at)?;
+        add(alloc, &mut piles.hands[member], self.class_at(at), at)?;
         Ok(())
     }
 }
@@ -119,56 +123,56 @@ fn no_piles(alloc: Global, members: usize) -> Result<Vec<Vec<Pile>>, AllocError>
 fn draw(alloc: Global, listed: &[Owned], hand: &mut Vec<Pile>) -> Result<(), AllocError>
     ensures drawn { OnOk result ((t k : ℕ) → IsListedIn listed.now t k → IsInHand hand.new.items k) }
     ensures kept { OnOk result ((k : ℕ) → IsInHand hand.old.items k → IsInHand hand.new.items k) }
-    ensures topics { OnOk result ((t k : ℕ) → IsInTopic hand.new.items t k
-        → IsInTopic hand.old.items t k ⊎ IsListedIn listed.now t k) }
+    ensures classes { OnOk result ((t k : ℕ) → IsInClass hand.new.items t k
+        → IsInClass hand.old.items t k ⊎ IsListedIn listed.now t k) }
 {
     for one in listed {
-        add(alloc, hand, one.topic, one.place)?;
+        add(alloc, hand, one.class, one.place)?;
     }
     Ok(())
 }
 
-/// Adds a place to the member's pile of the topic.
+/// Adds a place to the member's pile of the class.
 pub(crate) fn add(
     alloc: Global,
     hand: &mut Vec<Pile>,
-    topic: usize,
+    class: usize,
     place: usize,
 ) -> Result<(), AllocError>
     ensures added { OnOk result (IsInHand hand.new.items place) }
     ensures kept { OnOk result ((k : ℕ) → IsInHand hand.old.items k → IsInHand hand.new.items k) }
-    ensures topics { OnOk result ((t k : ℕ) → IsInTopic hand.new.items t k
-        → IsInTopic hand.old.items t k ⊎ ((t ≡ topic) × (k ≡ place))) }
+    ensures classes { OnOk result ((t k : ℕ) → IsInClass hand.new.items t k
+        → IsInClass hand.old.items t k ⊎ ((t ≡ class) × (k ≡ place))) }
 {
-    match pile_of(hand, topic) {
+    match pile_of(hand, class) {
         Some(at) => hand[at].push(place)?,
-        None => hand.push(Pile::of(alloc, topic, place))?,
+        None => hand.push(Pile::of(alloc, class, place))?,
     }
     Ok(())
 }
 
-/// Where a pile of the topic is. The last is tried first, since the partitions come in their topics' order: so no other is
-/// tried where the last is of a topic before this one. Once partitions have moved, a member may then get a second pile.
-fn pile_of(hand: &[Pile], topic: usize) -> Option<usize>
-    ensures { IfSome result (IsOfTopic hand.now topic) }
+/// Where a pile of the class is. The last is tried first, since the partitions come in their topics' order, and mostly so in that of their classes: so no other is
+/// tried where the last is of a class before this one. Once partitions have moved, a member may then get a second pile.
+fn pile_of(hand: &[Pile], class: usize) -> Option<usize>
+    ensures { IfSome result (IsPileOf hand.now class) }
 {
-    if ends_before(hand, topic) {
+    if ends_before(hand, class) {
         return None;
     }
     let mut at = hand.len();
     while at > 0 {
         at -= 1;
-        if hand[at].topic == topic {
+        if hand[at].class == class {
             return Some(at);
         }
     }
     None
 }
 
-/// Whether the last pile is of a topic before this one.
-fn ends_before(hand: &[Pile], topic: usize) -> bool {
+/// Whether the last pile is of a class before this one.
+fn ends_before(hand: &[Pile], class: usize) -> bool {
     match hand.last() {
-        Some(pile) => pile.topic < topic,
+        Some(pile) => pile.class < class,
         None => false,
     }
 }

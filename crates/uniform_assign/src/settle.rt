@@ -15,7 +15,7 @@ impl Board<'_> {
         requires board { IsBare self.old }
         requires draft { IsDraft self.old draft.old }
         ensures board { OnOk result (IsBare self.new) }
-        ensures same { OnOk result (self.new ≡ record self.old { takers = self.new.takers }) }
+        ensures same { OnOk result (self.new ≡ record self.old { classes = self.new.classes; takers = self.new.takers }) }
         ensures draft { OnOk result (IsDraft self.new draft.new) }
         ensures settled { OnOk result (IsFilledAndLevelled self.old.view.now (members_on self.old)
             (drawn_on self.old draft.old.owners.items) (drawn_on self.old draft.new.owners.items)) }

@@ -4,7 +4,7 @@ ghost use Rattle.std.specs.Prelude.{◌≡◌, IfOk};
 ghost use Rattle.group_types.specs.Owners.{IsLawful};
 ghost use Rattle.group_types.specs.Uniform.{IsEven, IsUniform};
 
-use crate::board::{Board, partition_count};
+use crate::board::Board;
 use crate::stay::stay;
 use range_assign::{Assignor, Spread, Subs};
 use std::alloc::{AllocError, Global};
@@ -38,9 +38,6 @@ impl Assignor for Uniform {
     }
 }
 
-/// About how many bytes an assignment takes for a partition, in all.
-const BYTES: usize = 128;
-
 /// The owners under the rule, worked out on a board.
 fn assigned(
     alloc: Global,
@@ -50,17 +47,8 @@ fn assigned(
 ) -> Result<Spread, AllocError>
     ensures { IfOk result (λ spread. IsUniform view.now subs.now former.now spread) }
 {
-    ask_for_room(alloc, partition_count(view.topics()))?;
     let mut board = Board::of(alloc, subs, view)?;
     let mut draft = board.kept(alloc, former)?;
     board.settle(alloc, &mut draft)?;
     Ok(Spread::of(board.shares(alloc, &draft)?))
-}
-
-/// Asks for about as much memory in one piece as the assignment of so many partitions takes, and gives it back: where there isn't as
-/// much nothing is begun. An allocator that keeps what is freed up to a multiple of the largest piece, as that of the GNU C library does,
-/// then keeps all of it for the next assignment, and needn't ask the system for each page again.
-fn ask_for_room(alloc: Global, partitions: usize) -> Result<(), AllocError> {
-    let _room: Vec<u8> = Vec::with_capacity(alloc, partitions.saturating_mul(BYTES))?;
-    Ok(())
 }

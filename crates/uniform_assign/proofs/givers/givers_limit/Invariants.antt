@@ -1,6 +1,12 @@
-use Rattle.std.proofs.Common.{◌≡◌, ◌<◌, ◌≤◌, ◌+◌, ℕ, Some, get_or}
-use Rattle.std.specs.List.{slice_get}
+use Rattle.std.proofs.Common.{◌≡◌, ◌<◌, ◌≤◌, ◌+◌, ℕ, List, Some}
+use Rattle.std.specs.Global.{Vec}
+use Rattle.std.specs.List.{slice_get, slice_index}
+use Rattle.uniform_assign.specs.declared.board.Board.{Board}
+use Rattle.uniform_assign.specs.Rankings.{AreRankings}
 use Rattle.uniform_assign.proofs.givers.givers_limit.Given as goal
 
-abbrev pub invariant-loop-taker : goal.invariant-loop-taker
-invariant-loop-taker l = (t m : ℕ) → t < l.taker-index → slice_get l.fewest t ≡ Some (Some m) → l.limit ≤ get_or l.counts m 0 + 1
+-- the limit is at most one more than what the takers of the classes own that were looked at
+abbrev pub invariant-loop-ranking : goal.invariant-loop-ranking
+invariant-loop-ranking l =
+    (board : Board) (counts : List ℕ) → AreRankings board counts l.rankings → (c k m : ℕ) (takers : Vec ℕ) → c < l.ranking-index → slice_get board.takers.items c ≡ Some takers → slice_get takers.items k ≡ Some m
+    → l.limit ≤ slice_index counts m + 1

@@ -10,4 +10,4 @@ returns-then-hand-at c =
     let pile = c.index-hand-at.result in
     let long = c.loop-at.invariant in
     let some = c.loop-at-test.true in
-    (pile, slice_get_read hand (length hand) at pile refl (omega arith) c.index-hand-at.is, ap (λ (p : Pile). p.topic) c.index-hand-at.is ∙ c.if-hand-at.true)
+    (pile, slice_get_read hand (length hand) at pile refl (omega arith) c.index-hand-at.is, ap (λ (p : Pile). p.class) c.index-hand-at.is ∙ c.if-hand-at.true)

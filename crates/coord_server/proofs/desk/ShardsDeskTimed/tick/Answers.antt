@@ -1,4 +1,4 @@
 use Rattle.coord_server.proofs.desk.ShardsDeskTimed.tick.Goals as goal
 
 pub returns : goal.returns
-returns g c = (c.tick_all.ensures.ticks, c.tick_all.ensures.others)
+returns g c = (c.tick_each.ensures.ticks, c.tick_each.ensures.others)

@@ -9,11 +9,12 @@ use Rattle.uniform_assign.specs.declared.draft.Draft.{Draft}
 use Rattle.uniform_assign.specs.declared.fill.Queue.{Queue}
 use Rattle.uniform_assign.specs.Drafts.{IsDraft, drawn_on}
 use Rattle.uniform_assign.specs.Wheels.{IsWheelOf}
-use Rattle.uniform_assign.proofs.Boards.{as_many_places, at_place, place_here}
+use Rattle.uniform_assign.proofs.Boards.{as_many_places, at_place}
 use Rattle.uniform_assign.proofs.Filled.{AreFilled-next, Fills-owned}
+use Rattle.uniform_assign.proofs.Lists.{some_at}
 use Rattle.uniform_assign.proofs.board.Board.fill.Goals as goal
 use Rattle.uniform_assign.proofs.board.Board.fill.Goals.{then-is_none+in_ok-turn_to, else-is_none}
-use Rattle.uniform_assign.specs.Boards.{members_on}
+use Rattle.uniform_assign.specs.Boards.{IsOfClass, members_on}
 
 pub loop-at-init : goal.loop-at-init
 loop-at-init c = (
@@ -25,13 +26,6 @@ loop-at-init c = (
       let ok = c.args.self.now.takers.ok in
       absurd (omega arith),
 )
-
-pub turn_to-requires-clause-topic_in : goal.turn_to-requires-clause-topic_in
-turn_to-requires-clause-topic_in c =
-    let board = c.args.self.now in
-    let place = c.place-item.result in
-    let at = at_place board c.requires.board c.loop-at.at place (place_here c.deref-place-items.result.now board.places.items c.loop-at.at place c.deref-place-items.ensures.value c.loop-at-test.true c.place-item.is) in
-    slice_get_within board.takers.items place.topic at.takers at.are_there
 
 no_owner : (o : Option ℕ) (b : Bool) → is_some o ≡ not b → b ≡ true → o ≡ None
 no_owner None b is none = refl
@@ -46,15 +40,13 @@ give_first-requires-clause-free c =
     let owners = c.loop-at.draft.owners.items in
     let n = c.loop-at.at in
     let low = c.loop-at-test.true in
-    let places = ap length c.deref-place-items.ensures.value in
+    let shown = c.len-at-end.ensures in
+    let ok = c.args.self.now.places.ok in
     let many = c.loop-at.invariant.0.as_many_owners in
     slice_get_read owners (length owners) n c.index.result.now refl (omega arith) c.index.ensures ∙ ap Some (no_owner c.index.result.now c.is_none.result c.is_none.ensures c.if-is_none.true)
 
-pub give_first-requires-clause-topic : goal.give_first-requires-clause-topic
-give_first-requires-clause-topic c =
-    let board = c.args.self.now in
-    let place = c.place-item.result in
-    (place, place_here c.deref-place-items.result.now board.places.items c.loop-at.at place c.deref-place-items.ensures.value c.loop-at-test.true c.place-item.is, sym c.in_ok-turn_to.ensures.topic)
+pub give_first-requires-clause-class : goal.give_first-requires-clause-class
+give_first-requires-clause-class c = subst (IsOfClass c.args.self.now c.loop-at.at) (sym c.in_ok-turn_to.ensures.class) c.class_at.ensures.class
 
 pub loop-at-preserved : goal.loop-at-preserved
 loop-at-preserved c =
@@ -62,12 +54,15 @@ loop-at-preserved c =
     let subs = members_on board in
     let parts = in_partition_order board.view.now in
     let n = c.loop-at.at in
-    let place = c.place-item.result in
-    let at = at_place board c.requires.board n place (place_here c.deref-place-items.result.now board.places.items n place c.deref-place-items.ensures.value c.loop-at-test.true c.place-item.is) in
+    let shown = c.len-at-end.ensures in
+    let ok = board.places.ok in
+    let below = c.loop-at-test.true in
+    let (place, is_place) = some_at board.places.items n (omega arith) in
+    let at = at_place board c.requires.board n place is_place in
     let draft = c.loop-at.draft in
     let (is_draft, filled, queue) = c.loop-at.invariant in
     let low = c.loop-at-test.true in
-    let within : n < length draft.owners.items = let places = ap length c.deref-place-items.ensures.value in let many = is_draft.as_many_owners in omega arith in
+    let within : n < length draft.owners.items = let many = is_draft.as_many_owners in omega arith in
     let owner : slice_get draft.owners.items n ≡ Some c.index.result.now = slice_get_read draft.owners.items (length draft.owners.items) n c.index.result.now refl within c.index.ensures in
     let x : Text × Partition = (at.topic.0, place.partition) in
     let first = drawn_on board c.args.draft.now.owners.items in
@@ -77,18 +72,18 @@ loop-at-preserved c =
           let given = w.give_first.ensures in
           let new = w.give_first.new.draft in
           let turned = w.give_first.new.queue in
-          let ranked = subst (λ t. IsWheelOf board new t turned.wheel) (sym given.topic) given.queue in (
+          let ranked = subst (λ t. IsWheelOf board new t turned.wheel) (sym given.class) given.queue in (
             subst (IsDraft board) (sym w.draft-is) given.draft,
             subst (λ (d : Draft). AreFilled subs first (take (n + 1) parts) (drawn_on board d.owners.items)) (sym w.draft-is)
                 (AreFilled-next subs first spread (drawn_on board new.owners.items) parts n x at.is_part filled (given.filled x at.is_part)),
-            subst (λ (q : Queue). IsWheelOf board c.if-is_none.draft q.topic q.wheel) (sym w.queue-is) (subst (λ (d : Draft). IsWheelOf board d turned.topic turned.wheel) (sym w.draft-is) ranked),
+            subst (λ (q : Queue). IsWheelOf board c.if-is_none.draft q.class q.wheel) (sym w.queue-is) (subst (λ (d : Draft). IsWheelOf board d turned.class turned.wheel) (sym w.draft-is) ranked),
           )
       | else-is_none w ↦
           let (m, is_m) = some_owner c.index.result.now c.is_none.result c.is_none.ensures w.if-is_none.false in
           let fills = Fills-owned board draft c.requires.board.bare is_draft n x at.is_part m (owner ∙ ap Some is_m) in (
             subst (IsDraft board) (sym w.draft-is) is_draft,
             subst (λ (d : Draft). AreFilled subs first (take (n + 1) parts) (drawn_on board d.owners.items)) (sym w.draft-is) (AreFilled-next subs first spread spread parts n x at.is_part filled fills),
-            subst (λ (q : Queue). IsWheelOf board c.if-is_none.draft q.topic q.wheel) (sym w.queue-is) (subst (λ (d : Draft). IsWheelOf board d c.loop-at.queue.topic c.loop-at.queue.wheel) (sym w.draft-is) queue),
+            subst (λ (q : Queue). IsWheelOf board c.if-is_none.draft q.class q.wheel) (sym w.queue-is) (subst (λ (d : Draft). IsWheelOf board d c.loop-at.queue.class c.loop-at.queue.wheel) (sym w.draft-is) queue),
           )
     ]
 
@@ -96,7 +91,8 @@ pub returns : goal.returns
 returns c =
     let board = c.args.self.now in
     let parts = in_partition_order board.view.now in
-    let places = ap length c.deref-place-items.ensures.value in
+    let shown = c.len-at-end.ensures in
+    let ok = board.places.ok in
     let many = as_many_places board c.requires.board.bare in
     let last = c.loop-at-test.false in
     record {

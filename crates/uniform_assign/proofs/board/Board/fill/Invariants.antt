@@ -9,4 +9,4 @@ abbrev pub invariant-loop-at : goal.invariant-loop-at
 invariant-loop-at l =
     IsDraft l.self l.draft
     × AreFilled (members_on l.self) (drawn_on l.self l.initial.draft.owners.items) (take l.at (in_partition_order (l.self).view.now)) (drawn_on l.self l.draft.owners.items)
-    × IsWheelOf l.self l.draft (l.queue).topic (l.queue).wheel
+    × IsWheelOf l.self l.draft (l.queue).class (l.queue).wheel

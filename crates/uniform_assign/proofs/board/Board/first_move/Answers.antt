@@ -34,9 +34,9 @@ loop-at-preserved c =
     let is_old = slice_get_read hand (length hand) at old refl (omega arith) c.index_mut.ensures.value in
     let found = c.first_in-found.ensures in (
       length-set hand at new ∙ many,
-      IsHand-searched board draft c.args.from hand at old new is_old found.topic found.fewer found.kept is_hand,
+      IsHand-searched board draft c.args.from hand at old new is_old found.class found.fewer found.kept is_hand,
       IsFirstAmong-either board draft c.requires.board c.requires.draft (IsInBelow hand at) (λ k. IsIn k new) (IsInBelow (set_at hand at new) (at + 1)) c.args.from c.loop-at.best c.first_in-found.result c.earlier-best.result
-          (IsInBelow-either board draft c.args.from hand at old new is_old found.topic found.fewer found.kept) first found.first c.earlier-best.ensures,
+          (IsInBelow-either board draft c.args.from hand at old new is_old found.class found.fewer found.kept) first found.first c.earlier-best.ensures,
     )
 
 pub returns : goal.returns
@@ -52,7 +52,7 @@ returns c =
       hand = is_hand;
       first = IsFirstAmong-all board draft c.requires.board c.requires.draft (IsInBelow hand c.loop-at.at) c.args.from c.loop-at.best
           (λ k low owns.
-          let (t, (i, pile, is_pile, of_topic, is)) = is_hand.all k owns in
+          let (t, (i, pile, is_pile, of_class, is)) = is_hand.all k owns in
           let within = slice_get_within hand i pile is_pile in
           (i, pile, omega arith, is_pile, is))
           first;

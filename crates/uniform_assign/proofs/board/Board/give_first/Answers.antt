@@ -19,30 +19,30 @@ use Rattle.uniform_assign.proofs.board.Board.give_first.Goals as goal
 use Rattle.uniform_assign.specs.Boards.{members_on}
 
 -- the taker that was read is the first in the queue
-read_first : (board : Board) (draft : Draft) (at topic k m : ℕ) (wheel : Wheel) (v : Vec ℕ) → IsDraft board draft → (queued : IsQueued board draft at topic wheel) → IsLeastAt (counts_of draft.counts.items queued.is_at.takers.items) k
-    → v ≡ get_or board.takers.items topic v → m ≡ get_or v.items k m → IsFirstIn board draft at topic wheel k m
-read_first board draft at topic k m wheel v are queued least read_v read_m =
-    let there = slice_get_read board.takers.items (length board.takers.items) topic v refl (slice_get_within board.takers.items topic queued.is_at.takers queued.are_takers) read_v in
+read_first : (board : Board) (draft : Draft) (at class k m : ℕ) (wheel : Wheel) (v : Vec ℕ) → IsDraft board draft → (queued : IsQueued board draft at class wheel) → IsLeastAt (counts_of draft.counts.items queued.is_at.takers.items) k
+    → v ≡ get_or board.takers.items class v → m ≡ get_or v.items k m → IsFirstIn board draft at class wheel k m
+read_first board draft at class k m wheel v are queued least read_v read_m =
+    let there = slice_get_read board.takers.items (length board.takers.items) class v refl (slice_get_within board.takers.items class queued.is_at.takers queued.are_takers) read_v in
     let same : v ≡ queued.is_at.takers = same_Some v queued.is_at.takers (sym there ∙ queued.are_takers) in
     let items = ap (λ (w : Vec ℕ). w.items) same in
-    let low = first-within board draft at topic k wheel queued least in
+    let low = first-within board draft at class k wheel queued least in
     let longs = ap length items in
-    IsFirstIn-of board draft at topic k m wheel are queued least (ap (λ xs. slice_get xs k) (sym items) ∙ slice_get_read v.items (length v.items) k m refl (omega arith) read_m)
+    IsFirstIn-of board draft at class k m wheel are queued least (ap (λ xs. slice_get xs k) (sym items) ∙ slice_get_read v.items (length v.items) k m refl (omega arith) read_m)
 
-taker_in : (board : Board) (draft : Draft) (at topic k : ℕ) (wheel : Wheel) (v : Vec ℕ) → (queued : IsQueued board draft at topic wheel) → IsLeastAt (counts_of draft.counts.items queued.is_at.takers.items) k
-    → v ≡ get_or board.takers.items topic v → k < length v.items
-taker_in board draft at topic k wheel v queued least read_v =
-    let there = slice_get_read board.takers.items (length board.takers.items) topic v refl (slice_get_within board.takers.items topic queued.is_at.takers queued.are_takers) read_v in
+taker_in : (board : Board) (draft : Draft) (at class k : ℕ) (wheel : Wheel) (v : Vec ℕ) → (queued : IsQueued board draft at class wheel) → IsLeastAt (counts_of draft.counts.items queued.is_at.takers.items) k
+    → v ≡ get_or board.takers.items class v → k < length v.items
+taker_in board draft at class k wheel v queued least read_v =
+    let there = slice_get_read board.takers.items (length board.takers.items) class v refl (slice_get_within board.takers.items class queued.is_at.takers queued.are_takers) read_v in
     let same : v ≡ queued.is_at.takers = same_Some v queued.is_at.takers (sym there ∙ queued.are_takers) in
     let longs = ap (λ (w : Vec ℕ). length w.items) same in
-    let low = first-within board draft at topic k wheel queued least in
+    let low = first-within board draft at class k wheel queued least in
     omega arith
 
 pub index-requires : goal.index-requires
 index-requires c =
     let board = c.args.self.now in
-    let queued = IsQueued-of board c.args.draft.now c.args.at c.args.queue.now.topic c.args.queue.now.wheel c.requires.board c.requires.topic c.requires.queue in
-    let low = slice_get_within board.takers.items c.args.queue.now.topic queued.is_at.takers queued.are_takers in
+    let queued = IsQueued-of board c.args.draft.now c.args.at c.args.queue.now.class c.args.queue.now.wheel c.requires.board c.requires.class c.requires.queue in
+    let low = slice_get_within board.takers.items c.args.queue.now.class queued.is_at.takers queued.are_takers in
     let ok = board.takers.ok in
     omega arith
 
@@ -50,10 +50,10 @@ pub index-member-requires : goal.index-member-requires
 index-member-requires c =
     let board = c.args.self.now in
     let draft = c.args.draft.now in
-    let topic = c.args.queue.now.topic in
+    let class = c.args.queue.now.class in
     let wheel = c.args.queue.now.wheel in
-    let queued = IsQueued-of board draft c.args.at topic c.args.queue.now.wheel c.requires.board c.requires.topic c.requires.queue in
-    let low = taker_in board draft c.args.at topic c.in-Some.first wheel c.index.result.now queued (c.in-Some.ensures.first (counts_of draft.counts.items queued.is_at.takers.items) queued.wheel_of) c.index.ensures in
+    let queued = IsQueued-of board draft c.args.at class c.args.queue.now.wheel c.requires.board c.requires.class c.requires.queue in
+    let low = taker_in board draft c.args.at class c.in-Some.first wheel c.index.result.now queued (c.in-Some.ensures.first (counts_of draft.counts.items queued.is_at.takers.items) queued.wheel_of) c.index.ensures in
     let ok = c.index.result.now.ok in
     omega arith
 
@@ -64,20 +64,20 @@ pub give-requires-clause-member_in : goal.give-requires-clause-member_in
 give-requires-clause-member_in c =
     let board = c.args.self.now in
     let draft = c.args.draft.now in
-    let topic = c.args.queue.now.topic in
+    let class = c.args.queue.now.class in
     let wheel = c.args.queue.now.wheel in
-    let queued = IsQueued-of board draft c.args.at topic c.args.queue.now.wheel c.requires.board c.requires.topic c.requires.queue in
-    let first = read_first board draft c.args.at topic c.in-Some.first c.index-member.result.now wheel c.index.result.now c.requires.draft queued (c.in-Some.ensures.first (counts_of draft.counts.items queued.is_at.takers.items) queued.wheel_of) c.index.ensures c.index-member.ensures in
+    let queued = IsQueued-of board draft c.args.at class c.args.queue.now.wheel c.requires.board c.requires.class c.requires.queue in
+    let first = read_first board draft c.args.at class c.in-Some.first c.index-member.result.now wheel c.index.result.now c.requires.draft queued (c.in-Some.ensures.first (counts_of draft.counts.items queued.is_at.takers.items) queued.wheel_of) c.index.ensures c.index-member.ensures in
     first.within
 
 pub index-requires-in-Some : goal.index-requires-in-Some
 index-requires-in-Some c =
     let board = c.args.self.now in
     let draft = c.args.draft.now in
-    let topic = c.args.queue.now.topic in
+    let class = c.args.queue.now.class in
     let wheel = c.args.queue.now.wheel in
-    let queued = IsQueued-of board draft c.args.at topic c.args.queue.now.wheel c.requires.board c.requires.topic c.requires.queue in
-    let first = read_first board draft c.args.at topic c.in-Some.first c.index-member.result.now wheel c.index.result.now c.requires.draft queued (c.in-Some.ensures.first (counts_of draft.counts.items queued.is_at.takers.items) queued.wheel_of) c.index.ensures c.index-member.ensures in
+    let queued = IsQueued-of board draft c.args.at class c.args.queue.now.wheel c.requires.board c.requires.class c.requires.queue in
+    let first = read_first board draft c.args.at class c.in-Some.first c.index-member.result.now wheel c.index.result.now c.requires.draft queued (c.in-Some.ensures.first (counts_of draft.counts.items queued.is_at.takers.items) queued.wheel_of) c.index.ensures c.index-member.ensures in
     let low = first.within in
     let many = c.give.ensures.as_many in
     let ok = c.give.new.self.counts.ok in
@@ -87,10 +87,10 @@ pub set-requires : goal.set-requires
 set-requires c =
     let board = c.args.self.now in
     let draft = c.args.draft.now in
-    let topic = c.args.queue.now.topic in
+    let class = c.args.queue.now.class in
     let wheel = c.args.queue.now.wheel in
-    let queued = IsQueued-of board draft c.args.at topic c.args.queue.now.wheel c.requires.board c.requires.topic c.requires.queue in
-    let first = read_first board draft c.args.at topic c.in-Some.first c.index-member.result.now wheel c.index.result.now c.requires.draft queued (c.in-Some.ensures.first (counts_of draft.counts.items queued.is_at.takers.items) queued.wheel_of) c.index.ensures c.index-member.ensures in
+    let queued = IsQueued-of board draft c.args.at class c.args.queue.now.wheel c.requires.board c.requires.class c.requires.queue in
+    let first = read_first board draft c.args.at class c.in-Some.first c.index-member.result.now wheel c.index.result.now c.requires.draft queued (c.in-Some.ensures.first (counts_of draft.counts.items queued.is_at.takers.items) queued.wheel_of) c.index.ensures c.index-member.ensures in
     let after = c.in-Some.ensures.wheel (counts_of draft.counts.items first.queued.is_at.takers.items) first.queued.wheel_of in
     let lengths = ap length (after.same ∙ sym first.queued.wheel_of.same) in
     let room = first.room in
@@ -100,11 +100,11 @@ pub returns-in-Some-clause-queue : goal.returns-in-Some-clause-queue
 returns-in-Some-clause-queue c = λ takers is_takers.
     let board = c.args.self.now in
     let draft = c.args.draft.now in
-    let topic = c.args.queue.now.topic in
+    let class = c.args.queue.now.class in
     let wheel = c.args.queue.now.wheel in
-    let queued = IsQueued-of board draft c.args.at topic c.args.queue.now.wheel c.requires.board c.requires.topic c.requires.queue in
+    let queued = IsQueued-of board draft c.args.at class c.args.queue.now.wheel c.requires.board c.requires.class c.requires.queue in
     let m = c.index-member.result.now in
-    let first = read_first board draft c.args.at topic c.in-Some.first m wheel c.index.result.now c.requires.draft queued (c.in-Some.ensures.first (counts_of draft.counts.items queued.is_at.takers.items) queued.wheel_of) c.index.ensures c.index-member.ensures in
+    let first = read_first board draft c.args.at class c.in-Some.first m wheel c.index.result.now c.requires.draft queued (c.in-Some.ensures.first (counts_of draft.counts.items queued.is_at.takers.items) queued.wheel_of) c.index.ensures c.index-member.ensures in
     let new = c.give.new.self in
     let here = first.queued.is_at in
     let same : here.takers ≡ takers = same_Some here.takers takers (sym first.queued.are_takers ∙ is_takers) in
@@ -133,11 +133,11 @@ pub returns-in-Some-clause-filled : goal.returns-in-Some-clause-filled
 returns-in-Some-clause-filled c = λ x is_x.
     let board = c.args.self.now in
     let draft = c.args.draft.now in
-    let topic = c.args.queue.now.topic in
+    let class = c.args.queue.now.class in
     let wheel = c.args.queue.now.wheel in
-    let queued = IsQueued-of board draft c.args.at topic c.args.queue.now.wheel c.requires.board c.requires.topic c.requires.queue in
+    let queued = IsQueued-of board draft c.args.at class c.args.queue.now.wheel c.requires.board c.requires.class c.requires.queue in
     let m = c.index-member.result.now in
-    let first = read_first board draft c.args.at topic c.in-Some.first m wheel c.index.result.now c.requires.draft queued (c.in-Some.ensures.first (counts_of draft.counts.items queued.is_at.takers.items) queued.wheel_of) c.index.ensures c.index-member.ensures in
+    let first = read_first board draft c.args.at class c.in-Some.first m wheel c.index.result.now c.requires.draft queued (c.in-Some.ensures.first (counts_of draft.counts.items queued.is_at.takers.items) queued.wheel_of) c.index.ensures c.index-member.ensures in
     let here = first.queued.is_at in
     let part : (here.topic.0, first.queued.place.partition) ≡ x = same_Some _ x (sym here.is_part ∙ is_x) in
     let fewest = fewest-shown board draft c.requires.board c.requires.draft here.topic.0 here.takers.items m first.member here.are_takers first.least first.is_member in
@@ -150,8 +150,8 @@ pub returns-in_default-clause-filled : goal.returns-in_default-clause-filled
 returns-in_default-clause-filled c = λ x is_x.
     let board = c.args.self.now in
     let draft = c.args.draft.now in
-    let topic = c.args.queue.now.topic in
-    let queued = IsQueued-of board draft c.args.at topic c.args.queue.now.wheel c.requires.board c.requires.topic c.requires.queue in
+    let class = c.args.queue.now.class in
+    let queued = IsQueued-of board draft c.args.at class c.args.queue.now.wheel c.requires.board c.requires.class c.requires.queue in
     let here = queued.is_at in
     let part : (here.topic.0, queued.place.partition) ≡ x = same_Some _ x (sym here.is_part ∙ is_x) in
     let none = c.in_default.ensures.first (counts_of draft.counts.items here.takers.items) queued.wheel_of in

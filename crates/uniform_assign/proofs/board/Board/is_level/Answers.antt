@@ -1,7 +1,7 @@
 use Rattle.std.proofs.Common.{◌≡◌, ◌≤◌, ℕ, List, false, ap, get_or, length, Option, None, Some, is_some, sym, subst, ◌∙◌, arith, inl, inr}
 use Rattle.std.proofs.lemmas.Bool.{cases_lt}
 use Rattle.uniform_assign.specs.declared.level.Move.{Move}
-use Rattle.uniform_assign.specs.Moves.{CanGive, IsGiversLimit, IsMoveOf}
+use Rattle.uniform_assign.specs.Moves.{CanGive, IsMoveOf}
 use Rattle.uniform_assign.proofs.Moves.{poor-stays}
 use Rattle.uniform_assign.proofs.Shown.{can_give-owns}
 use Rattle.uniform_assign.proofs.board.Board.is_level.Goals as goal
@@ -38,5 +38,4 @@ returns-then-are_within c = λ from k low can.
     let within = c.requires.draft.counts.within k from (can_give-owns board draft c.requires.board.bare c.requires.draft from k can) in
     let shown = ap length c.deref.ensures.value in
     let few : get_or draft.counts.items from 0 ≤ limit = subst (λ (xs : List ℕ). get_or xs from 0 ≤ limit) c.deref.ensures.value (c.if-are_within.ensures from 0 (omega (arith, within, shown))) in
-    poor-stays board draft c.requires.board c.requires.draft c.args.fewest.now limit from c.requires.fewest
-    (subst (λ (xs : List ℕ). IsGiversLimit xs c.args.fewest.now limit) c.deref-2.ensures.value c.givers_limit.ensures) few k can
+    poor-stays board draft c.requires.board c.requires.draft limit from (c.givers_limit.ensures board draft.counts.items c.requires.rankings) few k can

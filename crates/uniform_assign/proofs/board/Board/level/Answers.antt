@@ -1,5 +1,6 @@
-use Rattle.std.proofs.Common.{[], List, Option, ℕ, refl, sym, subst}
-use Rattle.uniform_assign.specs.Moves.{AreFewest}
+use Rattle.std.proofs.Common.{[], List, refl, sym, subst}
+use Rattle.uniform_assign.specs.declared.ranking.Ranking.{Ranking}
+use Rattle.uniform_assign.specs.Rankings.{AreRankings}
 use Rattle.uniform_assign.proofs.Moves.{no_move-level}
 use Rattle.uniform_assign.proofs.board.Board.level.Goals as goal
 
@@ -9,5 +10,5 @@ returns-then-is_level c =
     let draft = c.args.draft.now in
     record { draft = c.requires.draft; levelled = record { steps = []; are_moves = refl; is_level = no_move-level board draft c.requires.board c.requires.draft c.if-is_level.ensures } }
 
-pub is_level-requires-clause-fewest : goal.is_level-requires-clause-fewest
-is_level-requires-clause-fewest c = subst (λ (xs : List (Option ℕ)). AreFewest c.args.self.now c.args.draft.now xs) (sym c.deref.ensures.value) c.in_ok-fewest.ensures
+pub is_level-requires-clause-rankings : goal.is_level-requires-clause-rankings
+is_level-requires-clause-rankings c = subst (λ (xs : List Ranking). AreRankings c.args.self.now c.args.draft.now.counts.items xs) (sym c.deref.ensures.value) c.in_ok-rankings.ensures

@@ -29,4 +29,4 @@ returns-clause-piles c = λ draft are.
     let shown : c.deref.result.now ≡ list.items = c.deref.ensures.value in
     AreHeld-drawn c.args.self.now draft piles.hands.items piles.listed.items are m c.index_mut.result.now is_hand c.draw.new.hand list c.new.result is_list c.new.ensures.items
     (λ t k inside. c.in_ok-draw.ensures.drawn t k (subst (λ xs. IsListedIn xs t k) (sym shown) inside)) c.in_ok-draw.ensures.kept
-    (λ t k there. elim (c.in_ok-draw.ensures.topics t k there) [ inl was ↦ inl was | inr inside ↦ inr (subst (λ xs. IsListedIn xs t k) shown inside) ])
+    (λ t k there. elim (c.in_ok-draw.ensures.classes t k there) [ inl was ↦ inl was | inr inside ↦ inr (subst (λ xs. IsListedIn xs t k) shown inside) ])

@@ -1,14 +1,16 @@
 use Rattle.std.proofs.Common.{◌≡◌, ◌<◌, ℕ, ap, List, [], ◌∷◌, ◌++◌, length, slice_set, refl, sym, subst, arith, Some, get_or, length-set}
-use Rattle.std.proofs.lemmas.Option.{slice_get_within}
+use Rattle.std.proofs.lemmas.Option.{slice_get_read, slice_get_within}
 use Rattle.group_types.specs.Owners.{Spread}
 use Rattle.group_types.specs.Uniform.{AreMoves}
 use Rattle.uniform_assign.specs.Drafts.{drawn_on}
 use Rattle.uniform_assign.specs.Moves.{IsFirst, IsNext}
 use Rattle.uniform_assign.specs.Orders.{IsOrder}
 use Rattle.uniform_assign.specs.Rankings.{AreRankings}
+use Rattle.uniform_assign.specs.Seats.{AreSeatsOf}
 use Rattle.std.proofs.lemmas.List.{get_or_read}
 use Rattle.uniform_assign.proofs.Counts.{moved-again, squares, squares_fall}
 use Rattle.uniform_assign.proofs.Ordered.{order-room}
+use Rattle.uniform_assign.proofs.Seated.{AreSeatsOf-listed}
 use Rattle.uniform_assign.proofs.Moves.{AreMoves-push, IsDraft-give, move-to, next_move, no_move-level}
 use Rattle.uniform_assign.proofs.board.Board.move_each.Goals as goal
 use Rattle.uniform_assign.specs.Boards.{members_on}
@@ -18,7 +20,7 @@ loop-piles-init c = (
   c.requires.draft,
   ([], refl),
   c.in_ok-piles.ensures,
-  c.in_ok-rankings.ensures,
+  c.requires.rankings,
   subst (λ (xs : List ℕ). IsOrder xs c.in_ok-order.order) c.deref.ensures.value c.in_ok-order.ensures,
 )
 
@@ -84,10 +86,10 @@ loop-piles-preserved c =
           let as_many = c.give.ensures.as_many in
           let fewer = first.is_move.fewer in
           let apart : m.to ≡ m.from → ⊥ = λ same. let equal = ap (λ n. get_or counts n 0) same in omega arith in
-          let one = c.index.result.now in
-          let two = c.index-in-Some.result.now in
-          let is_one = get_or_read new m.from one (omega arith) c.index.ensures 0 in
-          let is_two = get_or_read new m.to two (omega arith) c.index-in-Some.ensures 0 in
+          let one = c.index-in-Some.result.now in
+          let two = c.index-in-Some-3.result.now in
+          let is_one = get_or_read new m.from one (omega arith) c.index-in-Some.ensures 0 in
+          let is_two = get_or_read new m.to two (omega arith) c.index-in-Some-3.ensures 0 in
           let long = length-set counts m.from one in
           let renewed = c.renew.ensures counts from_in ranked in
           let again = c.renew-in-Some.ensures (slice_set counts m.from one) (omega arith) renewed in
@@ -101,10 +103,10 @@ loop-piles-preserved c =
           let as_many = c.give.ensures.as_many in
           let fewer = first.is_move.fewer in
           let apart : m.to ≡ m.from → ⊥ = λ same. let equal = ap (λ n. get_or counts n 0) same in omega arith in
-          let one = c.index-in-Some-2.result.now in
-          let two = c.index-in-Some-3.result.now in
-          let is_one = get_or_read new m.from one (omega arith) c.index-in-Some-2.ensures 0 in
-          let is_two = get_or_read new m.to two (omega arith) c.index-in-Some-3.ensures 0 in
+          let one = c.index-in-Some-4.result.now in
+          let two = c.index-in-Some-5.result.now in
+          let is_one = get_or_read new m.from one (omega arith) c.index-in-Some-4.ensures 0 in
+          let is_two = get_or_read new m.to two (omega arith) c.index-in-Some-5.ensures 0 in
           let written = c.set.ensures counts c.in_ok-next.ensures.order in
           let again = c.set-in-Some.ensures (slice_set counts m.from one) written in
           subst (λ xs. IsOrder xs c.set-in-Some.new.self) (moved-again counts new m.from m.to one two from_in (omega arith) apart (c.give.ensures.moved m.from first.is_move.owns) is_one is_two) again,
@@ -133,20 +135,6 @@ returns c =
     let none = subst (IsNext board draft (length board.places.items)) c.in_default.is c.in_ok-next.ensures.next in
     record { draft = is_draft; levelled = record { steps = steps; are_moves = moves; is_level = no_move-level board draft c.requires.board is_draft none } }
 
-pub index-requires-in-Some : goal.index-requires-in-Some
-index-requires-in-Some c =
-    let board = c.args.self.now in
-    let draft = c.loop-piles.draft in
-    let m = c.in-Some.next in
-    let is_draft = c.loop-piles.invariant.0 in
-    let first : IsFirst board draft (length board.places.items) m = subst (IsNext board draft (length board.places.items)) c.in-Some.is c.in_ok-next.ensures.next in
-    let (to, is_to) = move-to board draft c.requires.board is_draft m first.is_move in
-    let low = slice_get_within (members_on board) m.to to is_to in
-    let many = is_draft.as_many_counts in
-    let as_many = c.give.ensures.as_many in
-    let ok = c.give.new.self.counts.ok in
-    omega arith
-
 pub renew-requires-in-Some-clause-known : goal.renew-requires-in-Some-clause-known
 renew-requires-in-Some-clause-known c =
     let board = c.args.self.now in
@@ -155,7 +143,12 @@ renew-requires-in-Some-clause-known c =
     let is_draft = c.loop-piles.invariant.0 in
     let first : IsFirst board draft (length board.places.items) m = subst (IsNext board draft (length board.places.items)) c.in-Some.is c.in_ok-next.ensures.next in
     let from_in = is_draft.counts.within m.partition m.from first.is_move.owns in
-    (slice_set draft.counts.items m.from c.index.result.now, c.renew.ensures draft.counts.items from_in c.loop-piles.invariant.3)
+    let (to, is_to) = move-to board draft c.requires.board is_draft m first.is_move in
+    let low = slice_get_within (members_on board) m.to to is_to in
+    let many = is_draft.as_many_counts in
+    let one = c.index-in-Some.result.now in
+    let long = length-set draft.counts.items m.from one in
+    (slice_set draft.counts.items m.from one, omega arith, c.renew.ensures draft.counts.items from_in c.loop-piles.invariant.3)
 
 pub index-requires-in-Some-3 : goal.index-requires-in-Some-3
 index-requires-in-Some-3 c =
@@ -192,6 +185,63 @@ set-requires-in-Some c =
     let (to, is_to) = move-to board draft c.requires.board is_draft m first.is_move in
     let low = slice_get_within (members_on board) m.to to is_to in
     let many = is_draft.as_many_counts in
-    let one = c.index-in-Some-2.result.now in
+    let one = c.index-in-Some-4.result.now in
     let long = length-set counts m.from one in
     order-room (slice_set counts m.from one) c.set.new.self m.to (c.set.ensures counts c.in_ok-next.ensures.order) (omega arith)
+
+pub index-requires-in-Some-5 : goal.index-requires-in-Some-5
+index-requires-in-Some-5 c =
+    let board = c.args.self.now in
+    let draft = c.loop-piles.draft in
+    let m = c.in-Some.next in
+    let is_draft = c.loop-piles.invariant.0 in
+    let first : IsFirst board draft (length board.places.items) m = subst (IsNext board draft (length board.places.items)) c.in-Some.is c.in_ok-next.ensures.next in
+    let (to, is_to) = move-to board draft c.requires.board is_draft m first.is_move in
+    let low = slice_get_within (members_on board) m.to to is_to in
+    let many = is_draft.as_many_counts in
+    let as_many = c.give.ensures.as_many in
+    let ok = c.give.new.self.counts.ok in
+    omega arith
+
+pub index-requires-in-Some-2 : goal.index-requires-in-Some-2
+index-requires-in-Some-2 c =
+    let board = c.args.self.now in
+    let draft = c.loop-piles.draft in
+    let m = c.in-Some.next in
+    let is_draft = c.loop-piles.invariant.0 in
+    let first : IsFirst board draft (length board.places.items) m = subst (IsNext board draft (length board.places.items)) c.in-Some.is c.in_ok-next.ensures.next in
+    let (to, is_to) = move-to board draft c.requires.board is_draft m first.is_move in
+    let low = slice_get_within (members_on board) m.to to is_to in
+    let many = c.in_ok-seats.ensures.as_many in
+    let ok = c.in_ok-seats.seats.ok in
+    omega arith
+
+pub renew-requires-clause-seats : goal.renew-requires-clause-seats
+renew-requires-clause-seats c =
+    let board = c.args.self.now in
+    let draft = c.loop-piles.draft in
+    let m = c.in-Some.next in
+    let is_draft = c.loop-piles.invariant.0 in
+    let first : IsFirst board draft (length board.places.items) m = subst (IsNext board draft (length board.places.items)) c.in-Some.is c.in_ok-next.ensures.next in
+    let from_in = is_draft.counts.within m.partition m.from first.is_move.owns in
+    let many = is_draft.as_many_counts in
+    let seats = c.in_ok-seats.seats.items in
+    let as_many = c.in_ok-seats.ensures.as_many in
+    let list = c.index.result.now in
+    let is_list = slice_get_read seats (length seats) m.from list refl (omega arith) c.index.ensures in
+    subst (AreSeatsOf board m.from) (sym c.deref-in-Some.ensures.value) (AreSeatsOf-listed board seats m.from list c.in_ok-seats.ensures is_list)
+
+pub renew-requires-in-Some-clause-seats : goal.renew-requires-in-Some-clause-seats
+renew-requires-in-Some-clause-seats c =
+    let board = c.args.self.now in
+    let draft = c.loop-piles.draft in
+    let m = c.in-Some.next in
+    let is_draft = c.loop-piles.invariant.0 in
+    let first : IsFirst board draft (length board.places.items) m = subst (IsNext board draft (length board.places.items)) c.in-Some.is c.in_ok-next.ensures.next in
+    let (to, is_to) = move-to board draft c.requires.board is_draft m first.is_move in
+    let low = slice_get_within (members_on board) m.to to is_to in
+    let seats = c.in_ok-seats.seats.items in
+    let as_many = c.in_ok-seats.ensures.as_many in
+    let list = c.index-in-Some-2.result.now in
+    let is_list = slice_get_read seats (length seats) m.to list refl (omega arith) c.index-in-Some-2.ensures in
+    subst (AreSeatsOf board m.to) (sym c.deref-in-Some-2.ensures.value) (AreSeatsOf-listed board seats m.to list c.in_ok-seats.ensures is_list)

@@ -1,37 +1,78 @@
-use Rattle.std.proofs.Common.{◌≡◌, ◌<◌, ℕ, List, length, get_or, refl, sym, ap, subst, ◌∙◌, arith, Option, Some, None}
+use Rattle.std.proofs.Common.{◌≡◌, ◌<◌, ◌≤◌, ◌+◌, ℕ, List, length, get_or, refl, sym, ap, subst, ◌∙◌, arith, Option, Some, None}
+use Rattle.std.specs.Global.{Vec}
 use Rattle.std.specs.List.{slice_get}
-use Rattle.std.proofs.lemmas.List.{get_or_read}
-use Rattle.std.proofs.lemmas.Option.{get_or_from_slice_get, slice_get_read, slice_get_within}
+use Rattle.std.proofs.lemmas.List.{get_or_read, length-map, nil_from_length}
+use Rattle.std.proofs.lemmas.Option.{same_Some, slice_get_read, slice_get_within}
 use Rattle.uniform_assign.specs.declared.board.Board.{Board}
-use Rattle.uniform_assign.specs.declared.board.Place.{Place}
 use Rattle.uniform_assign.specs.declared.draft.Draft.{Draft}
-use Rattle.uniform_assign.specs.Drafts.{IsDraft, IsLeast, IsLeastOf}
-use Rattle.uniform_assign.specs.Moves.{AreFewest, IsMoveOf}
-use Rattle.uniform_assign.proofs.Boards.{IsAt, at_place, least-within}
+use Rattle.uniform_assign.specs.declared.ranking.Rank.{Rank}
+use Rattle.uniform_assign.specs.declared.ranking.Ranking.{Ranking}
+use Rattle.uniform_assign.specs.Boards.{IsBoard, IsOfClass}
+use Rattle.uniform_assign.specs.Drafts.{IsDraft, IsLeast}
+use Rattle.uniform_assign.specs.Moves.{IsMoveOf}
+use Rattle.uniform_assign.specs.Rankings.{AreRankings, IsFirstRankOf, IsRanking, counts_of}
 use Rattle.uniform_assign.proofs.Counts.{count-le}
+use Rattle.uniform_assign.proofs.Lists.{some_at}
 use Rattle.uniform_assign.proofs.Moves.{near-stays, no_owner-stays, no_taker-stays}
+use Rattle.uniform_assign.proofs.Queued.{IsFirstTaker, IsFirstTaker-of}
 use Rattle.uniform_assign.proofs.board.Board.move_of.Goals as goal
-use Rattle.uniform_assign.specs.Boards.{members_on}
 
 -- the place that was read
 read : {X : Type 0} (xs : List X) (k : ℕ) (x : X) → k < length xs → x ≡ get_or xs k x → slice_get xs k ≡ Some x
 read xs k x within is = slice_get_read xs (length xs) k x refl within is
 
-module _ (board : Board) (draft : Draft) (fewest : List (Option ℕ)) (are : AreFewest board draft fewest) (k : ℕ) (place : Place) (at : IsAt board k place) where
-  topic_within : place.topic < length fewest
-  topic_within = let (o, is_o, least) = are place.topic at.takers at.are_there in slice_get_within fewest place.topic o is_o
+-- the takers of the class whose ranking was read, and the first of them
+record IsRead (board : Board) (draft : Draft) (class : ℕ) (o : Option Rank) : Type 0 where
+  takers : Vec ℕ
+  are_takers : slice_get board.takers.items class ≡ Some takers
+  first : IsFirstRankOf (counts_of draft.counts.items takers.items) o
 
-  least_read : (o : Option ℕ) → get_or fewest place.topic None ≡ o → IsLeastOf draft.counts.items at.takers.items o
-  least_read o same =
-      let (p, is_p, least) = are place.topic at.takers at.are_there in
-      subst (IsLeastOf draft.counts.items at.takers.items) (sym (get_or_from_slice_get fewest place.topic p None is_p) ∙ same) least
+IsRead-of : (board : Board) (draft : Draft) (rankings : List Ranking) (class : ℕ) (ranking : Ranking) (o : Option Rank) → AreRankings board draft.counts.items rankings → class < length board.takers.items
+    → ranking ≡ get_or rankings class ranking → ((counts : List ℕ) → IsRanking counts ranking.nodes.items → IsFirstRankOf counts o) → IsRead board draft class o
+IsRead-of board draft rankings class ranking o are low is first =
+    let (takers, is_takers) = some_at board.takers.items class low in
+    let many = are.as_many in
+    let is_ranking = read rankings class ranking (omega arith) is in
+    record { takers = takers; are_takers = is_takers; first = first (counts_of draft.counts.items takers.items) (are.each class takers ranking is_takers is_ranking) }
 
-  least_in : (is_draft : IsDraft board draft) (m : ℕ) → IsLeast draft.counts.items at.takers.items m → m < length draft.counts.items
-  least_in is_draft m least =
-      let (s, is_s) = least-within (members_on board) at.topic.0 draft.counts.items at.takers.items m at.are_takers least in
-      let low = slice_get_within (members_on board) m s is_s in
-      let many = is_draft.as_many_counts in
-      omega arith
+module _ (board : Board) (draft : Draft) (is : IsBoard board) (are : IsDraft board draft) (at class : ℕ) (of_class : IsOfClass board at class) where
+  nobody : IsRead board draft class None → IsMoveOf board draft at None
+  nobody read =
+      let (place, is_place, is_class) = of_class in
+      let none = ap length read.first in
+      let long = length-map read.takers.items (λ u. get_or draft.counts.items u 0) in
+      no_taker-stays board draft is are at place class read.takers is_place is_class read.are_takers (nil_from_length read.takers.items (omega arith))
+
+  first_taker : (rank : Rank) → (read : IsRead board draft class (Some rank)) → IsFirstTaker draft read.takers.items rank
+  first_taker rank read = IsFirstTaker-of board draft is are class read.takers rank read.are_takers read.first
+
+  stays : (from : ℕ) (rank : Rank) → slice_get draft.owners.items at ≡ Some (Some from) → IsRead board draft class (Some rank) → get_or draft.counts.items from 0 ≤ rank.count + 1 → IsMoveOf board draft at None
+  stays from rank owns read near =
+      let (place, is_place, is_class) = of_class in
+      let first = first_taker rank read in
+      let count = first.count in
+      near-stays board draft is are at from first.member place class read.takers is_place is_class read.are_takers owns first.least (omega arith)
+
+  moves : (from to : ℕ) (rank : Rank) → slice_get draft.owners.items at ≡ Some (Some from) → (read : IsRead board draft class (Some rank)) → slice_get read.takers.items rank.place ≡ Some to → rank.count + 1 < get_or draft.counts.items from 0
+      → IsMoveOf board draft at (Some (record { partition = at; from = from; to = to }))
+  moves from to rank owns read is_to fewer =
+      let (place, is_place, is_class) = of_class in
+      let first = first_taker rank read in
+      let same : first.member ≡ to = same_Some first.member to (sym first.is_member ∙ is_to) in
+      let count = first.count ∙ ap (λ m. get_or draft.counts.items m 0) same in (
+        refl,
+        record {
+          owns = owns;
+          place = place;
+          is_place = is_place;
+          class = class;
+          is_class = is_class;
+          takers = read.takers;
+          are_takers = read.are_takers;
+          is_least = subst (IsLeast draft.counts.items read.takers.items) same first.least;
+          fewer = omega arith;
+        },
+      )
 
 pub returns-in_err-from : goal.returns-in_err-from
 returns-in_err-from c =
@@ -40,57 +81,32 @@ returns-in_err-from c =
     subst (IsMoveOf c.args.self.now c.args.draft.now c.args.at) (sym c.from_residual.ensures)
     (no_owner-stays c.args.self.now c.args.draft.now c.requires.board c.requires.draft c.args.at (read owners c.args.at c.index.result.now within c.index.ensures ∙ ap Some c.in_err-from.was))
 
-pub bounds-fewest-index : goal.bounds-fewest-index
-bounds-fewest-index c =
-    let board = c.args.self.now in
-    let at = at_place board c.requires.board c.args.at c.index-2.result.now (read board.places.items c.args.at c.index-2.result.now c.requires.within c.index-2.ensures) in
-    topic_within board c.args.draft.now c.args.fewest.now c.requires.fewest c.args.at c.index-2.result.now at
-
-pub offset_bounds-fewest-index : goal.offset_bounds-fewest-index
-offset_bounds-fewest-index c =
-    let board = c.args.self.now in
-    let at = at_place board c.requires.board c.args.at c.index-2.result.now (read board.places.items c.args.at c.index-2.result.now c.requires.within c.index-2.ensures) in
-    let low = topic_within board c.args.draft.now c.args.fewest.now c.requires.fewest c.args.at c.index-2.result.now at in
-    omega arith
-
-pub returns-in_err-to : goal.returns-in_err-to
-returns-in_err-to c =
+pub returns-in_err-first : goal.returns-in_err-first
+returns-in_err-first c =
     let board = c.args.self.now in
     let draft = c.args.draft.now in
-    let place = c.index-2.result.now in
-    let here = read board.places.items c.args.at place c.requires.within c.index-2.ensures in
-    let at = at_place board c.requires.board c.args.at place here in
-    let none = least_read board draft c.args.fewest.now c.requires.fewest c.args.at place at None c.in_err-to.was in
-    subst (IsMoveOf board draft c.args.at) (sym c.from_residual-in_err-to.ensures)
-    (no_taker-stays board draft c.requires.board c.requires.draft c.args.at place at.takers here at.are_there none)
+    let class = c.class_at-class.result in
+    let ranking = c.index-rankings-class.result in
+    let is_read = IsRead-of board draft c.args.rankings.now class ranking None c.requires.rankings c.class_at-class.ensures.below c.index-rankings-class.is c.in_err-first.ensures in
+    subst (IsMoveOf board draft c.args.at) (sym c.from_residual-in_err-first.ensures) (nobody board draft c.requires.board c.requires.draft c.args.at class c.class_at-class.ensures.class is_read)
 
-pub index-requires-3 : goal.index-requires-3
-index-requires-3 c =
+pub overflow_add-first : goal.overflow_add-first
+overflow_add-first c =
     let board = c.args.self.now in
     let draft = c.args.draft.now in
-    let place = c.index-2.result.now in
-    let at = at_place board c.requires.board c.args.at place (read board.places.items c.args.at place c.requires.within c.index-2.ensures) in
-    let least = least_read board draft c.args.fewest.now c.requires.fewest c.args.at place at (Some c.in_ok-to.to) c.in_ok-to.was in
-    let low = least_in board draft c.args.fewest.now c.requires.fewest c.args.at place at c.requires.draft c.in_ok-to.to least in
-    let ok = draft.counts.ok in
-    omega arith
-
-pub overflow_add-index : goal.overflow_add-index
-overflow_add-index c =
-    let board = c.args.self.now in
-    let draft = c.args.draft.now in
-    let place = c.index-2.result.now in
-    let at = at_place board c.requires.board c.args.at place (read board.places.items c.args.at place c.requires.within c.index-2.ensures) in
-    let least = least_read board draft c.args.fewest.now c.requires.fewest c.args.at place at (Some c.in_ok-to.to) c.in_ok-to.was in
-    let low = least_in board draft c.args.fewest.now c.requires.fewest c.args.at place at c.requires.draft c.in_ok-to.to least in
-    let few = count-le draft.owners.items draft.counts.items c.in_ok-to.to c.requires.draft.counts low in
-    let value = get_or_read draft.counts.items c.in_ok-to.to c.index-3.result.now low c.index-3.ensures 0 in
+    let class = c.class_at-class.result in
+    let ranking = c.index-rankings-class.result in
+    let rank = c.in_ok-first.first in
+    let is_read = IsRead-of board draft c.args.rankings.now class ranking (Some rank) c.requires.rankings c.class_at-class.ensures.below c.index-rankings-class.is c.in_ok-first.ensures in
+    let first = first_taker board draft c.requires.board c.requires.draft c.args.at class c.class_at-class.ensures.class rank is_read in
+    let few = count-le draft.owners.items draft.counts.items first.member c.requires.draft.counts first.within in
+    let count = first.count in
     let ok = draft.owners.ok in
     let small = draft.owners.small in
     omega arith
 
-pub index-requires-4 : goal.index-requires-4
-index-requires-4 c =
+pub index-requires-2 : goal.index-requires-2
+index-requires-2 c =
     let draft = c.args.draft.now in
     let owners = draft.owners.items in
     let within : c.args.at < length owners = let many = c.requires.draft.as_many_owners in let low = c.requires.within in omega arith in
@@ -98,40 +114,59 @@ index-requires-4 c =
     let ok = draft.counts.ok in
     omega arith
 
-pub returns-then-index : goal.returns-then-index
-returns-then-index c =
+pub index-requires-then-first-index-2 : goal.index-requires-then-first-index-2
+index-requires-then-first-index-2 c =
     let board = c.args.self.now in
     let draft = c.args.draft.now in
-    let owners = draft.owners.items in
-    let counts = draft.counts.items in
-    let place = c.index-2.result.now in
-    let here = read board.places.items c.args.at place c.requires.within c.index-2.ensures in
-    let at = at_place board c.requires.board c.args.at place here in
-    let least = least_read board draft c.args.fewest.now c.requires.fewest c.args.at place at (Some c.in_ok-to.to) c.in_ok-to.was in
-    let to_in = least_in board draft c.args.fewest.now c.requires.fewest c.args.at place at c.requires.draft c.in_ok-to.to least in
-    let within : c.args.at < length owners = let many = c.requires.draft.as_many_owners in let low = c.requires.within in omega arith in
-    let owns = read owners c.args.at c.index.result.now within c.index.ensures ∙ ap Some c.in_ok-from.was in
-    let from_in = c.requires.draft.counts.within c.args.at c.in_ok-from.from owns in
-    let his = get_or_read counts c.in_ok-to.to c.index-3.result.now to_in c.index-3.ensures 0 in
-    let mine = get_or_read counts c.in_ok-from.from c.index-4.result.now from_in c.index-4.ensures 0 in
-    let fewer = c.if-index.true in
-    (refl, record { owns = owns; place = place; is_place = here; takers = at.takers; are_takers = at.are_there; is_least = least; fewer = omega arith })
+    let class = c.class_at-class.result in
+    let ranking = c.index-rankings-class.result in
+    let rank = c.in_ok-first.first in
+    let is_read = IsRead-of board draft c.args.rankings.now class ranking (Some rank) c.requires.rankings c.class_at-class.ensures.below c.index-rankings-class.is c.in_ok-first.ensures in
+    let first = first_taker board draft c.requires.board c.requires.draft c.args.at class c.class_at-class.ensures.class rank is_read in
+    let v = c.index-then-first-index.result.now in
+    let is_v = read board.takers.items class v c.class_at-class.ensures.below c.index-then-first-index.ensures in
+    let same : is_read.takers ≡ v = same_Some is_read.takers v (sym is_read.are_takers ∙ is_v) in
+    let inside = slice_get_within is_read.takers.items rank.place first.member first.is_member in
+    let longs = ap (λ (w : Vec ℕ). length w.items) same in
+    let ok = v.ok in
+    omega arith
 
-pub returns-else-index : goal.returns-else-index
-returns-else-index c =
+pub returns-then-first-index : goal.returns-then-first-index
+returns-then-first-index c =
     let board = c.args.self.now in
     let draft = c.args.draft.now in
     let owners = draft.owners.items in
-    let counts = draft.counts.items in
-    let place = c.index-2.result.now in
-    let here = read board.places.items c.args.at place c.requires.within c.index-2.ensures in
-    let at = at_place board c.requires.board c.args.at place here in
-    let least = least_read board draft c.args.fewest.now c.requires.fewest c.args.at place at (Some c.in_ok-to.to) c.in_ok-to.was in
-    let to_in = least_in board draft c.args.fewest.now c.requires.fewest c.args.at place at c.requires.draft c.in_ok-to.to least in
+    let class = c.class_at-class.result in
+    let ranking = c.index-rankings-class.result in
+    let rank = c.in_ok-first.first in
+    let is_read = IsRead-of board draft c.args.rankings.now class ranking (Some rank) c.requires.rankings c.class_at-class.ensures.below c.index-rankings-class.is c.in_ok-first.ensures in
+    let first = first_taker board draft c.requires.board c.requires.draft c.args.at class c.class_at-class.ensures.class rank is_read in
+    let v = c.index-then-first-index.result.now in
+    let to = c.index-then-first-index-2.result.now in
+    let is_v = read board.takers.items class v c.class_at-class.ensures.below c.index-then-first-index.ensures in
+    let same : is_read.takers ≡ v = same_Some is_read.takers v (sym is_read.are_takers ∙ is_v) in
+    let inside = slice_get_within is_read.takers.items rank.place first.member first.is_member in
+    let longs = ap (λ (w : Vec ℕ). length w.items) same in
+    let is_to = ap (λ (w : Vec ℕ). slice_get w.items rank.place) same ∙ read v.items rank.place to (omega arith) c.index-then-first-index-2.ensures in
     let within : c.args.at < length owners = let many = c.requires.draft.as_many_owners in let low = c.requires.within in omega arith in
     let owns = read owners c.args.at c.index.result.now within c.index.ensures ∙ ap Some c.in_ok-from.was in
     let from_in = c.requires.draft.counts.within c.args.at c.in_ok-from.from owns in
-    let his = get_or_read counts c.in_ok-to.to c.index-3.result.now to_in c.index-3.ensures 0 in
-    let mine = get_or_read counts c.in_ok-from.from c.index-4.result.now from_in c.index-4.ensures 0 in
-    let near = c.if-index.false in
-    near-stays board draft c.requires.board c.requires.draft c.args.at c.in_ok-from.from c.in_ok-to.to place at.takers here at.are_there owns least (omega arith)
+    let mine = get_or_read draft.counts.items c.in_ok-from.from c.index-2.result.now from_in c.index-2.ensures 0 in
+    let fewer = c.if-first-index.true in
+    moves board draft c.requires.board c.requires.draft c.args.at class c.class_at-class.ensures.class c.in_ok-from.from to rank owns is_read is_to (omega arith)
+
+pub returns-else-first-index : goal.returns-else-first-index
+returns-else-first-index c =
+    let board = c.args.self.now in
+    let draft = c.args.draft.now in
+    let owners = draft.owners.items in
+    let class = c.class_at-class.result in
+    let ranking = c.index-rankings-class.result in
+    let rank = c.in_ok-first.first in
+    let is_read = IsRead-of board draft c.args.rankings.now class ranking (Some rank) c.requires.rankings c.class_at-class.ensures.below c.index-rankings-class.is c.in_ok-first.ensures in
+    let within : c.args.at < length owners = let many = c.requires.draft.as_many_owners in let low = c.requires.within in omega arith in
+    let owns = read owners c.args.at c.index.result.now within c.index.ensures ∙ ap Some c.in_ok-from.was in
+    let from_in = c.requires.draft.counts.within c.args.at c.in_ok-from.from owns in
+    let mine = get_or_read draft.counts.items c.in_ok-from.from c.index-2.result.now from_in c.index-2.ensures 0 in
+    let near = c.if-first-index.false in
+    stays board draft c.requires.board c.requires.draft c.args.at class c.class_at-class.ensures.class c.in_ok-from.from rank owns is_read (omega arith)

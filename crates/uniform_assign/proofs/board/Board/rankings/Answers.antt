@@ -7,40 +7,40 @@ use Rattle.uniform_assign.proofs.Boards.{takers_within}
 use Rattle.uniform_assign.proofs.Queued.{AreRankingsTo, AreRankingsTo-more, AreRankingsTo-none}
 use Rattle.uniform_assign.proofs.board.Board.rankings.Goals as goal
 
-pub loop-topic-init : goal.loop-topic-init
-loop-topic-init c = AreRankingsTo-none c.args.self.now c.args.draft.now.counts.items c.in_ok-rankings.rankings.items c.in_ok-rankings.ensures.items
+pub loop-class-init : goal.loop-class-init
+loop-class-init c = AreRankingsTo-none c.args.self.now c.args.draft.now.counts.items c.in_ok-rankings.rankings.items c.in_ok-rankings.ensures.items
 
 pub of-requires : goal.of-requires
 of-requires c =
     let board = c.args.self.now in
-    let low = c.loop-topic-test.true in
-    let shown = c.len-topic-end.ensures in
+    let low = c.loop-class-test.true in
+    let shown = c.len-class-end.ensures in
     let ok = board.takers.ok in
-    let here = slice_get_read board.takers.items (length board.takers.items) c.loop-topic.topic c.index.result.now refl (omega arith) c.index.ensures in
-    let all = takers_within board c.requires.board c.loop-topic.topic c.index.result.now here in
-    subst (λ (xs : List ℕ). All (λ t. t < length c.deref.result.now) xs) (sym c.deref-in-loop-topic.ensures.value)
+    let here = slice_get_read board.takers.items (length board.takers.items) c.loop-class.class c.index.result.now refl (omega arith) c.index.ensures in
+    let all = takers_within board c.requires.board c.loop-class.class c.index.result.now here in
+    subst (λ (xs : List ℕ). All (λ t. t < length c.deref.result.now) xs) (sym c.deref-in-loop-class.ensures.value)
     (subst (λ n. All (λ t. t < n) c.index.result.now.items) (sym c.requires.draft.as_many_counts ∙ ap length (sym c.deref.ensures.value)) all)
 
-pub loop-topic-preserved : goal.loop-topic-preserved
-loop-topic-preserved c =
+pub loop-class-preserved : goal.loop-class-preserved
+loop-class-preserved c =
     let board = c.args.self.now in
     let counts = c.args.draft.now.counts.items in
-    let n = c.loop-topic.topic in
-    let low = c.loop-topic-test.true in
-    let shown = c.len-topic-end.ensures in
+    let n = c.loop-class.class in
+    let low = c.loop-class-test.true in
+    let shown = c.len-class-end.ensures in
     let ok = board.takers.ok in
     let takers = c.index.result.now in
     let ranking = c.in_ok-of.field-0 in
     let here = slice_get_read board.takers.items (length board.takers.items) n takers refl (omega arith) c.index.ensures in
-    let is = subst (λ (xs : List ℕ). IsRanking (counts_of counts xs) ranking.nodes.items) c.deref-in-loop-topic.ensures.value (subst (λ xs. IsRanking (counts_of xs c.deref-in-loop-topic.result.now) ranking.nodes.items) c.deref.ensures.value c.in_ok-of.ensures) in
-    let pushed : c.push.new.self.items ≡ c.loop-topic.rankings.items ++ ranking ∷ [] = c.in_ok-push.ensures.items in
-    subst (AreRankingsTo board counts (n + 1)) (sym {A = List Ranking} pushed) (AreRankingsTo-more board counts n c.loop-topic.rankings.items takers ranking c.loop-topic.invariant here is)
+    let is = subst (λ (xs : List ℕ). IsRanking (counts_of counts xs) ranking.nodes.items) c.deref-in-loop-class.ensures.value (subst (λ xs. IsRanking (counts_of xs c.deref-in-loop-class.result.now) ranking.nodes.items) c.deref.ensures.value c.in_ok-of.ensures) in
+    let pushed : c.push.new.self.items ≡ c.loop-class.rankings.items ++ ranking ∷ [] = c.in_ok-push.ensures.items in
+    subst (AreRankingsTo board counts (n + 1)) (sym {A = List Ranking} pushed) (AreRankingsTo-more board counts n c.loop-class.rankings.items takers ranking c.loop-class.invariant here is)
 
 pub returns : goal.returns
 returns c =
-    let last = c.loop-topic-test.false in
-    let end = c.loop-topic.auto.topic-end in
-    let shown = c.len-topic-end.ensures in
+    let last = c.loop-class-test.false in
+    let end = c.loop-class.auto.class-end in
+    let shown = c.len-class-end.ensures in
     let ok = c.args.self.now.takers.ok in
-    let many = c.loop-topic.invariant.as_many in
-    record { as_many = omega arith; each = c.loop-topic.invariant.each }
+    let many = c.loop-class.invariant.as_many in
+    record { as_many = omega arith; each = c.loop-class.invariant.each }

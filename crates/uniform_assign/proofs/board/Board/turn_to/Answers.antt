@@ -11,16 +11,16 @@ pub of-requires : goal.of-requires
 of-requires c =
     let board = c.args.self.now in
     let counts = c.args.draft.now.counts.items in
-    let here = slice_get_read board.takers.items (length board.takers.items) c.args.topic c.index.result.now refl c.requires.topic_in c.index.ensures in
-    let all = takers_within board c.requires.board c.args.topic c.index.result.now here in
-    subst (λ (xs : List ℕ). All (λ t. t < length c.deref.result.now) xs) (sym c.deref-then-queue-topic.ensures.value)
+    let here = slice_get_read board.takers.items (length board.takers.items) c.args.class c.index.result.now refl c.requires.class_in c.index.ensures in
+    let all = takers_within board c.requires.board c.args.class c.index.result.now here in
+    subst (λ (xs : List ℕ). All (λ t. t < length c.deref.result.now) xs) (sym c.deref-then-queue-class.ensures.value)
     (subst (λ n. All (λ t. t < n) c.index.result.now.items) (sym c.requires.draft.as_many_counts ∙ ap length (sym c.deref.ensures.value)) all)
 
 pub returns-in_ok-queue-clause-queue : goal.returns-in_ok-queue-clause-queue
 returns-in_ok-queue-clause-queue c = λ takers is_takers.
     let board = c.args.self.now in
     let wheel = c.in_ok-queue.field-0 in
-    let here = slice_get_read board.takers.items (length board.takers.items) c.args.topic c.index.result.now refl c.requires.topic_in c.index.ensures in
+    let here = slice_get_read board.takers.items (length board.takers.items) c.args.class c.index.result.now refl c.requires.class_in c.index.ensures in
     let same : c.index.result.now ≡ takers = same_Some c.index.result.now takers (sym here ∙ is_takers) in
-    subst (λ (xs : List ℕ). IsWheel (counts_of c.args.draft.now.counts.items xs) wheel) (c.deref-then-queue-topic.ensures.value ∙ ap (λ (v : Vec ℕ). v.items) same)
-    (subst (λ xs. IsWheel (counts_of xs c.deref-then-queue-topic.result.now) wheel) c.deref.ensures.value c.in_ok-queue.ensures)
+    subst (λ (xs : List ℕ). IsWheel (counts_of c.args.draft.now.counts.items xs) wheel) (c.deref-then-queue-class.ensures.value ∙ ap (λ (v : Vec ℕ). v.items) same)
+    (subst (λ xs. IsWheel (counts_of xs c.deref-then-queue-class.result.now) wheel) c.deref.ensures.value c.in_ok-queue.ensures)

@@ -24,7 +24,7 @@ pub loop-place-preserved : goal.loop-place-preserved
 loop-place-preserved c =
     let before = c.loop-place.invariant in
     let place = c.in-Some.place in (
-      c.drop_first.ensures.topic ∙ before.0,
+      c.drop_first.ensures.class ∙ before.0,
       λ k is. before.1 k (c.drop_first.ensures.fewer k is),
       λ k is owns. elim (c.drop_first.ensures.kept k (before.2 k is owns)) [
         | inl here ↦ absurd (owner_is_not (get_or c.args.owners.now place None) c.args.member c.if-eq.ensures

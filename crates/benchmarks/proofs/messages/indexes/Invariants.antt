@@ -1,6 +1,0 @@
-use Rattle.std.proofs.Common.{◌≡◌, length}
-use Rattle.benchmarks.proofs.messages.indexes.Given as goal
-
--- so many as there were rounds
-abbrev pub invariant-loop-partition : goal.invariant-loop-partition
-invariant-loop-partition l = length l.indexes ≡ l.partition

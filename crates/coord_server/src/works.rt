@@ -1,0 +1,40 @@
+//! What a worker's thread does.
+ghost use Rattle.std.specs.Prelude.{◌≡◌, IsOk};
+
+use crate::arrivals::Arrivals;
+use crate::connection::Connection;
+use crate::fault::ServerFault;
+use futures::Future;
+use futures::task::{Context, Poll};
+use link_futures::{Desk, Worker};
+use std::alloc::Global;
+
+/// A worker over the lines that arrive, and its desk. It has no faults: its lines end with theirs.
+#[derive(Drop)]
+pub struct Works<K: Connection, D> {
+    worker: Worker<Arrivals<K>, D>,
+}
+
+impl<K: Connection, D: Desk> Works<K, D> {
+    /// A worker with no lines.
+    pub fn new(alloc: Global, arrivals: Arrivals<K>, desk: D) -> Works<K, D>
+        ensures { (result.worker.arrivals ≡ arrivals) × (result.worker.desk ≡ desk) }
+    {
+        Works {
+            worker: Worker::new(alloc, arrivals, desk),
+        }
+    }
+}
+
+impl<K: Connection, D: Desk> Future for Works<K, D> {
+    type Output = Result<u64, ServerFault>;
+
+    ghost gives = { λ _ r. IsOk r };
+
+    fn poll(&mut self, cx: &mut Context<'_>) -> Poll<Result<u64, ServerFault>> {
+        match self.worker.poll(cx) {
+            Poll::Ready(ended) => Poll::Ready(Ok(ended)),
+            Poll::Pending => Poll::Pending,
+        }
+    }
+}

@@ -1,3 +1,0 @@
-pub mod Writable
-pub mod Owned
-pub mod Indexes

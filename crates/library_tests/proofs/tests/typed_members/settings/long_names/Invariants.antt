@@ -1,7 +1,0 @@
-use Rattle.std.proofs.Common.{map, All, string_bytes}
-use Rattle.kip_msgs.specs.Writable.{IsShort}
-use Rattle.library_tests.proofs.tests.typed_members.settings.long_names.Given as goal
-
--- the names so far can be written
-abbrev pub invariant-loop : goal.invariant-loop
-invariant-loop l = All IsShort (map string_bytes l.names.items)

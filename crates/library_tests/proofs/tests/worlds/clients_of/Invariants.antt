@@ -1,7 +1,0 @@
-use Rattle.std.proofs.Common.{All}
-use Rattle.member_core.specs.Views.{settings_value, HasShortTexts}
-use Rattle.library_tests.proofs.tests.worlds.clients_of.Given as goal
-
--- the texts so far can be written
-abbrev pub invariant-loop-words : goal.invariant-loop-words
-invariant-loop-words l = All (λ settings. HasShortTexts (settings_value settings)) l.each.items

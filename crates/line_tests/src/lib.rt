@@ -1,0 +1,9 @@
+//! The tests of `link_futures`: lines and members' requests over readers and writers in memory.
+#![tactic(auto)]
+
+#[cfg(test)]
+mod beats;
+#[cfg(test)]
+mod lines;
+#[cfg(test)]
+mod streams;

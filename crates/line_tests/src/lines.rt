@@ -1,0 +1,333 @@
+//! Lines over readers and writers in memory, with replies worked out by hand from the Kafka protocol guide and KIP-848.
+ghost use Rattle.std.specs.Prelude.{⊤};
+
+use crate::streams::{
+    Frames, drain, feed, numbered_rows, output_within, put_words, task_of, written,
+};
+use coord_node::{Image, Node};
+use futures::stream;
+use futures::task::Poll;
+use futures::test::MockTask;
+use link_futures::{
+    Counted, Drain, End, Feed, Line, Moment, Moments, Session, Solo, Worker, WriteParts,
+};
+use std::alloc::{AllocError, AllocGlobal, Global};
+use std::collections::hash_map::RandomState;
+use std::random::RandomSource;
+use std::test::Fail;
+use test_support::frames::{JOIN, JOINED, STRANGER, TAKEN, UNKNOWN};
+use test_support::tables::{Answers, cut, number, wrong_rows};
+use tokio::io::{DuplexStream, duplex};
+use topic_meta::TopicEntry;
+use uuid::Uuid;
+
+/// The commit of the worked frames, at the epoch of the first join.
+const COMMIT: &str =
+    "0008 0009 00000008 ffff 00 0267 00000001 ID1 00 02 0274 02 00000001 0000000000000005 ffffffff 00 00 00 00";
+
+const REQUESTS: &[(&str, &str)] = &[("join", JOIN), ("stranger", STRANGER), ("commit", COMMIT)];
+
+const REPLIES: &[(&str, &str)] = &[("joined", JOINED), ("unknown", UNKNOWN), ("taken", TAKEN)];
+
+/// A question has what each poll of the reader and of the writer does, and the bytes that the reader gives. The answer has how
+/// the line ends, and what was written.
+const LINES: &str = "
+1 1p*80 - = Finished
+1 1p*80 - join = Finished joined
+1..33 1p*80 - join join:# = CutShort joined
+1 1p*80 - join 00000000 = Closed joined
+1 1p*80 - join 00800001 = Closed joined
+1 1p*80 - join ffffffff = Closed joined
+1 1p*80 - 00800001 = Closed
+1 1p*80 - 00000000 = Closed
+1..33 1p*80 - join:# = CutShort
+1..32 1p*80 - stranger:# = CutShort
+0..29 1p*80 - join/# = Closed
+0..28 1p*80 - stranger/# = Closed
+0..78 1p*80 - commit/# = Closed
+0..78 - - join commit/# = Closed joined
+1 1p*80 - join commit = Finished joined taken
+1..82 1p*80 - join commit:# = CutShort joined
+1 1p*80 - 00000001ff join = Closed
+1 - 1*132 join stranger = Finished joined unknown
+1 7*9 9*20 join stranger = Finished joined unknown
+1 - - stranger*16 = Finished unknown*16
+1 - - stranger*17 = Finished unknown*17
+1 - p*70 stranger*65 = Finished unknown*65
+1 - p*70+1*9 stranger*65 join = Finished unknown*65 joined
+0..33 1*#+f - join = ReadFault
+34 1*#+f - join = ReadFault joined
+35 1*#+f - join = Finished joined
+35..66 1*#+f - join stranger = ReadFault joined
+67 1*#+f - join stranger = ReadFault joined unknown
+68 1*#+f - join stranger = Finished joined unknown
+0 - 1*#+f join stranger = WriteFault
+1..90 - 1*#+f join stranger = WriteFault joined:#
+91 - 1*#+f join stranger = WriteFault joined
+132 - 1*#+f join stranger = Finished joined unknown
+0 - 1*#+f stranger join = WriteFault
+4..40 - 1*#+f stranger join = WriteFault unknown:#
+41 - 1*#+f stranger join = WriteFault unknown
+0 - 1*#+0 join = WriteFault
+1..90 - 1*#+0 join = WriteFault joined:#
+91 - 1*#+0 join = Finished joined
+";
+
+/// Two frames at once, and byte by byte. So few growths are made here that each can be refused.
+const TWO_FRAMES: &str = "
+- - join stranger = Finished joined unknown
+1p*80 1p*132 join stranger = Finished joined unknown
+";
+
+/// Lines of workers, and a line whose writer takes nothing.
+///
+/// - `worker`: the lines of one worker, parted by `; `: what each poll of the reader does, and the bytes that it gives. The answer has
+///   how many have ended once the worker is ready, and what each has written.
+/// - `polls N`: how many lines of the worker with this one line have ended within N polls.
+/// - `held N`: how many frames of the line are answered within N turns, and how many bytes are written then; and what comes after.
+const WORKERS: &str = "
+# the second line has nothing to read any more while the others are still read byte by byte
+worker 1p*80 join; - stranger; 1p*80 stranger*2 = 3 | joined | unknown | unknown*2
+# a session answers a hundred frames in a hundred turns: a worker gives a line that has frames several turns in a poll
+polls 10 - - stranger*100 = 1
+# sixty-five frames come in one read, while the writer is pending
+held 70 - p*70 stranger*65 = 64 0 Finished unknown*65
+";
+
+/// A desk whose frames all come at 0 ms.
+#[derive(Drop)]
+struct Still;
+
+impl Moments for Still {
+    ghost hands = { λ _ _ _. ⊤ };
+
+    fn now(&mut self) -> Moment {
+        Moment::of_millis(0)
+    }
+}
+
+/// A line whose reader gives what a question says.
+type FedLine<W> = Line<Counted<Feed>, W>;
+
+type Polled = Session<Counted<Feed>, Counted<Drain>, Solo<Still>>;
+
+/// How many bytes a pipe holds: more than all replies of a line.
+const PIPE: usize = 256;
+
+/// A task that polls, how nodes look groups up, and the frames that come and go.
+#[derive(Drop)]
+struct Streaming {
+    task: MockTask,
+    hasher: RandomState,
+    requests: Frames,
+    replies: Frames,
+}
+
+fn polling<R: RandomSource + AllocGlobal>(rt: &R) -> Result<Streaming, Fail> {
+    Ok(Streaming {
+        task: task_of(rt)?,
+        hasher: RandomState::new(rt)?,
+        requests: Frames::of(rt.alloc(), REQUESTS)?,
+        replies: Frames::of(rt.alloc(), REPLIES)?,
+    })
+}
+
+#[test]
+fn streams_are_answered(rt: HostRuntime) -> Result<(), Fail> {
+    let rows = numbered_rows(rt.alloc(), LINES)?;
+    let wrong = wrong_rows(rt.alloc(), &polling(&rt)?, rows.as_str())?;
+    assert_eq!(rt; wrong.as_str(), "");
+    Ok(())
+}
+
+#[test]
+fn two_frames_are_answered(rt: HostRuntime) -> Result<(), Fail> {
+    let wrong = wrong_rows(rt.alloc(), &polling(&rt)?, TWO_FRAMES)?;
+    assert_eq!(rt; wrong.as_str(), "");
+    Ok(())
+}
+
+#[test]
+fn workers_serve_their_lines(rt: HostRuntime) -> Result<(), Fail> {
+    let wrong = wrong_rows(rt.alloc(), &polling(&rt)?, WORKERS)?;
+    assert_eq!(rt; wrong.as_str(), "");
+    Ok(())
+}
+
+impl Answers for Streaming {
+    fn answer(&self, alloc: Global, question: &str, out: &mut String) -> Result<(), AllocError> {
+        let (call, words) = cut(question);
+        match call {
+            "worker" => self.tell_worker(alloc, words, out),
+            "polls" => self.tell_polls(alloc, words, out),
+            "held" => self.tell_held(alloc, words, out),
+            _ => self.tell_session(self.session_of(alloc, question)?, out),
+        }
+    }
+}
+
+impl Streaming {
+    /// Tells how a session ends, and what it has written.
+    fn tell_session(&self, session: Polled, out: &mut String) -> Result<(), AllocError> {
+        let mut session = session;
+        put_end(last_turn(&self.task, &mut session), out)?;
+        let (line, _) = session.into_parts();
+        put_words(line.writer().inner().taken(), &self.replies, out)
+    }
+
+    fn tell_held(&self, alloc: Global, words: &str, out: &mut String) -> Result<(), AllocError> {
+        let (turns, words) = cut(words);
+        let mut session = self.session_of(alloc, words)?;
+        for _ in 0..number::<u32>(turns) {
+            if let Poll::Ready(end) = turn(&self.task, &mut session) {
+                write!(out, "{end:?} ")?;
+            }
+        }
+        let (line, desk) = session.into_parts();
+        let written = line.writer().inner().taken().len();
+        write!(out, "{} {written} ", line.answered())?;
+        self.tell_session(Session::new(line, desk), out)
+    }
+
+    /// Tells what a worker's lines have written. A line that finds no memory is let go, and is no line that has ended: then the row
+    /// is asked again.
+    fn tell_worker(&self, alloc: Global, words: &str, out: &mut String) -> Result<(), AllocError> {
+        let (mut lines, mut far_ends) = (Vec::new(alloc), Vec::new(alloc));
+        for words in words.split("; ") {
+            let (line, far) = self.piped_line(alloc, words)?;
+            lines.push(line)?;
+            far_ends.push(far)?;
+        }
+        let wanted = lines.len() as u64;
+        let ended = ended_within(alloc, &self.task, lines, self.desk(alloc)?, 1_000);
+        if ended != Some(wanted) {
+            return Err(AllocError);
+        }
+        write!(out, "{wanted}")?;
+        self.tell_written(alloc, far_ends, out)
+    }
+
+    /// A line that writes into a pipe, and the other end of the pipe.
+    fn piped_line(
+        &self,
+        alloc: Global,
+        words: &str,
+    ) -> Result<(FedLine<Counted<DuplexStream>>, DuplexStream), AllocError> {
+        let (reads, words) = cut(words);
+        let reader = Counted::new(feed(alloc, reads, words, &self.requests)?);
+        let (near, far) = duplex(alloc, PIPE)?;
+        Ok((Line::new(alloc, 1, reader, Counted::new(near)), far))
+    }
+
+    fn tell_written(
+        &self,
+        alloc: Global,
+        far_ends: Vec<DuplexStream>,
+        out: &mut String,
+    ) -> Result<(), AllocError> {
+        for far in far_ends {
+            out.push_str(" |")?;
+            let bytes = written(alloc, &self.task, far)?;
+            put_words(bytes.as_slice(), &self.replies, out)?;
+        }
+        Ok(())
+    }
+
+    fn tell_polls(&self, alloc: Global, words: &str, out: &mut String) -> Result<(), AllocError> {
+        let (polls, words) = cut(words);
+        let mut lines = Vec::new(alloc);
+        lines.push(self.line_of(alloc, words)?)?;
+        match ended_within(alloc, &self.task, lines, self.desk(alloc)?, number(polls)) {
+            Some(ended) => write!(out, "{ended}"),
+            None => out.push_str("no end"),
+        }
+    }
+
+    /// The session of a question, over a node with a topic `t` of two partitions.
+    fn session_of(&self, alloc: Global, question: &str) -> Result<Polled, AllocError> {
+        let line = self.line_of(alloc, question)?;
+        Ok(Session::new(line, self.desk(alloc)?))
+    }
+
+    /// The line of a question.
+    fn line_of(
+        &self,
+        alloc: Global,
+        question: &str,
+    ) -> Result<FedLine<Counted<Drain>>, AllocError> {
+        let (reads, words) = cut(question);
+        let (writes, words) = cut(words);
+        let reader = Counted::new(feed(alloc, reads, words, &self.requests)?);
+        let writer = Counted::new(drain(alloc, writes)?);
+        Ok(Line::new(alloc, 1, reader, writer))
+    }
+
+    /// A desk over a node with a topic `t` of two partitions.
+    fn desk(&self, alloc: Global) -> Result<Solo<Still>, AllocError> {
+        let mut topics = Vec::new(alloc);
+        topics.push(TopicEntry {
+            name: String::from_str(alloc, "t")?,
+            id: Uuid::from_bytes([0x11; 16]),
+            count: 2,
+        })?;
+        let mut node = Node::new(alloc, 0, self.hasher);
+        node.set_image(Image::of(alloc, topics).map_err(|_| AllocError)?);
+        Ok(Solo::new(alloc, node, Still))
+    }
+}
+
+/// How a session ends, or nothing where it doesn't end within 1,000 turns or waits for what never comes.
+fn last_turn(task: &MockTask, session: &mut Polled) -> Option<End> {
+    for _ in 0..1_000 {
+        match turn(task, session) {
+            Poll::Ready(end) => return Some(end),
+            Poll::Pending => {
+                if !task.is_woken() {
+                    return None;
+                }
+            }
+        }
+    }
+    None
+}
+
+/// One turn. Where a growth is refused nothing is lost, and it is made once more.
+fn turn(task: &MockTask, session: &mut Polled) -> Poll<End> {
+    match task.poll(session) {
+        Poll::Ready(End::NoMemory) => task.poll(session),
+        polled => polled,
+    }
+}
+
+fn put_end(end: Option<End>, out: &mut String) -> Result<(), AllocError> {
+    match end {
+        Some(end) => write!(out, "{end:?}"),
+        None => out.push_str("no end"),
+    }
+}
+
+/// How many of these lines have ended once their worker is ready, if it is within so many polls.
+fn ended_within<W: WriteParts>(
+    alloc: Global,
+    task: &MockTask,
+    lines: Vec<FedLine<W>>,
+    desk: Solo<Still>,
+    polls: usize,
+) -> Option<u64> {
+    let worker = Worker::new(alloc, stream::iter(lines), desk);
+    output_within(task, worker, polls)
+}
+
+/// The numbers that reports use for the ends.
+#[test]
+fn ends_have_numbers(rt: HostRuntime) {
+    let ends = [
+        End::Finished,
+        End::CutShort,
+        End::Closed,
+        End::ReadFault,
+        End::WriteFault,
+        End::NoMemory,
+    ];
+    assert_eq!(rt; ends.map(|end| end as u8), [1, 2, 3, 4, 5, 6]);
+}

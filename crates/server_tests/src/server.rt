@@ -1,0 +1,294 @@
+//! A server over loopback sockets, and what is tried over them and over memory.
+ghost use Rattle.std.specs.Prelude.{◌≡◌, ◌<◌};
+
+use crate::gates::{Crossing, Meeting, Watched};
+use crate::memory::over_memory;
+use coord_server::{
+    AlwaysOpen, ClockMoments, Gate, Moments, Plan, ServerFault, Shards, ShardsDesk, serve_sockets,
+};
+use std::alloc::{AllocError, AllocGlobal, Global};
+use std::collections::hash_map::RandomState;
+use std::io::{Read, Write};
+use std::marker::Brand;
+use std::net::{Ipv4Addr, Net, SocketAddr, TcpListener, TcpStream};
+use std::random::RandomSource;
+use std::sync::Wait;
+use std::sync::ledger::{Blank, Ledger};
+use std::test::Fail;
+use std::thread::Threads;
+use std::time::{Clock, Duration};
+use std::{io, thread};
+use test_support::frames::{JOIN, JOINED, frame_of};
+use topic_meta::{Image, TopicEntry};
+use uuid::Uuid;
+
+/// After how many seconds a client waits for a reply no longer.
+const LONGEST_WAIT: u64 = 20;
+
+/// What a client does: it sends each of its connections a join, and then reads their replies in an order of its own.
+#[derive(Clone, Copy)]
+struct Client<'a> {
+    frames: &'a [Vec<u8>],
+    order: &'a [usize],
+}
+
+/// A server whose expiry worker ticks while it serves.
+const TICKING: Plan = Plan {
+    workers: 1,
+    connections: 1,
+    expires: true,
+};
+
+const TWO_WORKERS: Plan = Plan {
+    workers: 2,
+    connections: 2,
+    expires: false,
+};
+
+const ONE_WORKER: Plan = Plan {
+    workers: 1,
+    connections: 2,
+    expires: false,
+};
+
+/// What comes of a server: how many connections it has served, how many of their replies were right, and whether a thread was held up
+/// for too long.
+pub type Told = (u64, usize, bool);
+
+/// All that is wanted of two connections.
+const BOTH: Told = (2, 2, false);
+
+#[test]
+fn first_join_is_answered(rt: HostRuntime) -> Result<(), Fail> {
+    let frames = joins(rt.alloc(), "g")?;
+    let client = Client {
+        frames: &frames,
+        order: &[0],
+    };
+    assert_eq!(rt;
+        over_sockets(&rt, AlwaysOpen, TICKING, client)?,
+        (1, 1, false)
+    );
+    Ok(())
+}
+
+/// Of two shards `a` is on shard 1 and `b` on shard 0, since they are the bytes 97 and 98.
+#[test]
+fn two_shards_at_once(rt: HostRuntime) -> Result<(), Fail> {
+    let frames = joins(rt.alloc(), "ab")?;
+    let client = Client {
+        frames: &frames,
+        order: &[0, 1],
+    };
+    let sockets = over_sockets(&rt, Meeting::new(&rt), TWO_WORKERS, client)?;
+    let memory = over_memory(&rt, Meeting::new(&rt), TWO_WORKERS, &frames)?;
+    assert_eq!(rt; (sockets, memory), (BOTH, BOTH));
+    Ok(())
+}
+
+/// The reply on one connection is held until that on the other is out, whichever is held.
+#[test]
+fn replies_cross(rt: HostRuntime) -> Result<(), Fail> {
+    let frames = joins(rt.alloc(), "ab")?;
+    for (held, order) in [(1, [1, 0]), (2, [0, 1])] {
+        let client = Client {
+            frames: &frames,
+            order: &order,
+        };
+        let told = over_sockets(&rt, Crossing::new(&rt, held), ONE_WORKER, client)?;
+        assert_eq!(rt; told, BOTH, "connection {held} is held");
+    }
+    Ok(())
+}
+
+/// The frames of joins of groups whose ids are one byte each.
+fn joins(alloc: Global, groups: &str) -> Result<Vec<Vec<u8>>, AllocError> {
+    let mut frames = Vec::new(alloc);
+    for group in groups.bytes() {
+        let mut frame = frame_of(alloc, JOIN)?;
+        if let Some(byte) = frame.get_mut(16) {
+            *byte = group;
+        }
+        frames.push(frame)?;
+    }
+    Ok(frames)
+}
+
+/// What comes of a server on a loopback socket.
+fn over_sockets<G, R>(rt: &R, gate: G, plan: Plan, client: Client<'_>) -> Result<Told, ServerFault>
+where
+    G: Watched,
+    R: Wait
+        + Threads
+        + Clock
+        + Net<Listener = TcpListener, Stream = TcpStream>
+        + RandomSource
+        + AllocGlobal
+        + Sync,
+    requires { 0 < plan.workers }
+{
+    let moments = match ClockMoments::start(rt) {
+        Ok(moments) => moments,
+        Err(error) => return Err(ServerFault::System(error)),
+    };
+    let (entries, calls) = (Blank::new(2), Blank::new(258));
+    sockets_over::<Brand, Brand, G, _, R>(rt, gate, &moments, plan, client, entries, calls)
+}
+
+/// The same, over ledgers of its own.
+fn sockets_over<A, C, G, M, R>(
+    rt: &R,
+    gate: G,
+    moments: &M,
+    plan: Plan,
+    client: Client<'_>,
+    entries: Blank,
+    calls: Blank,
+) -> Result<Told, ServerFault>
+where
+    A: Ledger + Send + Sync,
+    C: Ledger + Send + Sync,
+    G: Watched,
+    M: Moments + Clone + Send + Sync,
+    R: Wait
+        + Threads
+        + Clock
+        + Net<Listener = TcpListener, Stream = TcpStream>
+        + RandomSource
+        + AllocGlobal
+        + Sync,
+    requires entries { (entries.name ≡ A.name) × (entries.parts ≡ A.parts) × (entries.parts ≡ 2) }
+    requires calls { (calls.name ≡ C.name) × (calls.parts ≡ C.parts) × (calls.parts ≡ 258) }
+    requires plan { 0 < plan.workers }
+{
+    let shards = shards_over::<A, C, G, _, R>(rt, gate, moments, entries, calls)?;
+    let (served, right) = served_over_sockets(rt, &shards, moments, plan, client)?;
+    Ok((served, right, shards.gate().was_late()))
+}
+
+/// How many connections of a client a server has served, and how many of their replies were right.
+fn served_over_sockets<A, C, G, M, R>(
+    rt: &R,
+    shards: &Shards<A, C, G>,
+    moments: &M,
+    plan: Plan,
+    client: Client<'_>,
+) -> Result<(u64, usize), ServerFault>
+where
+    A: Ledger + Send + Sync,
+    C: Ledger + Send + Sync,
+    G: Watched,
+    M: Moments + Clone + Send + Sync,
+    R: Wait
+        + Threads
+        + Clock
+        + Net<Listener = TcpListener, Stream = TcpStream>
+        + RandomSource
+        + AllocGlobal
+        + Sync,
+    requires { 0 < plan.workers }
+{
+    let socket = TcpListener::bind(rt, (Ipv4Addr::LOCALHOST, 0))?;
+    let address = socket.local_addr()?;
+    let connections = connect_all(rt, rt.alloc(), address, client.frames)?;
+    let (gate, order) = (shards.gate(), client.order);
+    let reply = frame_of(rt.alloc(), JOINED)?;
+    let (served, right) = thread::join(
+        rt,
+        move ||
+            requires { 0 < plan.workers }
+        { serve_sockets(rt, shards, socket, moments, plan, || Ok(())) },
+        move || read_all(gate, connections, reply, order),
+    );
+    Ok((served?, right?))
+}
+
+/// Two shards over a topic `t` of two partitions, whose gate holds threads up from now on.
+pub fn shards_over<A, C, G, M, R>(
+    rt: &R,
+    gate: G,
+    moments: &M,
+    entries: Blank,
+    calls: Blank,
+) -> Result<Shards<A, C, G>, ServerFault>
+where
+    A: Ledger,
+    C: Ledger,
+    G: Watched,
+    M: Moments + Clone,
+    R: Wait + Clock + RandomSource + AllocGlobal,
+    requires entries { (entries.name ≡ A.name) × (entries.parts ≡ A.parts) × (entries.parts ≡ 2) }
+    requires calls { (calls.name ≡ C.name) × (calls.parts ≡ C.parts) × (calls.parts ≡ 258) }
+{
+    let hasher = RandomState::new(rt)?;
+    let shards = Shards::<A, C, G>::new(rt.alloc(), 2, 0, 0, hasher, gate, entries, calls)?;
+    set_image(rt, &shards, moments.clone()?)?;
+    shards.gate().arm();
+    Ok(shards)
+}
+
+/// Gives every shard a topic `t` of two partitions.
+fn set_image<A, C, G, M, R>(rt: &R, shards: &Shards<A, C, G>, moments: M) -> Result<(), ServerFault>
+where
+    A: Ledger,
+    C: Ledger,
+    G: Gate,
+    M: Moments,
+    R: Wait + AllocGlobal,
+{
+    let image = image(rt.alloc())?;
+    let mut desk = ShardsDesk::new(rt, rt.alloc(), shards, moments)?;
+    desk.set_image(&image)?;
+    Ok(())
+}
+
+/// An image of a topic `t` of two partitions, whose id is sixteen bytes 0x11.
+fn image(alloc: Global) -> Result<Image, AllocError> {
+    let mut topics = Vec::new(alloc);
+    topics.push(TopicEntry {
+        name: String::from_str(alloc, "t")?,
+        id: Uuid::from_bytes([0x11; 16]),
+        count: 2,
+    })?;
+    Image::of(alloc, topics).map_err(|_| AllocError)
+}
+
+/// Connections of their own that were sent their frames, in order.
+fn connect_all<R: Net<Stream = TcpStream>>(
+    rt: &R,
+    alloc: Global,
+    address: SocketAddr,
+    frames: &[Vec<u8>],
+) -> io::Result<Vec<TcpStream>> {
+    let mut connections = Vec::new(alloc);
+    for frame in frames {
+        let mut connection = TcpStream::connect(rt, address)?;
+        connection.set_read_timeout(Some(Duration::from_secs(LONGEST_WAIT)))?;
+        connection.write_all(frame.as_slice())?;
+        connections.push(connection)?;
+    }
+    Ok(connections)
+}
+
+/// Reads the replies of the connections in an order, and says how many were right. Then all are closed.
+fn read_all<G: Watched>(
+    gate: &G,
+    connections: Vec<TcpStream>,
+    wanted: Vec<u8>,
+    order: &[usize],
+) -> io::Result<usize> {
+    let mut connections = connections;
+    let mut right = 0usize;
+    for place in order {
+        let Some(connection) = connections.get_mut(*place) else {
+            return Ok(right);
+        };
+        let mut reply = [0; 91];
+        connection.read_exact(&mut reply)?;
+        if reply.as_slice() == wanted.as_slice() {
+            right = right.saturating_add(1);
+        }
+        gate.reply_is_out((*place as u64).saturating_add(1));
+    }
+    Ok(right)
+}

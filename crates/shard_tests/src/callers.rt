@@ -1,0 +1,398 @@
+//! Threads that call shards at the same time. Whatever their order, each shard's entries, run one after the other through a
+//! node of their own, give the answers that the callers had.
+ghost use Rattle.std.specs.Prelude.{◌≡◌};
+
+use crate::events::{beat_body, body_of, frame_of, put_answer};
+use coord_node::{Answered, Node};
+use coord_shards::{AlwaysOpen, Answer, Entry, Event, Moment, Octets, Seat, Shard, Shards, Stamp};
+use kip_msgs::{Api, Reply, read_reply};
+use std::alloc::{AllocError, Global};
+use std::collections::hash_map::RandomState;
+use std::marker::Brand;
+use std::sync::Wait;
+use std::sync::ledger::{Blank, Ledger};
+use std::test::Fail;
+use std::thread;
+use std::thread::Threads;
+
+/// The groups that calls go to in turn. Of two shards `a` is on shard 1 and `b` on shard 0, since they are the bytes 97 and 98.
+/// Of four shards they are on 1, 2, 3 and 0.
+const GROUPS: [&str; 4] = ["a", "b", "c", "d"];
+
+/// How many joins a seat sends, and to how many of the groups.
+#[derive(Clone, Copy)]
+struct Joins {
+    count: u64,
+    groups: u64,
+}
+
+/// Two threads with a seat each send 100 joins, in turn to both groups. Then the first seat sends a heartbeat of the first
+/// member that the second made, at its epoch. It goes to group `a`, so shard 1 has the one entry more.
+const HISTORY: &str =
+    "beat 0 calls 101 100 shard 0: 100 of 50 50 b:100 shard 1: 101 of 51 50 a:100 closed";
+
+#[test]
+fn two_callers_make_one_history(rt: HostRuntime) -> Result<(), Fail> {
+    let (alloc, hasher) = (rt.alloc(), RandomState::new(&rt)?);
+    let told = history(&rt, alloc, hasher).or_else(|_| history(&rt, alloc, hasher))?;
+    assert_eq!(rt; told.as_str(), HISTORY);
+    Ok(())
+}
+
+fn history<R: Threads + Wait + Sync>(
+    rt: &R,
+    alloc: Global,
+    hasher: RandomState,
+) -> Result<String, AllocError> {
+    two_callers::<Brand, Brand, R>(rt, alloc, hasher, Blank::new(2), Blank::new(258))
+}
+
+/// What two callers and the shards that they called come to.
+fn two_callers<A: Ledger + Sync, C: Ledger + Sync, R: Threads + Wait + Sync>(
+    rt: &R,
+    alloc: Global,
+    hasher: RandomState,
+    entries: Blank,
+    calls: Blank,
+) -> Result<String, AllocError>
+    requires entries { (entries.name ≡ A.name) × (entries.parts ≡ A.parts) × (entries.parts ≡ 2) }
+    requires calls { (calls.name ≡ C.name) × (calls.parts ≡ C.parts) × (calls.parts ≡ 258) }
+{
+    let made = Shards::<A, C, AlwaysOpen>::new(
+        alloc, 2, 0, 65_536, hasher, AlwaysOpen, entries, calls,
+    );
+    let shards = made.map_err(|_| AllocError)?;
+    let mut first = shards.seat(rt, alloc).map_err(|_| AllocError)?;
+    let mut second = shards.seat(rt, alloc).map_err(|_| AllocError)?;
+    let answers = call_by_two(rt, alloc, &shards, &mut first, &mut second)?;
+    let seats = vec![in alloc; first, second]?;
+    let mut out = calls_told(alloc, &seats, &answers)?;
+    let closed = shards.close(alloc, seats).map_err(|_| AllocError)?;
+    put_shards(alloc, hasher, &closed, &answers, &mut out)?;
+    Ok(out)
+}
+
+/// The code of the heartbeat's answer, and how many calls each seat made.
+fn calls_told<C: Ledger>(
+    alloc: Global,
+    seats: &[Seat<C>],
+    answers: &Answers,
+) -> Result<String, AllocError> {
+    let mut out = String::new(alloc);
+    put_last(alloc, answers, &mut out)?;
+    put_calls(seats, &mut out)?;
+    Ok(out)
+}
+
+/// Puts what the shards come to, and what is wrong with their entries.
+fn put_shards(
+    alloc: Global,
+    hasher: RandomState,
+    shards: &[Shard],
+    answers: &Answers,
+    out: &mut String,
+) -> Result<(), AllocError> {
+    for shard in shards {
+        put_shard(shard, out)?;
+        put_history(alloc, hasher, shard, answers, out)?;
+    }
+    out.push_str(" closed")
+}
+
+/// So many seats.
+fn seats_of<A: Ledger, C: Ledger, R: Wait>(
+    rt: &R,
+    alloc: Global,
+    shards: &Shards<A, C, AlwaysOpen>,
+    count: usize,
+) -> Result<Vec<Seat<C>>, AllocError> {
+    let mut seats = Vec::with_capacity(alloc, count)?;
+    for _ in 0..count {
+        seats.push(shards.seat(rt, alloc).map_err(|_| AllocError)?)?;
+    }
+    Ok(seats)
+}
+
+/// The answers that each of two callers had, in the order of its calls.
+#[derive(Drop)]
+struct Answers {
+    first: Vec<Answer>,
+    second: Vec<Answer>,
+}
+
+/// Sends 100 joins from each of two seats at the same time, and then the heartbeat from the first.
+fn call_by_two<A: Ledger + Sync, C: Ledger + Sync, R: Threads + Wait + Sync>(
+    rt: &R,
+    alloc: Global,
+    shards: &Shards<A, C, AlwaysOpen>,
+    one: &mut Seat<C>,
+    other: &mut Seat<C>,
+) -> Result<Answers, AllocError> {
+    let joins = Joins {
+        count: 100,
+        groups: 2,
+    };
+    let (first, second) = thread::join(
+        rt,
+        || join_all(rt, alloc, shards, one, joins),
+        || join_all(rt, alloc, shards, other, joins),
+    );
+    let (mut first, second) = (first?, second?);
+    let event = beat(alloc, &second)?;
+    first.push(shards.call(rt, alloc, one, event))?;
+    Ok(Answers { first, second })
+}
+
+/// Sends joins from a seat, in turn to the groups, and gives their answers.
+fn join_all<A: Ledger, C: Ledger, R: Wait>(
+    rt: &R,
+    alloc: Global,
+    shards: &Shards<A, C, AlwaysOpen>,
+    seat: &mut Seat<C>,
+    joins: Joins,
+) -> Result<Vec<Answer>, AllocError> {
+    let mut answers = Vec::new(alloc);
+    for number in 1..=joins.count {
+        let group = group_of(number, joins);
+        answers.push(call_twice(rt, alloc, shards, seat, group, number)?)?;
+    }
+    Ok(answers)
+}
+
+/// The group that the join with a number goes to.
+fn group_of(number: u64, joins: Joins) -> &'static str {
+    let place = number.saturating_sub(1).checked_rem(joins.groups);
+    let place = usize::try_from(place.unwrap_or(0)).unwrap_or(0);
+    GROUPS.get(place).copied().unwrap_or("")
+}
+
+/// Sends a join, and once more where it is refused.
+fn call_twice<A: Ledger, C: Ledger, R: Wait>(
+    rt: &R,
+    alloc: Global,
+    shards: &Shards<A, C, AlwaysOpen>,
+    seat: &mut Seat<C>,
+    group: &str,
+    number: u64,
+) -> Result<Answer, AllocError> {
+    let connection = seat.number() as u64;
+    let event = join(alloc, group, connection, number);
+    let event = event.or_else(|_| join(alloc, group, connection, number))?;
+    let answer = shards.call(rt, alloc, seat, event);
+    if answer.is_refused() {
+        let event = join(alloc, group, connection, number)?;
+        return Ok(shards.call(rt, alloc, seat, event));
+    }
+    Ok(answer)
+}
+
+fn join(alloc: Global, group: &str, connection: u64, frame: u64) -> Result<Event, AllocError> {
+    Ok(frame_of(body_of(alloc, group)?, connection, frame))
+}
+
+/// A heartbeat of the member that the first of these answers made, in group `a`.
+fn beat(alloc: Global, answers: &[Answer]) -> Result<Event, AllocError> {
+    let body = match answers.first() {
+        Some(Answer::Replied(frame)) => beat_of(alloc, frame.as_slice())?,
+        _ => Vec::new(alloc),
+    };
+    Ok(frame_of(body, 2, 1))
+}
+
+/// The heartbeat of the member that a reply made.
+fn beat_of(alloc: Global, frame: &[u8]) -> Result<Vec<u8>, AllocError> {
+    match read_reply(alloc, Api::Heartbeat, frame.get(4..).unwrap_or(&[])) {
+        Ok(Reply::Heartbeat(_, reply)) => {
+            let id = reply.member_id.unwrap_or("");
+            beat_body(alloc, GROUPS[0], id, reply.member_epoch)
+        }
+        _ => Err(AllocError),
+    }
+}
+
+/// Puts the code of the last answer of the first caller, which is that to the heartbeat.
+fn put_last(alloc: Global, answers: &Answers, out: &mut String) -> Result<(), AllocError> {
+    let mut told = String::new(alloc);
+    if let Some(answer) = answers.first.last() {
+        put_answer(alloc, answer, &mut told)?;
+    }
+    let (code, _) = told.split_once('@').unwrap_or((told.as_str(), ""));
+    write!(out, "beat {code}")
+}
+
+fn put_calls<C: Ledger>(seats: &[Seat<C>], out: &mut String) -> Result<(), AllocError> {
+    out.push_str(" calls")?;
+    for seat in seats {
+        write!(out, " {}", seat.calls())?;
+    }
+    Ok(())
+}
+
+/// Puts how many entries a shard has, how many of them each seat made, and the members of its groups.
+fn put_shard(shard: &Shard, out: &mut String) -> Result<(), AllocError> {
+    let (number, kept) = (shard.number(), shard.entries().len());
+    let (first, second) = (shard.count(0), shard.count(1));
+    write!(out, " shard {number}: {kept} of {first} {second}")?;
+    for group in GROUPS {
+        if let Some(there) = shard.present().group(group) {
+            write!(out, " {group}:{}", there.members())?;
+        }
+    }
+    Ok(())
+}
+
+/// Puts what is wrong with the entries of a shard: that a seat's aren't in the order of its calls, or that a fresh node answers
+/// one of them otherwise than the caller was answered.
+fn put_history(
+    alloc: Global,
+    hasher: RandomState,
+    shard: &Shard,
+    answers: &Answers,
+    out: &mut String,
+) -> Result<(), AllocError> {
+    let mut node = Node::new(alloc, 0, hasher);
+    let mut last = [0; 2];
+    for entry in shard.entries() {
+        let call = call_of(entry);
+        if entry.seat > 1 || call <= last[entry.seat] {
+            out.push_str(" out of order")?;
+            return Ok(());
+        }
+        last[entry.seat] = call;
+        if !is_answered(
+            alloc,
+            &mut node,
+            entry,
+            answer_to(answers, entry.seat, call),
+        )? {
+            write!(out, " other answer to {}-{call}", entry.seat)?;
+        }
+    }
+    Ok(())
+}
+
+/// The number of the call that made an entry, among those of its seat: the heartbeat comes behind 100 joins.
+fn call_of(entry: &Entry) -> usize {
+    match &entry.event {
+        Event::Frame { stamp, .. } if stamp.connection < 2 => stamp.frame as usize,
+        Event::Frame { .. } => 101,
+        _ => 0,
+    }
+}
+
+/// The answer that a caller had to its call with a number.
+fn answer_to(answers: &Answers, seat: usize, call: usize) -> Option<&Answer> {
+    let had = if seat == 0 {
+        &answers.first
+    } else {
+        &answers.second
+    };
+    had.get(call.saturating_sub(1))
+}
+
+/// Whether a node answers an entry as the caller was answered.
+fn is_answered(
+    alloc: Global,
+    node: &mut Node,
+    entry: &Entry,
+    had: Option<&Answer>,
+) -> Result<bool, AllocError> {
+    let Event::Frame {
+        body,
+        stamp,
+        moment,
+    } = &entry.event
+    else {
+        return Ok(false);
+    };
+    let mut out = Vec::new(alloc);
+    match node.answer(alloc, body.as_slice(), *stamp, *moment, &mut out)? {
+        Answered::Replied => Ok(is_reply(had, out.as_slice())),
+        Answered::Closes => Ok(false),
+    }
+}
+
+/// Whether the caller had this reply.
+fn is_reply(had: Option<&Answer>, reply: &[u8]) -> bool {
+    match had {
+        Some(Answer::Replied(frame)) => frame.as_slice() == reply,
+        _ => false,
+    }
+}
+
+/// Four threads with a seat each send 250 joins, in turn to four groups on four shards that keep no entries.
+const SUMS: &str = " calls 250 250 250 250 counts 250 250 250 250 kept 0 closed 4";
+
+#[test]
+fn four_callers_are_all_counted(rt: HostRuntime) -> Result<(), Fail> {
+    let (alloc, hasher) = (rt.alloc(), RandomState::new(&rt)?);
+    let told = sums(&rt, alloc, hasher).or_else(|_| sums(&rt, alloc, hasher))?;
+    assert_eq!(rt; told.as_str(), SUMS);
+    Ok(())
+}
+
+fn sums<R: Threads + Wait + Sync>(
+    rt: &R,
+    alloc: Global,
+    hasher: RandomState,
+) -> Result<String, AllocError> {
+    four_callers::<Brand, Brand, R>(rt, alloc, hasher, Blank::new(4), Blank::new(260))
+}
+
+/// What four callers and the shards that they called come to.
+fn four_callers<A: Ledger + Sync, C: Ledger + Sync, R: Threads + Wait + Sync>(
+    rt: &R,
+    alloc: Global,
+    hasher: RandomState,
+    entries: Blank,
+    calls: Blank,
+) -> Result<String, AllocError>
+    requires entries { (entries.name ≡ A.name) × (entries.parts ≡ A.parts) × (entries.parts ≡ 4) }
+    requires calls { (calls.name ≡ C.name) × (calls.parts ≡ C.parts) × (calls.parts ≡ 260) }
+{
+    let made = Shards::<A, C, AlwaysOpen>::new(alloc, 4, 0, 0, hasher, AlwaysOpen, entries, calls);
+    let shards = made.map_err(|_| AllocError)?;
+    let mut seats = seats_of(rt, alloc, &shards, 4)?;
+    let shared = &shards;
+    let joins = Joins {
+        count: 250,
+        groups: 4,
+    };
+    thread::for_each_mut(
+        rt,
+        seats.as_mut_slice(),
+        4,
+        &|_, seat| send_all(rt, alloc, shared, seat, joins),
+    );
+    let mut out = String::new(alloc);
+    put_calls(&seats, &mut out)?;
+    let closed = shards.close(alloc, seats).map_err(|_| AllocError)?;
+    put_sums(&closed, &mut out)?;
+    Ok(out)
+}
+
+/// Sends joins from a seat, in turn to the groups.
+fn send_all<A: Ledger, C: Ledger, R: Wait>(
+    rt: &R,
+    alloc: Global,
+    shards: &Shards<A, C, AlwaysOpen>,
+    seat: &mut Seat<C>,
+    joins: Joins,
+) {
+    for number in 1..=joins.count {
+        let _ = call_twice(rt, alloc, shards, seat, group_of(number, joins), number);
+    }
+}
+
+/// Puts how many entries of all shards each seat made, and how many are kept.
+fn put_sums(shards: &[Shard], out: &mut String) -> Result<(), AllocError> {
+    out.push_str(" counts")?;
+    for seat in 0..4 {
+        let count = shards
+            .iter()
+            .fold(0u64, |sum, shard| sum.saturating_add(shard.count(seat)));
+        write!(out, " {count}")?;
+    }
+    let kept = shards.iter().any(|shard| !shard.entries().is_empty());
+    write!(out, " kept {} closed {}", u8::from(kept), shards.len())
+}

@@ -1,0 +1,124 @@
+"""What a relay has recorded, read: frames, and each request with its reply."""
+
+import collections
+import dataclasses
+from typing import Deque, Dict, Iterator, List, NamedTuple, Optional, Set, Tuple, Union
+
+from rules.fields import Reader
+from rules.messages import Commit, Heartbeat, read_commit_reply, read_heartbeat_reply, read_request
+
+HEARTBEAT = 68
+# A topic's id and an index.
+Partition = Tuple[bytes, int]
+
+
+class Event(NamedTuple):
+    """A line of a record. The frame is empty where a connection opens or ends, and `what` says then how."""
+
+    moment: float
+    side: str
+    connection: int
+    what: str
+    frame: bytes
+
+
+class Head(NamedTuple):
+    key: int
+    version: int
+    correlation: int
+    client: Optional[str]
+
+
+class Told(NamedTuple):
+    """A reply to a heartbeat; the assignment is None where it says nothing of it."""
+
+    correlation: int
+    code: int
+    member: Optional[str]
+    epoch: int
+    assignment: Optional[Set[Partition]]
+
+
+NOTHING = Told(-1, -1, None, 0, None)
+
+
+@dataclasses.dataclass
+class Exchange:
+    """A request that came to the coordinator at this port, and its reply. No reply, and `closes`: it ended the connection."""
+
+    port: int
+    connection: int
+    sent: float
+    frame: bytes
+    head: Head
+    answered: float = dataclasses.field(default=float("inf"), init=False)
+    closes: bool = dataclasses.field(default=False, init=False)
+
+    def is_answered(self) -> bool:
+        return self.answered < float("inf")
+
+
+@dataclasses.dataclass
+class Beat(Exchange):
+    asked: Heartbeat
+    told: Told = NOTHING
+
+    def member(self) -> str:
+        return self.asked.member or self.told.member or ""
+
+
+@dataclasses.dataclass
+class Committing(Exchange):
+    asked: Commit
+    codes: Tuple[int, ...] = ()
+
+
+def head_of(frame: bytes) -> Head:
+    reader = Reader(frame[4:])
+    return Head(reader.int(2), reader.int(2), reader.int(4), reader.old_text())
+
+
+def read_events(path: str) -> Iterator[Event]:
+    with open(path, encoding="utf-8") as record:
+        for line in record:
+            words = line.split()
+            if not line.endswith("\n") or len(words) < 4:
+                continue
+            is_frame = words[3] in "<>"
+            what = " ".join(words[3:4] if is_frame else words[3:])
+            yield Event(float(words[0]), words[1], int(words[2]), what, bytes.fromhex(words[4]) if is_frame else b"")
+
+
+def exchange_of(port: int, event: Event) -> Union[Beat, Committing]:
+    head, asked = head_of(event.frame), read_request(event.frame[4:])
+    kind = Beat if head.key == HEARTBEAT else Committing
+    return kind(port, event.connection, event.moment, event.frame, head, asked)
+
+
+def answer(it: Union[Beat, Committing], event: Event) -> None:
+    it.answered = event.moment
+    if isinstance(it, Beat):
+        it.told = Told(*read_heartbeat_reply(event.frame[4:]))
+    else:
+        it.codes = tuple(read_commit_reply(event.frame[4:]))
+
+
+def read_exchanges(path: str) -> List[Union[Beat, Committing]]:
+    """The exchanges with coordinators, in the order of the requests."""
+    found: List[Union[Beat, Committing]] = []
+    waiting: Dict[int, Deque[Union[Beat, Committing]]] = collections.defaultdict(collections.deque)
+    ports: Dict[int, int] = {}
+    for event in read_events(path):
+        if event.side != "coordinator":
+            continue
+        here = waiting[event.connection]
+        if event.what.startswith("open "):
+            ports[event.connection] = int(event.what.split()[1])
+        elif event.what == ">":
+            found.append(exchange_of(ports[event.connection], event))
+            here.append(found[-1])
+        elif event.what == "<":
+            answer(here.popleft(), event)
+        elif event.what == "end far" and here:
+            here[0].closes = True
+    return found
