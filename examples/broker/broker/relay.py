@@ -60,12 +60,12 @@ class Relay:
             reader, writer = await asyncio.open_connection(sock=client)
             try:
                 await self._serve(reader, writer)
+            except (BadFrame, Unreadable, Closed, CoordinatorClosed) as why:
+                say(f"closed the connection of {address[0]}:{address[1]}: {why}")
+            except OSError:
+                pass
             finally:
                 await close(writer)
-        except (BadFrame, Unreadable, Closed, CoordinatorClosed) as why:
-            say(f"closed the connection of {address[0]}:{address[1]}: {why}")
-        except OSError:
-            pass
         finally:
             self.node.connections -= 1
             self.link.close()
