@@ -3,11 +3,11 @@
 from __future__ import annotations
 
 import asyncio
-import contextlib
-import sys
 from typing import Optional
 
 from broker.frames import BadFrame, framed, read_body
+from broker.streams import within
+from broker.words import say
 
 OPEN_SECONDS = 5
 ANSWER_SECONDS = 60
@@ -32,10 +32,11 @@ class Coordinator:
     async def open(self) -> Optional[Link]:
         """A new connection, or None where the coordinator can't be reached."""
         try:
-            streams = await asyncio.wait_for(asyncio.open_connection(self.host, self.port), OPEN_SECONDS)
+            streams = await within(OPEN_SECONDS, asyncio.open_connection(self.host, self.port))
         except (OSError, asyncio.TimeoutError) as why:
             if self.is_there is not False:
-                say(f"the coordinator {self} can't be reached, and clients' connections are closed: {why or 'it is silent'}")
+                reason = str(why) or f"it hasn't answered for {OPEN_SECONDS} s"
+                say(f"the coordinator {self} can't be reached, and clients' connections are closed: {reason}")
             self.is_there = False
             return None
         if self.is_there is False:
@@ -61,9 +62,8 @@ class Link:
         """Sends a request's body, framed, and gives the reply's. Raises CoordinatorClosed."""
         if self.arriving.done():
             raise CoordinatorClosed("the coordinator closed the connection")
-        with contextlib.suppress(OSError):
-            self._writer.write(framed(body))
-            await self._writer.drain()
+        # (Nothing else is under way, so no more than this one is ever buffered.)
+        self._writer.write(framed(body))
         await asyncio.wait({self.arriving}, timeout=ANSWER_SECONDS)
         if not self.arriving.done():
             raise CoordinatorClosed(f"the coordinator hasn't answered for {ANSWER_SECONDS} s")
@@ -73,13 +73,7 @@ class Link:
         self.arriving = asyncio.ensure_future(self._read())
         return reply
 
-    async def close(self) -> None:
+    def close(self) -> None:
+        """Closes it at once. (What was asked has been sent, unless the coordinator takes nothing any more.)"""
         self.arriving.cancel()
-        self._writer.close()
-        with contextlib.suppress(OSError):
-            await self._writer.wait_closed()
-
-
-def say(line: str) -> None:
-    """One line on standard error."""
-    print(f"broker: {line}", file=sys.stderr, flush=True)
+        self._writer.transport.abort()

@@ -7,19 +7,20 @@ closes, the other is closed too, behind the replies before it.
 from __future__ import annotations
 
 import asyncio
-import contextlib
 import socket
 import time
 from typing import Optional
 
-from broker.acceptor import Work, accept
+from broker.acceptor import Address, Work, accept
 from broker.apis import ANSWERS
 from broker.call import Call
 from broker.cluster import Cluster, Node
 from broker.fields import Unreadable
 from broker.frames import BadFrame, framed, read_body, read_request
-from broker.link import CoordinatorClosed, Link, say
+from broker.link import CoordinatorClosed, Link
+from broker.streams import close, within
 from broker.watch import Watch
+from broker.words import say
 
 MOST_CONNECTIONS = 2_000
 # A client that says nothing for so long is disconnected, as is one that doesn't read its replies.
@@ -34,12 +35,12 @@ async def serve_node(cluster: Cluster, node: Node, watch: Watch, listener: socke
     opened in the order in which the clients' were accepted, one after the other.
     """
 
-    async def prepare(client: socket.socket) -> Optional[Work]:
+    async def prepare(client: socket.socket, address: Address) -> Optional[Work]:
         link = await node.coordinator.open()
         if link is None:
             client.close()
             return None
-        return Relay(cluster, node, watch, link).run(client)
+        return Relay(cluster, node, watch, link).run(client, address)
 
     await accept(listener, MOST_CONNECTIONS, prepare)
 
@@ -52,23 +53,22 @@ class Relay:
     def __init__(self, cluster: Cluster, node: Node, watch: Watch, link: Link) -> None:
         self.cluster, self.node, self.watch, self.link = cluster, node, watch, link
 
-    async def run(self, client: socket.socket) -> None:
-        """Answers requests until either side closes. Says why, unless the client closed between two requests."""
-        reader, writer = await asyncio.open_connection(sock=client)
-        host, port = writer.get_extra_info("peername")
+    async def run(self, client: socket.socket, address: Address) -> None:
+        """Answers requests until either side closes. Says why, unless it was the client."""
         self.node.connections += 1
         try:
-            await self._serve(reader, writer)
+            reader, writer = await asyncio.open_connection(sock=client)
+            try:
+                await self._serve(reader, writer)
+            finally:
+                await close(writer)
         except (BadFrame, Unreadable, Closed, CoordinatorClosed) as why:
-            say(f"closed the connection of {host}:{port}: {why}")
+            say(f"closed the connection of {address[0]}:{address[1]}: {why}")
         except OSError:
             pass
         finally:
             self.node.connections -= 1
-            await self.link.close()
-            writer.close()
-            with contextlib.suppress(OSError):
-                await writer.wait_closed()
+            self.link.close()
 
     async def _serve(self, reader: asyncio.StreamReader, writer: asyncio.StreamWriter) -> None:
         while True:
@@ -76,7 +76,8 @@ class Relay:
             if body is None:
                 return
             writer.write(framed(await self._answer(body)))
-            await _drain(writer)
+            if writer.transport.get_write_buffer_size():
+                await _drain(writer)
 
     async def _next(self, reader: asyncio.StreamReader) -> Optional[bytes]:
         """The next request's body, or None where the client has closed. Raises Closed where the coordinator has."""
@@ -106,7 +107,7 @@ class Relay:
 
 async def _drain(writer: asyncio.StreamWriter) -> None:
     try:
-        await asyncio.wait_for(writer.drain(), UNREAD_SECONDS)
+        await within(UNREAD_SECONDS, writer.drain())
     except asyncio.TimeoutError:
         writer.transport.abort()
         raise Closed(f"it read none of its replies for {UNREAD_SECONDS} s") from None

@@ -4,13 +4,16 @@ from __future__ import annotations
 
 import asyncio
 import socket
+import struct
+import time
 import unittest
 from typing import List, Optional, Tuple
 from unittest import mock
 
 from broker import relay
+from broker.frames import framed
 from broker.link import Coordinator
-from tests.support import HOST, accept_all, data, front, small_cluster
+from tests.support import HOST, Client, accept_all, data, front, small_cluster
 
 # The headers have the correlation ids 1, 2 .. so that replies can be told apart.
 VERSIONS = "0012 0000 {:08x} 0001 'c'"
@@ -18,6 +21,7 @@ HEARTBEAT = "0044 0000 {:08x} 0001 'c' 00 02 'g' 02 'm' 00000001 00 00 ffffffff 
 FIND = "000a 0000 {:08x} 0001 'c' 0001 'g'"
 # At the end, where nothing comes for the 200 ms that it may wait.
 FETCH = "0001 0004 {:08x} 0001 'c' ffffffff 000000c8 00000001 00100000 00 00000001 0006 'orders' 00000001 00000001 0000000000000000 00100000"
+ALL_TOPICS = "0003 0009 00000001 0001 'c' 00 00 00 00 00 00"
 COMMIT = "0008 0009 {:08x} 0001 'c' 00 02 'g' 00000001 02 'm' 00 02 07 'orders' 02 00000000 0000000000000009 00000000 02 'x' 00 00 00"
 OFFSETS = "0009 0009 {:08x} 0001 'c' 00 02 02 'g' 00 ffffffff 02 07 'orders' 02 00000000 00 00 01 00"
 # What librdkafka 2.14.2 sent: version 1, with an empty regular expression behind the names; and the same request in version 0.
@@ -96,6 +100,18 @@ class Relay(unittest.IsolatedAsyncioTestCase):
             first.writer.write(b"\xff" * 4)
             self.assertEqual((await first.body(), await second.ask(VERSIONS.format(5)) is None), (None, False))
 
+    async def test_a_client_that_is_gone_at_once_leaves_nothing_behind(self) -> None:
+        cluster = small_cluster()
+        async with front(cluster=cluster) as it:
+            for _ in range(20):
+                gone = socket.create_connection((HOST, it.port))
+                # It closes by a reset.
+                gone.setsockopt(socket.SOL_SOCKET, socket.SO_LINGER, struct.pack("ii", 1, 0))
+                gone.close()
+            self.assertIsNotNone(await (await it.client()).ask(VERSIONS.format(1)))
+            await it.wait_for(lambda: cluster.nodes[0].connections == 1)
+        self.assertEqual(it.said.getvalue(), "")
+
     async def test_a_client_that_closes_closes_its_connection_to_the_coordinator(self) -> None:
         async with front() as it:
             client = await it.client()
@@ -135,6 +151,22 @@ class Relay(unittest.IsolatedAsyncioTestCase):
             self.assertIsNotNone(await (await it.client()).ask(VERSIONS.format(1)))
         said = it.said.getvalue().splitlines()
         self.assertEqual((len(said), "can't be reached" in said[0], "is there again" in said[1]), (2, True, True))
+
+    async def test_the_end_waits_for_nobody(self) -> None:
+        async def ask_on(client: Client) -> None:
+            while await client.ask(HEARTBEAT.format(1)) is not None:
+                pass
+
+        async with front() as it:
+            deaf, busy = await it.client(), [await it.client() for _ in range(5)]
+            deaf.writer.write(framed(data(ALL_TOPICS)) * 50_000)
+            asking = [asyncio.ensure_future(ask_on(client)) for client in busy]
+            # Until what the deaf one doesn't read fills all buffers.
+            await asyncio.sleep(2)
+            began = time.monotonic()
+        seconds = time.monotonic() - began
+        await asyncio.wait(asking, timeout=10)
+        self.assertEqual((seconds < 10, [task.done() for task in asking]), (True, [True] * 5))
 
     async def test_connections_above_the_bound_wait(self) -> None:
         with mock.patch.object(relay, "MOST_CONNECTIONS", 2):
