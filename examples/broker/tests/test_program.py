@@ -138,7 +138,10 @@ class Program(unittest.TestCase):
 
     def test_a_program_that_can_not_be_started_and_a_port_that_is_taken_are_said(self) -> None:
         with socket.create_server((HOST, 0)) as taken:
-            rows = [(["--program", "/nowhere", "--port", "0"], "/nowhere can't be started"), (["--port", str(taken.getsockname()[1])], "Address already in use")]
+            rows = [
+                (["--program", "/nowhere", "--port", "0"], "/nowhere can't be started"),
+                (["--port", str(taken.getsockname()[1])], "Address already in use"),
+            ]
             for words, why in rows:
                 command = [sys.executable, "-B", "-m", "broker", "--start", *words, f"t:{ORDERS}:2"]
                 ran = subprocess.run(command, cwd=FOLDER, capture_output=True, text=True, timeout=SECONDS, check=False)
