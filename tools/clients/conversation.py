@@ -1,0 +1,107 @@
+"""Recorded conversations: clients with a front end, and the front end with a coordinator.
+
+A file has lines `# TEXT`, which say what happens, then `topic NAME:UUID:COUNT` for each topic, where moments matter the line `paced`, and a
+line for each event: the milliseconds since the first one, and side, connection and what happened as relay.py records them. These
+values of frames aren't as they were, since they differ from run to run:
+
+    ports           of the front end, where it says to clients what its address is, are PORT
+    salts           that a coordinator puts into the ids of the members that it names itself are zeros
+
+and a Fetch that was answered without records is left out with its reply.
+"""
+
+import collections
+import dataclasses
+import pathlib
+import re
+import struct
+from typing import Dict, Iterable, List, Set, Tuple
+
+from clients.log import Event, head_of
+from clients.relay import FETCH
+from clients.stand import HOST, Topic
+
+PORT = 9093
+# Each partition has a few records from the start, and none comes meanwhile, so that what is fetched doesn't hang on time.
+FRONT_END = ("--records", "5", "--rate", "0")
+# Salt and serial of an id that a coordinator made, and the salt that is written in its place.
+MADE = re.compile(rb"([0-9a-f]{8}-[0-9a-f]{4}-[0-9a-f]{4}-)(?=[0-9a-f]{4}-[0-9a-f]{12})")
+NO_SALT = b"00000000-0000-0000-"
+
+
+@dataclasses.dataclass
+class Conversation:
+    title: List[str]
+    topics: List[Topic]
+    paced: bool
+    events: List[Event]
+
+    def of(self, side: str) -> List[Event]:
+        return [it for it in self.events if it.side == side]
+
+
+class Pins:
+    """Puts the written values in place of those of a run, and back."""
+
+    def __init__(self, port: int) -> None:
+        self.address, self.written = (HOST.encode() + struct.pack(">i", it) for it in (port, PORT))
+        self.salt = NO_SALT
+
+    def pin(self, frame: bytes) -> bytes:
+        found = MADE.search(frame)
+        if found and found[1] != NO_SALT:
+            self.salt = found[1]
+        return MADE.sub(NO_SALT, frame).replace(self.address, self.written)
+
+    def unpin(self, frame: bytes) -> bytes:
+        return MADE.sub(lambda found: self.salt if found[1] == NO_SALT else found[1], frame)
+
+
+def has_records(reply: bytes, topics: Iterable[Topic]) -> bool:
+    """A record's value begins with its topic's name and a slash."""
+    return any(f"{topic.name}/".encode() in reply for topic in topics)
+
+
+def without_empty_fetches(events: List[Event], topics: List[Topic]) -> List[Event]:
+    waiting: Dict[Tuple[str, int], List[int]] = collections.defaultdict(list)
+    left_out: Set[int] = set()
+    for at, event in enumerate(events):
+        here = waiting[event.side, event.connection]
+        if event.what == ">":
+            here.append(at)
+        elif event.what == "<":
+            asked = here.pop(0)
+            if head_of(events[asked].frame).key == FETCH and not has_records(event.frame, topics):
+                left_out |= {asked, at}
+        elif event.what.startswith("end"):
+            left_out |= {asked for asked in here if head_of(events[asked].frame).key == FETCH}
+    return [event for at, event in enumerate(events) if at not in left_out]
+
+
+def write(path: pathlib.Path, it: Conversation) -> None:
+    lines = [f"# {text}" for text in it.title] + [f"topic {topic.word()}" for topic in it.topics] + ["paced"] * it.paced
+    lines += [" ".join([f"{event.moment:.0f}", event.side, str(event.connection), event.what, event.frame.hex()]).rstrip() for event in it.events]
+    path.write_text("\n".join(lines) + "\n", encoding="utf-8")
+
+
+def read(path: pathlib.Path) -> Conversation:
+    it = Conversation([], [], False, [])
+    for line in path.read_text(encoding="utf-8").splitlines():
+        words = line.split()
+        if words[0] == "#":
+            it.title.append(line[2:])
+        elif words[0] == "topic":
+            name, rest = words[1].split(":", 1)
+            it.topics.append(Topic(name, *split_last(rest)))
+        elif words[0] == "paced":
+            it.paced = True
+        elif words[3] in ("<", ">"):
+            it.events.append(Event(float(words[0]), words[1], int(words[2]), words[3], bytes.fromhex(words[4])))
+        else:
+            it.events.append(Event(float(words[0]), words[1], int(words[2]), " ".join(words[3:]), b""))
+    return it
+
+
+def split_last(rest: str) -> Tuple[str, int]:
+    topic_id, _, count = rest.rpartition(":")
+    return topic_id, int(count)

@@ -1,0 +1,131 @@
+"""Plays recorded conversations again, and compares bytes."""
+
+import pathlib
+import socket
+import struct
+import subprocess
+import sys
+import tempfile
+import time
+from typing import Dict, List, Sequence
+
+from clients.conversation import FRONT_END, Conversation, Pins
+from clients.log import Event, head_of
+from clients.stand import HOST, Failed, Stand
+
+REPLY_SECONDS = 10
+TICK_MS = 500
+REPLAY_SECONDS = 60
+
+
+class Differs(Exception):
+    """What was answered isn't what the conversation has."""
+
+
+# ---- the side of the clients
+
+
+class Clients:
+    """All clients of a conversation, at a front end with a coordinator behind it."""
+
+    def __init__(self, port: int) -> None:
+        self.port, self.pins = port, Pins(port)
+        self.sockets: Dict[int, socket.socket] = {}
+
+    def play(self, events: Sequence[Event], paced: bool) -> None:
+        began = time.monotonic()
+        for number, event in enumerate(events):
+            if paced:
+                time.sleep(max(0.0, began + event.moment / 1000 - time.monotonic()))
+            try:
+                self.do(event)
+            except (OSError, Differs) as why:
+                raise Differs(f"event {number} of the clients, {event.moment:.0f} ms, connection {event.connection}: {why}") from None
+
+    def do(self, event: Event) -> None:
+        if event.what.startswith("open"):
+            self.sockets[event.connection] = socket.create_connection((HOST, self.port), REPLY_SECONDS)
+            return
+        connection = self.sockets[event.connection]
+        if event.what == ">":
+            connection.sendall(self.pins.unpin(event.frame))
+        elif event.what == "<":
+            found = self.pins.pin(self.read_frame(connection))
+            if found != event.frame:
+                raise Differs(f"it answers\n    {found.hex()}\nand not\n    {event.frame.hex()}")
+        elif event.what == "end near":
+            connection.close()
+        elif connection.recv(1):
+            raise Differs("it doesn't close")
+
+    @staticmethod
+    def read_frame(connection: socket.socket) -> bytes:
+        data = b""
+        while len(data) < 4 or len(data) < 4 + struct.unpack_from(">i", data)[0]:
+            more = connection.recv(4 - len(data) if len(data) < 4 else 4 + struct.unpack_from(">i", data)[0] - len(data))
+            if not more:
+                raise Differs("it closes")
+            data += more
+        return data
+
+    def close(self) -> None:
+        for it in self.sockets.values():
+            it.close()
+
+
+def play_clients(it: Conversation, program: str) -> None:
+    """The clients' side, in front of `coord serve`."""
+    with tempfile.TemporaryDirectory(prefix="conversation-") as folder:
+        stand = Stand(program, it.topics, pathlib.Path(folder), relay=None, front_end=FRONT_END)
+        clients = Clients(stand.port)
+        try:
+            clients.play(it.of("client"), it.paced)
+        finally:
+            clients.close()
+            stand.end()
+
+
+# ---- the coordinator's side
+
+
+def lines_of(it: Conversation) -> List[str]:
+    """The requests at the coordinator as lines for `coord reply`, with ticks between them."""
+    lines = [" ".join(["image", *(f"{topic.name} {topic.id} {topic.count}" for topic in it.topics)])]
+    now, counts = 0, {}
+    for event in (event for event in it.of("coordinator") if event.what == ">"):
+        while now // TICK_MS < event.moment // TICK_MS:
+            now = (now // TICK_MS + 1) * TICK_MS
+            lines += [f"now {now}", "tick"]
+        now = int(event.moment)
+        counts[event.connection] = counts.get(event.connection, 0) + 1
+        lines += [f"now {now}", f"stamp {event.connection} {counts[event.connection]}", f"req {event.frame.hex()}"]
+    return lines
+
+
+def wanted_of(it: Conversation) -> List[str]:
+    """What each request must print."""
+    wanted: List[str] = []
+    waiting: Dict[int, List[int]] = {}
+    for event in it.of("coordinator"):
+        here = waiting.setdefault(event.connection, [])
+        if event.what == ">":
+            here.append(len(wanted))
+            wanted.append("close")
+        elif event.what == "<":
+            wanted[here.pop(0)] = event.frame.hex()
+    return wanted
+
+
+def play_coordinator(it: Conversation, command: Sequence[str]) -> None:
+    """The coordinator's side, as lines for a command that answers them."""
+    given = "\n".join(lines_of(it)) + "\n"
+    ran = subprocess.run(command, input=given, capture_output=True, text=True, timeout=REPLAY_SECONDS, check=False)
+    if ran.returncode or ran.stderr:
+        raise Differs(f"{command[-1]} ended with {ran.returncode}: {ran.stderr.strip()}")
+    found = [line for line in ran.stdout.splitlines() if not line.startswith("removed")]
+    asked = [event for event in it.of("coordinator") if event.what == ">"]
+    for event, was, is_now in zip(asked, wanted_of(it), found):
+        if was != is_now:
+            raise Differs(f"the request {head_of(event.frame)} at {event.moment:.0f} ms is answered\n    {is_now}\nand not\n    {was}")
+    if len(found) != len(asked):
+        raise Differs(f"{len(asked)} requests have {len(found)} answers")
