@@ -107,8 +107,9 @@ def kcat(t: Trial) -> None:
     for it in running:
         it.wait(60)
     read = [(t.folder / f"kcat{number}.out").read_text().split() for number in (0, 1)]
-    shares = [re.findall(r"rebalanced.*assigned: (.*)", (t.folder / f"kcat{number}.err").read_text()) for number in (0, 1)]
-    t.check(all(rows and shares[number] for number, rows in enumerate(read)), f"both were assigned partitions and read {len(read[0])} and {len(read[1])} records")
+    told = [(t.folder / f"kcat{number}.err").read_text() for number in (0, 1)]
+    shares = [re.findall(r"assignment of ([1-9]\d*) partition", text) for text in told]
+    t.check(all(shares) and all(read), f"both were assigned partitions ({shares}) and read {len(read[0])} and {len(read[1])} records")
     t.check(all(row.split("=")[0] == row.split("=")[1] for rows in read for row in rows), "each record was the right one")
     offsets = collections.defaultdict(set)
     for row in read[0] + read[1]:
