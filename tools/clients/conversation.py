@@ -73,8 +73,7 @@ def without_empty_fetches(events: List[Event], topics: List[Topic]) -> List[Even
             asked = here.pop(0)
             if head_of(events[asked].frame).key == FETCH and not has_records(event.frame, topics):
                 left_out |= {asked, at}
-        elif event.what.startswith("end"):
-            left_out |= {asked for asked in here if head_of(events[asked].frame).key == FETCH}
+    left_out |= {asked for here in waiting.values() for asked in here if head_of(events[asked].frame).key == FETCH}
     return [event for at, event in enumerate(events) if at not in left_out]
 
 

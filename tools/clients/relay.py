@@ -26,6 +26,7 @@ The control port takes lines, and answers each with one:
     cut CLIENT after-commit     the reply to its next commit
     cut-all                     ends all connections
     hold CLIENT heartbeat|commit SECONDS   its next one goes on so much later, and what comes behind it on its connection too
+    hold-reply CLIENT heartbeat|commit SECONDS   the same for the reply to its next one
 """
 
 import argparse
@@ -41,6 +42,7 @@ FETCH, COMMIT, HEARTBEAT = 1, 8, 68
 LONGEST = 16 << 20
 # How long replies may take that are under way when a client ends its connection.
 LAST_REPLIES_SECONDS = 2
+LOST = float("inf")
 
 
 async def read_frame(reader: asyncio.StreamReader) -> bytes:
@@ -69,7 +71,9 @@ class Relay:
         self.turn = asyncio.Lock()
         self.connections: Set[Connection] = set()
         self.cuts: Dict[str, str] = {}
+        # For each client the key of the request that is held, or whose reply is, and the seconds.
         self.holds: Dict[str, Tuple[int, float]] = {}
+        self.reply_holds: Dict[str, Tuple[int, float]] = {}
 
     def say(self, *words: object) -> None:
         self.record.write(f"{time.time():.6f} {' '.join(map(str, words))}\n")
@@ -108,8 +112,9 @@ class Relay:
                 connection.cut()
         elif words[0] == "cut":
             self.cuts[words[1]] = words[2]
-        elif words[0] == "hold":
-            self.holds[words[1]] = {"heartbeat": HEARTBEAT, "commit": COMMIT}[words[2]], float(words[3])
+        elif words[0] in ("hold", "hold-reply"):
+            holds = self.holds if words[0] == "hold" else self.reply_holds
+            holds[words[1]] = {"heartbeat": HEARTBEAT, "commit": COMMIT}[words[2]], float(words[3])
         else:
             return "unknown"
         return "done"
@@ -126,9 +131,10 @@ class Connection:
     def __init__(self, relay: Relay, side: str, number: int, near: Tuple, far: Tuple) -> None:
         self.relay, self.side, self.number = relay, side, number
         (self.near_reader, self.near), (self.far_reader, self.far) = near, far
-        # The client that sent heartbeats or commits over it; the keys of the requests under way, and whether their replies are lost.
+        # The client that sent heartbeats or commits over it; the keys of the requests under way, and by how many seconds their
+        # replies are late, or LOST.
         self.client = ""
-        self.under_way: Deque[Tuple[int, bool]] = collections.deque()
+        self.under_way: Deque[Tuple[int, float]] = collections.deque()
         self.ended = False
         self.replied = asyncio.Event()
 
@@ -161,27 +167,30 @@ class Connection:
             key, client = head_of(frame)
             if self.side == "client" and key in (HEARTBEAT, COMMIT):
                 self.client = client
-                await self.hold(key)
+                await asyncio.sleep(self.seconds_of(self.relay.holds, key))
             cut = self.next_cut(key)
             if cut == "before":
                 return self.cut()
+            if self.ended:
+                return
+            late = LOST if cut else self.seconds_of(self.relay.reply_holds, key)
             if self.relay.serial and self.side == "client" and key != FETCH:
                 async with self.relay.turn:
-                    await self.send(frame, key, cut is not None)
+                    await self.send(frame, key, late)
                     await self.replied.wait()
             else:
-                await self.send(frame, key, cut is not None)
+                await self.send(frame, key, late)
         if self.under_way and not self.ended:
             with contextlib.suppress(asyncio.TimeoutError):
                 await asyncio.wait_for(self.replied.wait(), LAST_REPLIES_SECONDS)
         self.end("near")
         self.far.close()
 
-    async def hold(self, key: int) -> None:
-        held, seconds = self.relay.holds.get(self.client, (None, 0.0))
-        if key == held:
-            del self.relay.holds[self.client]
-            await asyncio.sleep(seconds)
+    def seconds_of(self, holds: Dict[str, Tuple[int, float]], key: int) -> float:
+        """For how long this request of the client, or its reply, is held."""
+        if holds.get(self.client, (None,))[0] != key:
+            return 0.0
+        return holds.pop(self.client)[1]
 
     def next_cut(self, key: int) -> Optional[str]:
         """Whether the connection is cut at this request, and when."""
@@ -190,10 +199,10 @@ class Connection:
             return self.relay.cuts.pop(self.client)
         return None
 
-    async def send(self, frame: bytes, key: int, loses_reply: bool) -> None:
+    async def send(self, frame: bytes, key: int, late: float) -> None:
         if self.is_recorded(key):
             self.say(">", frame.hex())
-        self.under_way.append((key, loses_reply))
+        self.under_way.append((key, late))
         if not self.ended:
             self.replied.clear()
         self.far.write(frame)
@@ -206,13 +215,14 @@ class Connection:
 
     async def pass_replies(self) -> None:
         while frame := await read_frame(self.far_reader):
-            key, is_lost = self.under_way.popleft() if self.under_way else (-1, False)
+            key, late = self.under_way.popleft() if self.under_way else (-1, 0.0)
             if self.is_recorded(key):
                 self.say("<", frame.hex())
             if not self.under_way:
                 self.replied.set()
-            if is_lost:
+            if late == LOST:
                 return self.cut()
+            await asyncio.sleep(late)
             with contextlib.suppress(ConnectionError):
                 self.near.write(self.relay.with_ports(frame) if self.side == "client" else frame)
                 await self.near.drain()

@@ -55,8 +55,15 @@ class Clients:
                 raise Differs(f"it answers\n    {found.hex()}\nand not\n    {event.frame.hex()}")
         elif event.what == "end near":
             connection.close()
-        elif connection.recv(1):
+        elif not self.closes(connection):
             raise Differs("it doesn't close")
+
+    @staticmethod
+    def closes(connection: socket.socket) -> bool:
+        try:
+            return connection.recv(1) == b""
+        except ConnectionResetError:
+            return True
 
     @staticmethod
     def read_frame(connection: socket.socket) -> bytes:

@@ -15,7 +15,7 @@ FRONT_END = HERE.parent.parent / "examples/broker"
 HOST = "127.0.0.1"
 # Below the ports that Linux gives to clients, so that none takes one of them meanwhile.
 PORTS = range(20_000, 32_000)
-START_SECONDS = 20
+START_SECONDS = 60
 END_SECONDS = 5
 
 

@@ -26,6 +26,8 @@ PROGRAM_CRATE = "scenario_cli"
 LIMIT = 300
 SHOWN = 40
 ENDINGS = (".in", ".out", ".err", ".status", ".args", ".made")
+# A folder in cases/ that isn't a subcommand's: tools/check-conversations plays what is in it.
+CONVERSATIONS = "conversations"
 
 
 class BadCase(Exception):
@@ -48,7 +50,7 @@ def labels_in(root):
     """The cases of a tree, as cases/SUBCOMMAND/NAME: one for each name that a file there has."""
     found = set()
     for folder, folders, names in os.walk(f"{root}/cases"):
-        folders.sort()
+        folders[:] = sorted({*folders} - {CONVERSATIONS})
         stems = {os.path.splitext(it)[0] for it in names if not it.endswith(".md")}
         found |= {os.path.relpath(f"{folder}/{it}", root) for it in stems}
     return sorted(found)

@@ -1,0 +1,133 @@
+"""What consumers go through while a conversation of theirs is recorded."""
+
+import time
+from typing import Callable, Dict, NamedTuple
+
+from clients.log import COMMIT
+from clients.stand import Topic
+from clients.trial import Trial
+
+INTERVAL = 5.0
+ORDERS = Topic("orders", "aaaaaaaa-0000-4000-8000-000000000001", 4)
+NAMES = ("orders",)
+
+
+def start(t: Trial, name: str, **settings: str):
+    """A consumer that commits where it is asked to alone."""
+    return t.start(name, "-c", 0, topics="orders", **settings)
+
+
+def commit(t: Trial, it) -> None:
+    moment = time.time()
+    it.say(f"commit {it.name}")
+    t.wait_for(lambda: t.of("COMMIT", it.name, moment) or t.of("REFUSED", it.name, moment), 20, f"{it.name} commits")
+
+
+def alone(t: Trial):
+    """One consumer that has read and committed all."""
+    c1 = start(t, "c1")
+    t.quiet(NAMES, "one consumer", c1.started)
+    commit(t, c1)
+    return c1
+
+
+def two(t: Trial, **settings: str):
+    c1 = start(t, "c1", **settings)
+    t.quiet(NAMES, "one consumer", c1.started)
+    c2 = start(t, "c2", **settings)
+    t.quiet(NAMES, "two consumers", c2.started)
+    return c1, c2
+
+
+def join(t: Trial) -> None:
+    t.kill(alone(t))
+
+
+def rebalance(t: Trial) -> None:
+    c1, c2 = two(t)
+    commit(t, c1)
+    for it in (c1, c2):
+        t.kill(it)
+
+
+def leave(t: Trial) -> None:
+    c1, c2 = two(t)
+    t.quiet(NAMES, "c2 leaves", c2.quit())
+    commit(t, c1)
+    c1.quit()
+
+
+def static_restart(t: Trial) -> None:
+    c1, c2 = (start(t, name, group_instance_id=f"i-{name}") for name in ("c1", "c2"))
+    t.quiet(NAMES, "two static members", c2.started)
+    c1.quit()
+    time.sleep(INTERVAL)
+    c1 = start(t, "c1", group_instance_id="i-c1")
+    t.quiet(NAMES, "c1 is back", c1.started)
+    for it in (c1, c2):
+        t.kill(it)
+
+
+def late_heartbeat(t: Trial) -> None:
+    c1 = start(t, "c1", socket_timeout_ms="2000")
+    t.quiet(NAMES, "one consumer", c1.started)
+    t.stand.tell_relay("hold c1 heartbeat 9")
+    time.sleep(9 + 2 * INTERVAL)
+    commit(t, c1)
+    t.check(any(it.closes for it in t.exchanges()), "the coordinator closes the late heartbeat's connection")
+    t.kill(c1)
+
+
+def stale_commit(t: Trial) -> None:
+    c1, c2 = two(t)
+    count = len(t.heartbeats("c1"))
+    c2.quit()
+    t.stand.tell_relay("hold-reply c1 heartbeat 2")
+    t.wait_for(lambda: len(t.heartbeats("c1")) > count, 2 * INTERVAL, "c1 sends a heartbeat")
+    commit(t, c1)
+    t.check(codes_of(t)[-1:] == [113], f"the commit crosses the reply that raises its epoch: codes {codes_of(t)}")
+    t.quiet(NAMES, "c1 has all", time.time())
+    commit(t, c1)
+    c1.quit()
+
+
+def fenced_commit(t: Trial) -> None:
+    c1 = start(t, "c1", max_poll_interval_ms="4000", session_timeout_ms="4000")
+    t.quiet(NAMES, "one consumer", c1.started)
+    c2 = start(t, "c2")
+    t.wait_for(lambda: t.heartbeats("c2"), INTERVAL, "c2 joins")
+    count = len(t.heartbeats("c1"))
+    t.stand.tell_relay("hold-reply c1 heartbeat 10")
+    t.wait_for(lambda: len(t.heartbeats("c1")) > count, 2 * INTERVAL, "c1 is to be told to give up")
+    time.sleep(7)
+    c1.say("commit c1")
+    time.sleep(5)
+    t.check(25 in codes_of(t), f"a commit of a member that was removed: codes {codes_of(t)}")
+    for it in (c1, c2):
+        t.kill(it)
+
+
+def codes_of(t: Trial):
+    """The codes of c1's commits, each once where its partitions have one."""
+    return [code for it in t.exchanges("c1") if it.head.key == COMMIT for code in sorted({*it.codes})]
+
+
+class Recording(NamedTuple):
+    client: str
+    play: Callable[[Trial], None]
+    text: str
+    paced: bool = False
+
+
+RECORDINGS: Dict[str, Recording] = {
+    "join-2.8.0": Recording("trixie", join, "A consumer joins, is assigned four partitions, reads five records of each, and commits. Its id is made by the coordinator."),
+    "join-2.14.2": Recording("sid", join, "A consumer joins under an id of its own, is assigned four partitions, reads five records of each, and commits."),
+    "rebalance-2.8.0": Recording("trixie", rebalance, "A second consumer joins: the first is told to give up two partitions, reports that it has, and the second is assigned them."),
+    "rebalance-2.14.2": Recording("sid", rebalance, "A second consumer joins: the first is told to give up two partitions, reports that it has, and the second is assigned them."),
+    "leave-2.8.0": Recording("trixie", leave, "Of two consumers one leaves, and the other is assigned its partitions. Then it leaves, too."),
+    "leave-2.14.2": Recording("sid", leave, "Of two consumers one leaves, and the other is assigned its partitions. Then it leaves, too."),
+    "static-restart-2.14.2": Recording("sid", static_restart, "Of two static members one goes away with epoch -2, and comes back under another id to what it had."),
+    "late-heartbeat-2.14.2": Recording("sid", late_heartbeat, "A heartbeat comes late, over a former connection of its member, which has gone on over another one. The coordinator closes the former one."),
+    "stale-commit-2.14.2": Recording("sid", stale_commit, "A commit crosses the reply that raises its member's epoch: 113. The member commits again at the new epoch."),
+    "fenced-commit-2.14.2": Recording("sid", fenced_commit, "A member doesn't hear that it is to give up, and is removed when its 4 s for this are over. Its commit is answered with 25.", True),
+}
