@@ -9,9 +9,16 @@ EVERY, LIBRARY, BOTH_RELEASES = ("trixie", "sid", "confluent"), ("trixie", "sid"
 
 
 class Scenario(NamedTuple):
+    """What is played, with which clients, over how many coordinators. With many consumers it is played alone."""
+
     play: Callable[[Trial], None]
     clients: Tuple[str, ...]
     coordinators: int = 1
+    alone: bool = False
+
+    def rate(self) -> float:
+        """How many records a second each partition gets."""
+        return 0.2 if self.alone else 2
 
 
 # The longest ones first.
@@ -21,7 +28,7 @@ SCENARIOS: Dict[str, Scenario] = {
     "cuts": Scenario(faults.cuts, EVERY),
     "joins-and-leaves": Scenario(members.joins_and_leaves, EVERY),
     "coordinator-stalls": Scenario(faults.coordinator_stalls, EVERY),
-    "hundred": Scenario(many.hundred, LIBRARY),
+    "hundred": Scenario(many.hundred, LIBRARY, alone=True),
     "killed": Scenario(faults.killed, EVERY),
     "stopped": Scenario(faults.stopped, EVERY),
     "late": Scenario(faults.late, EVERY),
@@ -32,7 +39,7 @@ SCENARIOS: Dict[str, Scenario] = {
     "coordinator-restarts": Scenario(faults.coordinator_restarts, EVERY),
     "slow-revocation": Scenario(faults.slow_revocation, LIBRARY),
     "rolling-restart": Scenario(members.rolling_restart, EVERY),
-    "twenty-groups": Scenario(many.twenty_groups, LIBRARY, 3),
+    "twenty-groups": Scenario(many.twenty_groups, LIBRARY, 3, alone=True),
     "automatic-commits": Scenario(many.automatic_commits, LIBRARY),
     "metadata": Scenario(many.metadata, LIBRARY),
     "kcat": Scenario(many.kcat, BOTH_RELEASES),

@@ -5,6 +5,7 @@ import re
 import subprocess
 import time
 
+from clients.consumers import Consumers
 from clients.log import COMMIT
 from clients.roots import CLIENTS
 from clients.stand import HOST
@@ -13,14 +14,19 @@ from clients.trial import BOTH, Trial
 LIMIT = 200
 
 
+def start_quietly(t: Trial, name: str, count: int, topics: str, group: str = "g") -> Consumers:
+    """Consumers that print no records, commit seldom, and don't fetch all the time."""
+    return t.start(name, "-q", "-c", 2000, topics=topics, group=group, count=count, fetch_wait_max_ms="5000")
+
+
 def hundred(t: Trial) -> None:
     """A hundred consumers of a topic of 200 partitions, fifty at a time."""
     t.expect("TRANSPORT")
-    first = t.start("h", "-q", "-c", 2000, topics="wide", count=50)
+    first = start_quietly(t, "h", 50, "wide")
     took = [t.quiet(("wide",), "50 consumers at once", first.started, limit=LIMIT)]
-    second = t.start("k", "-q", "-c", 2000, topics="wide", count=50)
+    second = start_quietly(t, "k", 50, "wide")
     took.append(t.quiet(("wide",), "100 consumers, the second 50 at once", second.started, limit=LIMIT))
-    one = t.start("z", "-q", "-c", 2000, topics="wide")
+    one = start_quietly(t, "z", 0, "wide")
     took.append(t.quiet(("wide",), "one more", one.started, limit=LIMIT))
     took.append(t.quiet(("wide",), "and it is gone", one.quit(), limit=LIMIT))
     moment = time.time()
@@ -31,9 +37,9 @@ def hundred(t: Trial) -> None:
 
 
 def twenty_groups(t: Trial) -> None:
-    """Twenty groups of five consumers over three coordinators."""
+    """Twenty groups of three consumers over three coordinators."""
     t.expect("TRANSPORT")
-    groups = [t.start(f"g{number}x", "-q", "-c", 2000, group=f"group{number}", count=5) for number in range(20)]
+    groups = [start_quietly(t, f"g{number}x", 3, "orders,bills", f"group{number}") for number in range(20)]
     took = [t.quiet(BOTH, f"group{number}", it.started, names=it.names) for number, it in enumerate(groups)]
     homes = collections.defaultdict(set)
     for it in t.exchanges():
