@@ -92,7 +92,7 @@ def stale_commit(t: Trial) -> None:
 
 
 def fenced_commit(t: Trial) -> None:
-    c1 = start(t, "c1", max_poll_interval_ms="4000", session_timeout_ms="4000")
+    c1 = start(t, "c1", max_poll_interval_ms="4000")
     t.quiet(NAMES, "one consumer", c1.started)
     c2 = start(t, "c2")
     t.wait_for(lambda: t.heartbeats("c2"), INTERVAL, "c2 joins")
