@@ -80,10 +80,9 @@ def late_heartbeat(t: Trial) -> None:
 
 def stale_commit(t: Trial) -> None:
     c1, c2 = two(t)
-    count = len(t.heartbeats("c1"))
     c2.quit()
     t.stand.tell_relay("hold-reply c1 heartbeat 2")
-    t.wait_for(lambda: len(t.heartbeats("c1")) > count, 2 * INTERVAL, "c1 sends a heartbeat")
+    wait_for_heartbeat(t)
     commit(t, c1)
     t.check(codes_of(t)[-1:] == [113], f"the commit crosses the reply that raises its epoch: codes {codes_of(t)}")
     t.quiet(NAMES, "c1 has all", time.time())
@@ -92,19 +91,26 @@ def stale_commit(t: Trial) -> None:
 
 
 def fenced_commit(t: Trial) -> None:
-    c1 = start(t, "c1", max_poll_interval_ms="4000")
+    c1 = start(t, "c1", max_poll_interval_ms="2000")
     t.quiet(NAMES, "one consumer", c1.started)
+    wait_for_heartbeat(t)
+    # So no heartbeat of c2 comes while c1's time to give up runs out.
+    time.sleep(INTERVAL - 1)
     c2 = start(t, "c2")
     t.wait_for(lambda: t.heartbeats("c2"), INTERVAL, "c2 joins")
-    count = len(t.heartbeats("c1"))
-    t.stand.tell_relay("hold-reply c1 heartbeat 10")
-    t.wait_for(lambda: len(t.heartbeats("c1")) > count, 2 * INTERVAL, "c1 is to be told to give up")
-    time.sleep(7)
+    t.stand.tell_relay("hold-reply c1 heartbeat 4.5")
+    wait_for_heartbeat(t)
+    time.sleep(3.5)
     c1.say("commit c1")
-    time.sleep(5)
+    time.sleep(INTERVAL)
     t.check(25 in codes_of(t), f"a commit of a member that was removed: codes {codes_of(t)}")
     for it in (c1, c2):
         t.kill(it)
+
+
+def wait_for_heartbeat(t: Trial) -> None:
+    count = len(t.heartbeats("c1"))
+    t.wait_for(lambda: len(t.heartbeats("c1")) > count, 2 * INTERVAL, "c1 sends a heartbeat")
 
 
 def codes_of(t: Trial):
@@ -129,5 +135,5 @@ RECORDINGS: Dict[str, Recording] = {
     "static-restart-2.14.2": Recording("sid", static_restart, "Of two static members one goes away with epoch -2, and comes back under another id to what it had."),
     "late-heartbeat-2.14.2": Recording("sid", late_heartbeat, "A heartbeat comes late, over a former connection of its member, which has gone on over another one. The coordinator closes the former one."),
     "stale-commit-2.14.2": Recording("sid", stale_commit, "A commit crosses the reply that raises its member's epoch: 113. The member commits again at the new epoch."),
-    "fenced-commit-2.14.2": Recording("sid", fenced_commit, "A member doesn't hear that it is to give up, and is removed when its 4 s for this are over. Its commit is answered with 25.", True),
+    "fenced-commit-2.14.2": Recording("sid", fenced_commit, "A member doesn't hear that it is to give up, and is removed when its 2 s for this are over. Its commit is answered with 25.", True),
 }

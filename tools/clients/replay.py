@@ -33,10 +33,10 @@ class Clients:
         self.sockets: Dict[int, socket.socket] = {}
 
     def play(self, events: Sequence[Event], paced: bool) -> None:
-        began = time.monotonic()
+        """Does one event after the other; where `paced`, with the recorded time between them."""
         for number, event in enumerate(events):
-            if paced:
-                time.sleep(max(0.0, began + event.moment / 1000 - time.monotonic()))
+            if paced and number:
+                time.sleep((event.moment - events[number - 1].moment) / 1000)
             try:
                 self.do(event)
             except (OSError, Differs) as why:
