@@ -33,7 +33,7 @@ class Printing:
         self.owned: Set[Key] = set()
         self.next: Dict[Key, int] = {}
         self.committed: Dict[Key, int] = {}
-        fixed = {"client.id": name, "group.protocol": "consumer", "enable.auto.commit": False, "auto.offset.reset": "earliest", "check.crcs": True}
+        fixed: Dict[str, object] = {"client.id": name, "group.protocol": "consumer", "enable.auto.commit": False, "auto.offset.reset": "earliest", "check.crcs": True}
         self.consumer = Consumer({**fixed, **settings, "error_cb": self.tell_error})
         self.say("START", confluent_kafka.libversion()[0])
 

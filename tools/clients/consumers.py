@@ -5,7 +5,7 @@ import signal
 import subprocess
 import threading
 import time
-from typing import Callable, List, Optional, Sequence
+from typing import IO, Callable, Optional, Sequence, cast
 
 from clients.prints import Print, print_of
 
@@ -22,11 +22,12 @@ class Consumers:
         self.log = open(log, "w", encoding="utf-8")
         pipe = subprocess.PIPE
         self.process = subprocess.Popen(words, stdin=pipe, stdout=pipe, stderr=self.log, text=True, bufsize=1)
+        self.asked, self.printed = cast(IO[str], self.process.stdin), cast(IO[str], self.process.stdout)
         self.reader = threading.Thread(target=self.read, daemon=True)
         self.reader.start()
 
     def read(self) -> None:
-        for line in self.process.stdout:
+        for line in self.printed:
             self.log.write(line)
             self.tell(print_of(line))
         self.log.close()
@@ -34,8 +35,8 @@ class Consumers:
     def say(self, line: str) -> None:
         """Asks for something, unless the process has ended."""
         try:
-            self.process.stdin.write(f"{line}\n")
-            self.process.stdin.flush()
+            self.asked.write(f"{line}\n")
+            self.asked.flush()
         except (BrokenPipeError, ValueError):
             pass
 
@@ -77,7 +78,3 @@ class Consumers:
 
     def status(self) -> Optional[int]:
         return self.process.poll()
-
-
-def words_of(root: str, program: Sequence[str], options: Sequence[str], name: str, topics: str, settings: Sequence[str]) -> List[str]:
-    return ["chroot", root, *program, *options, name, topics, *settings]

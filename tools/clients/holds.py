@@ -1,10 +1,11 @@
 """Who may read which partition, as the frames at a coordinator alone tell it."""
 
 import collections
+import functools
 import uuid
-from typing import Counter, Dict, Iterable, List, Sequence, Tuple
+from typing import Callable, Counter, Dict, Iterable, List, Sequence, Set, Tuple, Union
 
-from clients.log import COMMIT, HEARTBEAT, Exchange
+from clients.log import Beat, Committing, Partition
 
 # The protocol's session time, and how much a moment at the relay may be off, in seconds.
 SESSION = 45.0
@@ -12,7 +13,6 @@ SLACK = 0.1
 # The codes after which a member has nothing.
 FENCED = (25, 110)
 
-Partition = Tuple[bytes, int]
 Member = Tuple[str, str]
 
 
@@ -31,35 +31,33 @@ class Holds:
         self.heartbeat_codes: Counter = collections.Counter()
         self.commit_codes: Counter = collections.Counter()
 
-    def walk(self, exchanges: Iterable[Exchange], restarts: Sequence[float]) -> "Holds":
+    def walk(self, exchanges: Iterable[Union[Beat, Committing]], restarts: Sequence[float]) -> "Holds":
         """Goes through requests and replies in their order. At a restart the coordinator has lost its groups."""
-        steps = [(moment, 0, None) for moment in restarts]
+        steps: List[Tuple[float, int, Callable[[], object]]] = [(moment, 0, self.held.clear) for moment in restarts]
         for it in exchanges:
-            steps += [(it.sent, 1, it)] * (not it.closes) + [(it.answered, 2, it)] * bool(it.reply)
-        for _, step, it in sorted(steps, key=lambda step: step[:2]):
-            if it is None:
-                self.held.clear()
-            elif step == 1 and it.head.key == HEARTBEAT:
-                self.take_request(it)
-            elif step == 2 and it.head.key == HEARTBEAT:
-                self.take_reply(it)
-            elif step == 2 and it.head.key == COMMIT:
-                self.take_commit(it)
+            if isinstance(it, Committing):
+                steps.append((it.answered, 2, functools.partial(self.take_commit, it)))
+                continue
+            if not it.closes:
+                steps.append((it.sent, 1, functools.partial(self.take_request, it)))
+            if it.is_answered():
+                steps.append((it.answered, 2, functools.partial(self.take_reply, it)))
+        for _moment, _order, take in sorted(steps, key=lambda step: step[:2]):
+            take()
         return self
 
-    def take_request(self, it: Exchange) -> None:
-        group, member = it.asked.group, it.asked.member
+    def take_request(self, it: Beat) -> None:
         if it.asked.epoch < 0:
-            self.let_go(group, member, set())
+            self.let_go(it.asked.group, it.asked.member, set())
         elif it.asked.owned is not None or it.asked.epoch == 0:
-            self.let_go(group, member, it.asked.owned or set())
+            self.let_go(it.asked.group, it.asked.member, it.asked.owned or set())
 
-    def let_go(self, group: str, member: str, kept: set) -> None:
+    def let_go(self, group: str, member: str, kept: Set[Partition]) -> None:
         for partition in [p for p, m in self.held[group].items() if m == member and p not in kept]:
             del self.held[group][partition]
             self.losing.pop((group, member, partition), None)
 
-    def take_reply(self, it: Exchange) -> None:
+    def take_reply(self, it: Beat) -> None:
         group, member = it.asked.group, it.member()
         self.heartbeat_codes[it.told.code] += 1
         if it.told.code in FENCED:
@@ -70,19 +68,19 @@ class Holds:
         if it.asked.timeout >= 0:
             self.timeouts[group, member] = it.asked.timeout / 1000
         if it.told.assignment is not None:
-            self.grant(it, group, member)
+            self.grant(group, member, it.told.assignment, it.answered)
 
-    def grant(self, it: Exchange, group: str, member: str) -> None:
-        for partition in it.told.assignment:
+    def grant(self, group: str, member: str, assignment: Set[Partition], moment: float) -> None:
+        for partition in assignment:
             other = self.held[group].get(partition, member)
-            if other != member and not self.may_be_out(group, other, it.answered):
+            if other != member and not self.may_be_out(group, other, moment):
                 self.faults.append(f"{self.text(partition)} of {group} is granted to {member} while {other} holds it")
             self.held[group][partition] = member
         for partition in [p for p, m in self.held[group].items() if m == member]:
-            if partition in it.told.assignment:
+            if partition in assignment:
                 self.losing.pop((group, member, partition), None)
             else:
-                self.losing.setdefault((group, member, partition), it.answered)
+                self.losing.setdefault((group, member, partition), moment)
 
     def may_be_out(self, group: str, member: str, moment: float) -> bool:
         """The coordinator may have removed the member: its session, or its time to give up, is over."""
@@ -91,7 +89,7 @@ class Holds:
         limit = self.timeouts[group, member]
         return any(key[:2] == (group, member) and moment + SLACK >= since + limit for key, since in self.losing.items())
 
-    def take_commit(self, it: Exchange) -> None:
+    def take_commit(self, it: Committing) -> None:
         """A partition's commit is taken only of who holds it."""
         self.commit_codes.update(it.codes)
         parts = [(name, part[0]) for name, parts in it.asked.topics for part in parts]

@@ -2,12 +2,14 @@
 
 import collections
 import dataclasses
-from typing import Deque, Dict, Iterator, List, NamedTuple, Optional, Tuple, Union
+from typing import Deque, Dict, Iterator, List, NamedTuple, Optional, Set, Tuple, Union
 
 from rules.fields import Reader
 from rules.messages import Commit, Heartbeat, read_commit_reply, read_heartbeat_reply, read_request
 
-HEARTBEAT, COMMIT = 68, 8
+HEARTBEAT = 68
+# A topic's id and an index.
+Partition = Tuple[bytes, int]
 
 
 class Event(NamedTuple):
@@ -34,37 +36,41 @@ class Told(NamedTuple):
     code: int
     member: Optional[str]
     epoch: int
-    assignment: Optional[set]
+    assignment: Optional[Set[Partition]]
+
+
+NOTHING = Told(-1, -1, None, 0, None)
 
 
 @dataclasses.dataclass
 class Exchange:
-    """A heartbeat or a commit that came to the coordinator at this port. No reply, and `closes`: it ended the connection."""
+    """A request that came to the coordinator at this port, and its reply. No reply, and `closes`: it ended the connection."""
 
     port: int
     connection: int
     sent: float
     frame: bytes
     head: Head
-    asked: Union[Heartbeat, Commit]
-    answered: float = float("inf")
-    reply: bytes = b""
-    told: Optional[Told] = None
-    codes: Tuple[int, ...] = ()
-    closes: bool = False
+    answered: float = dataclasses.field(default=float("inf"), init=False)
+    closes: bool = dataclasses.field(default=False, init=False)
+
+    def is_answered(self) -> bool:
+        return self.answered < float("inf")
+
+
+@dataclasses.dataclass
+class Beat(Exchange):
+    asked: Heartbeat
+    told: Told = NOTHING
 
     def member(self) -> str:
-        return self.asked.member or (self.told and self.told.member) or ""
+        return self.asked.member or self.told.member or ""
 
-    def is_heartbeat(self) -> bool:
-        return self.head.key == HEARTBEAT
 
-    def take_reply(self, moment: float, frame: bytes) -> None:
-        self.answered, self.reply = moment, frame
-        if self.is_heartbeat():
-            self.told = Told(*read_heartbeat_reply(frame[4:]))
-        else:
-            self.codes = tuple(read_commit_reply(frame[4:]))
+@dataclasses.dataclass
+class Committing(Exchange):
+    asked: Commit
+    codes: Tuple[int, ...] = ()
 
 
 def head_of(frame: bytes) -> Head:
@@ -83,10 +89,24 @@ def read_events(path: str) -> Iterator[Event]:
             yield Event(float(words[0]), words[1], int(words[2]), what, bytes.fromhex(words[4]) if is_frame else b"")
 
 
-def read_exchanges(path: str) -> List[Exchange]:
+def exchange_of(port: int, event: Event) -> Union[Beat, Committing]:
+    head, asked = head_of(event.frame), read_request(event.frame[4:])
+    kind = Beat if head.key == HEARTBEAT else Committing
+    return kind(port, event.connection, event.moment, event.frame, head, asked)
+
+
+def answer(it: Union[Beat, Committing], event: Event) -> None:
+    it.answered = event.moment
+    if isinstance(it, Beat):
+        it.told = Told(*read_heartbeat_reply(event.frame[4:]))
+    else:
+        it.codes = tuple(read_commit_reply(event.frame[4:]))
+
+
+def read_exchanges(path: str) -> List[Union[Beat, Committing]]:
     """The exchanges with coordinators, in the order of the requests."""
-    found: List[Exchange] = []
-    waiting: Dict[int, Deque[Exchange]] = collections.defaultdict(collections.deque)
+    found: List[Union[Beat, Committing]] = []
+    waiting: Dict[int, Deque[Union[Beat, Committing]]] = collections.defaultdict(collections.deque)
     ports: Dict[int, int] = {}
     for event in read_events(path):
         if event.side != "coordinator":
@@ -95,11 +115,10 @@ def read_exchanges(path: str) -> List[Exchange]:
         if event.what.startswith("open "):
             ports[event.connection] = int(event.what.split()[1])
         elif event.what == ">":
-            head, asked = head_of(event.frame), read_request(event.frame[4:])
-            found.append(Exchange(ports[event.connection], event.connection, event.moment, event.frame, head, asked))
+            found.append(exchange_of(ports[event.connection], event))
             here.append(found[-1])
         elif event.what == "<":
-            here.popleft().take_reply(event.moment, event.frame)
+            answer(here.popleft(), event)
         elif event.what == "end far" and here:
             here[0].closes = True
     return found

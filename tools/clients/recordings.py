@@ -1,9 +1,9 @@
 """What consumers go through while a conversation of theirs is recorded."""
 
 import time
-from typing import Callable, Dict, NamedTuple
+from typing import Any, Callable, Dict, List, NamedTuple, Tuple
 
-from clients.log import COMMIT
+from clients.consumers import Consumers
 from clients.stand import Topic
 from clients.trial import Trial
 
@@ -12,18 +12,18 @@ ORDERS = Topic("orders", "aaaaaaaa-0000-4000-8000-000000000001", 4)
 NAMES = ("orders",)
 
 
-def start(t: Trial, name: str, **settings: str):
+def start(t: Trial, name: str, **settings: Any) -> Consumers:
     """A consumer that commits where it is asked to alone."""
     return t.start(name, "-c", 0, topics="orders", **settings)
 
 
-def commit(t: Trial, it) -> None:
+def commit(t: Trial, it: Consumers) -> None:
     moment = time.time()
     it.say(f"commit {it.name}")
     t.wait_for(lambda: t.of("COMMIT", it.name, moment) or t.of("REFUSED", it.name, moment), 20, f"{it.name} commits")
 
 
-def alone(t: Trial):
+def alone(t: Trial) -> Consumers:
     """One consumer that has read and committed all."""
     c1 = start(t, "c1")
     t.quiet(NAMES, "one consumer", c1.started)
@@ -31,10 +31,10 @@ def alone(t: Trial):
     return c1
 
 
-def two(t: Trial, **settings: str):
-    c1 = start(t, "c1", **settings)
+def two(t: Trial) -> Tuple[Consumers, Consumers]:
+    c1 = start(t, "c1")
     t.quiet(NAMES, "one consumer", c1.started)
-    c2 = start(t, "c2", **settings)
+    c2 = start(t, "c2")
     t.quiet(NAMES, "two consumers", c2.started)
     return c1, c2
 
@@ -69,7 +69,7 @@ def static_restart(t: Trial) -> None:
 
 
 def late_heartbeat(t: Trial) -> None:
-    c1 = start(t, "c1", socket_timeout_ms="2000")
+    c1 = start(t, "c1", socket_timeout_ms=2_000)
     t.quiet(NAMES, "one consumer", c1.started)
     t.stand.tell_relay("hold c1 heartbeat 9")
     time.sleep(9 + 2 * INTERVAL)
@@ -91,7 +91,7 @@ def stale_commit(t: Trial) -> None:
 
 
 def fenced_commit(t: Trial) -> None:
-    c1 = start(t, "c1", max_poll_interval_ms="2000")
+    c1 = start(t, "c1", max_poll_interval_ms=2_000)
     t.quiet(NAMES, "one consumer", c1.started)
     wait_for_heartbeat(t)
     # So no heartbeat of c2 comes while c1's time to give up runs out.
@@ -113,9 +113,9 @@ def wait_for_heartbeat(t: Trial) -> None:
     t.wait_for(lambda: len(t.heartbeats("c1")) > count, 2 * INTERVAL, "c1 sends a heartbeat")
 
 
-def codes_of(t: Trial):
+def codes_of(t: Trial) -> List[int]:
     """The codes of c1's commits, each once where its partitions have one."""
-    return [code for it in t.exchanges("c1") if it.head.key == COMMIT for code in sorted({*it.codes})]
+    return [code for it in t.commits("c1") for code in sorted({*it.codes})]
 
 
 class Recording(NamedTuple):

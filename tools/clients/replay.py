@@ -1,10 +1,10 @@
 """Plays recorded conversations again, and compares bytes."""
 
+import collections
 import pathlib
 import socket
 import struct
 import subprocess
-import sys
 import tempfile
 import time
 from typing import Dict, List, Sequence
@@ -98,13 +98,14 @@ def play_clients(it: Conversation, program: str) -> None:
 def lines_of(it: Conversation) -> List[str]:
     """The requests at the coordinator as lines for `coord reply`, with ticks between them."""
     lines = [" ".join(["image", *(f"{topic.name} {topic.id} {topic.count}" for topic in it.topics)])]
-    now, counts = 0, {}
+    now = 0
+    counts: Dict[int, int] = collections.Counter()
     for event in (event for event in it.of("coordinator") if event.what == ">"):
-        while now // TICK_MS < event.moment // TICK_MS:
+        while now // TICK_MS < int(event.moment) // TICK_MS:
             now = (now // TICK_MS + 1) * TICK_MS
             lines += [f"now {now}", "tick"]
         now = int(event.moment)
-        counts[event.connection] = counts.get(event.connection, 0) + 1
+        counts[event.connection] += 1
         lines += [f"now {now}", f"stamp {event.connection} {counts[event.connection]}", f"req {event.frame.hex()}"]
     return lines
 

@@ -2,8 +2,10 @@
 
 import random
 import time
+from typing import Any, Dict, Union
 
-from clients.log import COMMIT, Exchange
+from clients.consumers import Consumers
+from clients.log import Beat, Committing
 from clients.trial import BOTH, Trial
 from rules.messages import read_commit_reply
 
@@ -31,7 +33,7 @@ def stopped(t: Trial) -> None:
     t.expect("UNKNOWN_MEMBER_ID", "STALE_MEMBER_EPOCH", "SESSTMOUT", *BROKEN)
     group = t.start_many(("c1", "c2", "c3"), *(["-l"] if t.client != "confluent" else []))
     t.quiet(BOTH, "3 consumers", group["c3"].started)
-    late = [it.frame for it in t.exchanges("c2") if it.head.key == COMMIT][-1]
+    late = t.commits("c2")[-1].frame
     stop = t.pause(group["c2"])
     group["c2"].say("commit c2")
     time.sleep(60)
@@ -46,10 +48,10 @@ def stopped(t: Trial) -> None:
     codes = [it.told.code for it in t.heartbeats("c2", back)]
     t.check(25 in codes, f"c2's heartbeats are answered with {codes[:4]}")
     joined = min(it.answered for it in t.heartbeats("c2", back) if it.told.code == 0)
-    told = {code for it in t.exchanges("c2", back) if it.head.key == COMMIT and it.answered < joined for code in it.codes}
-    t.check(0 not in told, f"its commits before it joined again are answered with {sorted(told)}")
-    told = {*read_commit_reply(t.stand.send(late)[4:])}
-    t.check(0 not in told, f"the old commit once more, after it joined again: {sorted(told)}")
+    told = [code for it in t.commits("c2", back) if it.answered < joined for code in it.codes]
+    t.check(0 not in told, f"its commits before it joined again are answered with {sorted({*told})}")
+    told = read_commit_reply(t.stand.send(late)[4:])
+    t.check(0 not in told, f"the old commit once more, after it joined again: {sorted({*told})}")
 
 
 def cuts(t: Trial) -> None:
@@ -94,8 +96,9 @@ def lose_a_joins_reply(t: Trial) -> None:
 def slow_revocation(t: Trial) -> None:
     """A consumer that takes longer to give up than its rebalance timeout is removed."""
     t.expect("UNKNOWN_MEMBER_ID", "STALE_MEMBER_EPOCH", "MAX_POLL", "FENCED")
-    settings = {"max_poll_interval_ms": "10000", "session_timeout_ms": "10000"} if t.client == "trixie" else {"max_poll_interval_ms": "10000"}
-    slow = t.start("slow", "-b", 16_000, **settings)
+    # (2.14.2 has no such setting with this protocol.)
+    session: Dict[str, Any] = {"session_timeout_ms": 10_000} if t.client == "trixie" else {}
+    slow = t.start("slow", "-b", 16_000, max_poll_interval_ms=10_000, **session)
     t.quiet(BOTH, "slow alone", slow.started)
     t.start("fast")
     t.wait_for(lambda: t.of("BLOCK", "slow"), 20, "slow begins to give up")
@@ -119,14 +122,14 @@ def late(t: Trial) -> None:
     """A request comes 12 s late, over its client's former connection; the client has gone on over another one."""
     t.expect(*BROKEN)
     t.may_close = True
-    group = t.start_many(("c1", "c2"), socket_timeout_ms="4000")
+    group = t.start_many(("c1", "c2"), socket_timeout_ms=4_000)
     t.quiet(BOTH, "2 consumers", group["c2"].started)
     told = late_request(t, "heartbeat")
     t.check(told == "closes", f"a heartbeat 12 s late, overtaken by others of its member: {told}")
     told = late_request(t, "commit")
     t.check(told == "codes [0]", f"a commit 12 s late, at its member's present epoch: {told}")
     t.stand.tell_relay("hold c3 heartbeat 12")
-    third = t.start("c3", socket_timeout_ms="4000")
+    third = t.start("c3", socket_timeout_ms=4_000)
     time.sleep(LATE)
     t.quiet(BOTH, "a join is late", third.started, limit=150)
     first = min((it for it in t.exchanges("c3") if it.sent >= third.started + LATE - 1), key=lambda it: it.connection)
@@ -143,10 +146,10 @@ def late_request(t: Trial, kind: str) -> str:
     return outcome([it for it in t.exchanges("c1") if it.connection == former and it.sent >= moment + LATE - 1][0])
 
 
-def outcome(it: Exchange) -> str:
-    if it.told is not None:
-        return f"code {it.told.code}"
-    return "closes" if it.closes else f"codes {sorted({*it.codes})}" if it.codes else "no reply"
+def outcome(it: Union[Beat, Committing]) -> str:
+    if not it.is_answered():
+        return "closes" if it.closes else "no reply"
+    return f"code {it.told.code}" if isinstance(it, Beat) else f"codes {sorted({*it.codes})}"
 
 
 def coordinator_restarts(t: Trial) -> None:
@@ -188,7 +191,8 @@ def coordinator_stalls(t: Trial) -> None:
 def long_run(t: Trial) -> None:
     """Consumers come and go for four minutes, and connections are cut."""
     t.expect("UNKNOWN_MEMBER_ID", *BROKEN)
-    dice, group, made = random.Random(848), {}, 0
+    dice, made = random.Random(848), 0
+    group: Dict[str, Consumers] = {}
     until = time.time() + 240
     while time.time() < until:
         if len(group) < 3 or len(group) < 9 and dice.random() < 0.55:

@@ -4,9 +4,9 @@ import collections
 import re
 import subprocess
 import time
+from typing import Any, Dict, Set
 
 from clients.consumers import Consumers
-from clients.log import COMMIT
 from clients.roots import CLIENTS
 from clients.stand import HOST
 from clients.trial import BOTH, Trial
@@ -16,7 +16,7 @@ LIMIT = 200
 
 def start_quietly(t: Trial, name: str, count: int, topics: str, group: str = "g") -> Consumers:
     """Consumers that print no records, commit seldom, and don't fetch all the time."""
-    return t.start(name, "-q", "-c", 2000, topics=topics, group=group, count=count, fetch_wait_max_ms="5000")
+    return t.start(name, "-q", "-c", 2000, topics=topics, group=group, count=count, fetch_wait_max_ms=5_000)
 
 
 def hundred(t: Trial) -> None:
@@ -41,7 +41,7 @@ def twenty_groups(t: Trial) -> None:
     t.expect("TRANSPORT")
     groups = [start_quietly(t, f"g{number}x", 3, "orders,bills", f"group{number}") for number in range(20)]
     took = [t.quiet(BOTH, f"group{number}", it.started, names=it.names) for number, it in enumerate(groups)]
-    homes = collections.defaultdict(set)
+    homes: Dict[str, Set[int]] = collections.defaultdict(set)
     for it in t.exchanges():
         homes[it.asked.group].add(it.port)
     t.check(all(len(home) == 1 for home in homes.values()), "each group lives in one coordinator")
@@ -52,7 +52,7 @@ def twenty_groups(t: Trial) -> None:
 
 def mixed(t: Trial) -> None:
     """Clients of both releases in one group; a static member of the one is followed by one of the other."""
-    uniform = {"group_remote_assignor": "uniform"}
+    uniform: Dict[str, Any] = {"group_remote_assignor": "uniform"}
     names = {"old1": "trixie", "new1": "sid", "py1": "confluent", "old2": "trixie", "new2": "sid"}
     group = []
     for name, client in names.items():
@@ -79,13 +79,13 @@ def metadata(t: Trial) -> None:
         it = t.start(name, "-m", size)
         t.quiet(BOTH, f"one with {size} bytes of metadata", it.started)
         it.quit()
-        codes[size] = sorted({code for its in t.exchanges(name) for code in its.codes})
+        codes[size] = sorted({code for its in t.commits(name) for code in its.codes})
     t.check(codes == {10: [0], 4096: [0], 4097: [12]}, f"commit codes by size: {codes}")
 
 
 def automatic_commits(t: Trial) -> None:
     """The commits of the library itself."""
-    settings = {"enable_auto_commit": "true", "auto_commit_interval_ms": "300"}
+    settings: Dict[str, Any] = {"enable_auto_commit": "true", "auto_commit_interval_ms": 300}
     group = [t.start("c1", "-c", 0, **settings)]
     t.quiet(BOTH, "one", group[0].started)
     for number in range(2, 8):
@@ -96,7 +96,7 @@ def automatic_commits(t: Trial) -> None:
         it.say("quit all")
         time.sleep(2.3)
     t.quiet(BOTH, "two are left", time.time())
-    codes = collections.Counter(code for it in t.exchanges() if it.head.key == COMMIT for code in it.codes)
+    codes = collections.Counter(code for its in t.commits() for code in its.codes)
     t.note(f"commit codes {dict(codes)}; {len(t.of('REFUSED'))} commits failed in the application's sight")
 
 
@@ -107,8 +107,8 @@ def kcat(t: Trial) -> None:
         settings = ["group.protocol=consumer", "auto.offset.reset=earliest", f"client.id=kcat{number}", *CLIENTS[client].settings]
         words = ["timeout", "-s", "INT", str(32 - 12 * number), "chroot", str(t.roots / client), "kcat", "-b", f"{HOST}:{t.stand.port}"]
         words += [word for setting in settings for word in ("-X", setting)] + ["-G", "g", *BOTH, "-f", "%t/%p/%o=%s\\n"]
-        with open(t.folder / f"kcat{number}.out", "w", encoding="utf-8") as out, open(t.folder / f"kcat{number}.err", "w", encoding="utf-8") as told:
-            running.append(subprocess.Popen(words, stdin=subprocess.DEVNULL, stdout=out, stderr=told))
+        with open(t.folder / f"kcat{number}.out", "w", encoding="utf-8") as printed, open(t.folder / f"kcat{number}.err", "w", encoding="utf-8") as errors:
+            running.append(subprocess.Popen(words, stdin=subprocess.DEVNULL, stdout=printed, stderr=errors))
         time.sleep(12)
     for it in running:
         it.wait(60)
@@ -117,7 +117,7 @@ def kcat(t: Trial) -> None:
     shares = [re.findall(r"assignment of ([1-9]\d*) partition", text) for text in told]
     t.check(all(shares) and all(read), f"both were assigned partitions ({shares}) and read {len(read[0])} and {len(read[1])} records")
     t.check(all(row.split("=")[0] == row.split("=")[1] for rows in read for row in rows), "each record was the right one")
-    offsets = collections.defaultdict(set)
+    offsets: Dict[str, Set[int]] = collections.defaultdict(set)
     for row in read[0] + read[1]:
         partition, _, offset = row.split("=")[0].rpartition("/")
         offsets[partition].add(int(offset))

@@ -1,7 +1,9 @@
 """Scenarios in which members come, go, and subscribe."""
 
 import time
+from typing import Any, Dict, Iterable, List
 
+from clients.consumers import Consumers
 from clients.trial import BOTH, Trial
 
 INTERVAL = 5.0
@@ -24,7 +26,7 @@ def one_alone(t: Trial) -> None:
 def joins_and_leaves(t: Trial) -> None:
     """Ten consumers come, and nine of them go one by one."""
     joins, leaves = [], []
-    consumers = []
+    consumers: List[Consumers] = []
     for count in (1, 2, 3):
         consumers.append(t.start(f"c{count}"))
         joins.append(t.quiet(BOTH, f"{count} consumers", consumers[-1].started))
@@ -37,7 +39,7 @@ def joins_and_leaves(t: Trial) -> None:
     t.note(f"seconds after the last join of 1, 2, 3 and 10: {seconds(joins)}; after each leave: {seconds(leaves)}")
 
 
-def seconds(values) -> str:
+def seconds(values: Iterable[float]) -> str:
     return ", ".join(f"{it:.1f}" for it in values)
 
 
@@ -61,7 +63,7 @@ def static_restarts(t: Trial) -> None:
     t.quiet(BOTH, "s3 is back after its session ended", again.started)
 
 
-def come_back(t: Trial, static, pause: float) -> None:
+def come_back(t: Trial, static: Dict[str, Consumers], pause: float) -> None:
     before = {name: {*parts} for name, parts in t.owned.items()}
     moment = static["s2"].quit()
     away = t.heartbeats("s2")[-1]
@@ -114,7 +116,7 @@ def assignors(t: Trial) -> None:
     """Range, uniform, the client's own choice, a vote between two, and an assignor that isn't there."""
     for assignor in ("range", "uniform", ""):
         names = [f"{assignor or 'own'}{number}" for number in (1, 2, 3)]
-        setting = {"group_remote_assignor": assignor} if assignor else {}
+        setting: Dict[str, Any] = {"group_remote_assignor": assignor} if assignor else {}
         group = [t.start(name, group=f"g-{assignor}", **setting) for name in names]
         t.quiet(BOTH, f"assignor {assignor or 'of the client choice'}", group[-1].started, even=assignor != "range", names=names)
         if assignor == "range":

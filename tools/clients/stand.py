@@ -1,5 +1,6 @@
 """Coordinators, a front end and a relay on both sides of it, on ports of their own."""
 
+import dataclasses
 import os
 import pathlib
 import random
@@ -8,7 +9,7 @@ import socket
 import subprocess
 import sys
 import time
-from typing import Dict, List, NamedTuple, Optional, Sequence
+from typing import Dict, List, Optional, Sequence
 
 HERE = pathlib.Path(__file__).resolve().parent
 FRONT_END = HERE.parent.parent / "examples/broker"
@@ -19,7 +20,8 @@ START_SECONDS = 60
 END_SECONDS = 5
 
 
-class Topic(NamedTuple):
+@dataclasses.dataclass(frozen=True)
+class Topic:
     name: str
     id: str
     count: int

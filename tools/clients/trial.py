@@ -6,10 +6,10 @@ import dataclasses
 import pathlib
 import threading
 import time
-from typing import Any, Callable, Counter, Dict, Iterator, List, Optional, Sequence, Set
+from typing import Any, Callable, Counter, Dict, Iterator, List, Optional, Sequence, Set, Union
 
-from clients.consumers import Consumers, words_of
-from clients.log import Exchange, read_exchanges
+from clients.consumers import Consumers
+from clients.log import Beat, Committing, read_exchanges
 from clients.prints import Print, partitions_of
 from clients.roots import CLIENTS
 from clients.stand import HOST, Stand, Topic
@@ -61,22 +61,20 @@ class Trial:
 
     # ---- consumers
 
-    def start(self, name: str, *options: object, group: str = "g", topics: str = "orders,bills", count: int = 0, client: str = "", **settings: str) -> Consumers:
+    def start(self, name: str, *options: object, group: str = "g", topics: str = "orders,bills", count: int = 0, client: str = "", **settings: Any) -> Consumers:
         """Starts a consumer. An underscore in a setting's name stands for a dot."""
         of = CLIENTS[client or self.client]
-        given = {f"bootstrap.servers={HOST}:{self.stand.port}": 0, f"group.id={group}": 0}
-        given.update({f"{key.replace('_', '.')}={value}": 0 for key, value in settings.items()})
+        given = [f"{key.replace('_', '.')}={value}" for key, value in settings.items()]
         if "group_remote_assignor" not in settings:
-            given.update(dict.fromkeys(of.settings, 0))
-        words = [str(it) for it in (*options, *(("-n", count) if count else ()))]
-        full = words_of(str(self.roots / of.release), of.words, words, name, topics, [*given])
-        log = self.folder / f"{len(self.consumers)}-{name}.txt"
-        made = Consumers(full, name, count, log, self.take)
+            given += of.settings
+        words = ["chroot", str(self.roots / of.release), *of.words, *map(str, options), *(["-n", str(count)] if count else []), name, topics]
+        words += [f"bootstrap.servers={HOST}:{self.stand.port}", f"group.id={group}", *given]
+        made = Consumers(words, name, count, self.folder / f"{len(self.consumers)}-{name}.txt", self.take)
         self.groups.update(dict.fromkeys(made.names, group))
         self.consumers.append(made)
         return made
 
-    def start_many(self, names: Sequence[str], *options: object, **settings: str) -> Dict[str, Consumers]:
+    def start_many(self, names: Sequence[str], *options: object, **settings: Any) -> Dict[str, Consumers]:
         return {name: self.start(name, *options, **settings) for name in names}
 
     def kill(self, it: Consumers) -> float:
@@ -116,14 +114,18 @@ class Trial:
         with self.lock:
             return [it for it in self.prints if it.kind in CHANGES and it.moment > since and it.name not in but]
 
-    def exchanges(self, client: str = "", since: float = 0.0) -> List[Exchange]:
-        """What has come to the coordinator, from this client id."""
+    def exchanges(self, client: str = "", since: float = 0.0) -> List[Union[Beat, Committing]]:
+        """What has come to the coordinator from this client id, and wasn't answered before a moment."""
         found = read_exchanges(str(self.folder / "frames.log"))
         return [it for it in found if client in ("", it.head.client) and it.answered >= since]
 
-    def heartbeats(self, client: str = "", since: float = 0.0) -> List[Exchange]:
+    def heartbeats(self, client: str = "", since: float = 0.0) -> List[Beat]:
         """The heartbeats that were answered."""
-        return [it for it in self.exchanges(client, since) if it.told is not None]
+        return [it for it in self.exchanges(client, since) if isinstance(it, Beat) and it.is_answered()]
+
+    def commits(self, client: str = "", since: float = 0.0) -> List[Committing]:
+        """The commits that were answered."""
+        return [it for it in self.exchanges(client, since) if isinstance(it, Committing) and it.is_answered()]
 
     # ---- findings
 

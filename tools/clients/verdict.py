@@ -1,12 +1,14 @@
 """What must hold at the end of every trial."""
 
 import collections
-from typing import Dict, List, Tuple
+from typing import Dict, List, Sequence, Tuple, Union
 
 from clients.holds import Holds
-from clients.log import COMMIT, Exchange
+from clients.log import Beat, Committing
 from clients.prints import Print, overlaps, records_read, spans
 from clients.trial import Trial
+
+Exchanges = List[Union[Beat, Committing]]
 
 
 def judge(trial: Trial) -> None:
@@ -43,7 +45,7 @@ def is_right(it: Print) -> bool:
     return value == f"{topic}/{index}/{offset}"
 
 
-def judge_frames(trial: Trial, exchanges: List[Exchange]) -> None:
+def judge_frames(trial: Trial, exchanges: Exchanges) -> None:
     holds = Holds({topic.name: topic.id for topic in trial.topics.values()}).walk(exchanges, trial.restarts)
     trial.check(not holds.faults, f"by the frames: nothing granted while held, no commit taken of what isn't held{told(holds.faults)}")
     trial.note(f"heartbeat codes {dict(sorted(holds.heartbeat_codes.items()))}, commit codes {dict(sorted(holds.commit_codes.items()))}")
@@ -52,12 +54,12 @@ def judge_frames(trial: Trial, exchanges: List[Exchange]) -> None:
         trial.check(not closes, f"the coordinator closed no connection{told(closes)}")
 
 
-def judge_reading(trial: Trial, group: str, prints: List[Print], exchanges: List[Exchange]) -> None:
+def judge_reading(trial: Trial, group: str, prints: List[Print], exchanges: Exchanges) -> None:
     """Each record below the last offset that was committed was read by somebody of the group."""
     read = records_read(prints)
     committed: Dict[Tuple[str, int], int] = {}
     for it in exchanges:
-        if it.head.key == COMMIT and it.asked.group == group:
+        if isinstance(it, Committing) and it.asked.group == group:
             parts = [(name, *part) for name, parts in it.asked.topics for part in parts]
             committed.update({(name, index): offset for (name, index, offset, *_), code in zip(parts, it.codes) if code == 0})
     if read:
@@ -66,5 +68,5 @@ def judge_reading(trial: Trial, group: str, prints: List[Print], exchanges: List
         trial.check(not holes, f"group {group}: each record below a committed offset was read ({count}){told(holes)}")
 
 
-def told(faults: List) -> str:
+def told(faults: Sequence[object]) -> str:
     return f": {len(faults)}, as {faults[0]}" if faults else ""
