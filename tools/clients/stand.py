@@ -87,6 +87,7 @@ class Stand:
         until = time.monotonic() + START_SECONDS
         while "listening" not in path.read_text(encoding="utf-8"):
             if process.poll() is not None or time.monotonic() > until:
+                self.end()
                 raise Failed(f"{name} doesn't listen: {path.read_text(encoding='utf-8').strip()}")
             time.sleep(0.02)
 
