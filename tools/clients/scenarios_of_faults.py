@@ -137,6 +137,27 @@ def late(t: Trial) -> None:
     t.check(outcome(first) == wanted, f"a join 12 s late, overtaken by another one: {outcome(first)}")
 
 
+def late_acknowledgement(t: Trial) -> None:
+    """The reply to an acknowledgement, which assigns more, comes later than its client waits for it: it is never told again."""
+    t.expect("UNKNOWN_MEMBER_ID", *BROKEN)
+    c1, c2 = t.start("c1"), t.start("c2", "-b", 2_500)
+    t.quiet(BOTH, "2 consumers", c2.started)
+    heard = len(t.heartbeats("c2"))
+    t.wait_for(lambda: len(t.heartbeats("c2")) > heard, 2 * INTERVAL, "c2 sends a heartbeat")
+    time.sleep(1)
+    # c2 is told to give up 4 s after c3's join, and takes 2.5 s for it. c3 is assigned what c1 has given up after 5 s, and takes 3 s for it.
+    t.start("c3", "-w", 3_000)
+    t.wait_for(lambda: t.of("ASSIGN", "c3") and t.owned["c3"], 3 * INTERVAL, "c3 is assigned what c1 has given up")
+    t.stand.tell_relay(f"hold-reply c3 heartbeat {INTERVAL + 2}")
+    time.sleep(4 * INTERVAL)
+    told = [len(it.told.assignment) for it in t.heartbeats("c3") if it.told.assignment]
+    t.check(len(told) == 2 and told[0] < told[1], f"c3 was told of so many partitions: {told}")
+    t.note(f"c3 reads {len(t.owned['c3'])} partitions of {told[-1:]} that it was told of {3 * INTERVAL:g} s before")
+    moment = time.time()
+    c1.quit()
+    t.quiet(BOTH, "c1 leaves", moment)
+
+
 def late_request(t: Trial, kind: str) -> str:
     """What becomes of c1's next request of a kind, which is late. Nothing moves meanwhile."""
     moment, former = time.time(), t.exchanges("c1")[-1].connection
