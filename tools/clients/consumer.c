@@ -4,7 +4,8 @@
 
    KEY=VALUE are librdkafka's settings. NAME is the client id; with -n there are COUNT consumers, NAME1 and so on.
    Every COMMIT_MS (500; 0 for never) what was read is committed: -a asynchronously, -m with metadata of so many bytes. -b sleeps in
-   the first revocation, -w in the first assignment that isn't empty. -l commits also what was lost. -q prints no records. Lines on standard input, each for NAME or all:
+   the first revocation, -w in the first assignment that isn't empty. -l commits also what was lost. -q prints no records. Lines on
+   standard input, each for NAME or all:
        quit WHO            closes the consumer; the end of the input quits all
        subscribe WHO T,T   changes the subscription; `-` stands for none
        commit WHO          commits at once
