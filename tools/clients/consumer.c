@@ -11,8 +11,8 @@
        commit WHO          commits at once
    A line that is printed has the seconds, the name, and what happened:
        START VERSION   ASSIGN T:P,..   REVOKE T:P,..   LOST T:P,..   BLOCK   RECORD T P OFFSET VALUE
-       COMMIT T:P=OFFSET,..   REFUSED NAME T:P=OFFSET,..   ERROR NAME TEXT   FATAL NAME TEXT   WRONG TEXT   CLOSED
-   ASSIGN is printed before a partition is read, and REVOKE and LOST before it is given up. */
+       COMMIT T:P=OFFSET,..   REFUSED NAME T:P=OFFSET,..   ERROR NAME TEXT   FATAL NAME TEXT   WRONG TEXT   CLOSING   CLOSED
+   ASSIGN is printed before a partition is read, and REVOKE and LOST before it is given up. Nothing is read after CLOSING. */
 #define _GNU_SOURCE
 #include <librdkafka/rdkafka.h>
 #include <pthread.h>
@@ -313,6 +313,7 @@ static void *consume(void *of)
             due = seconds() + commit_ms / 1e3;
         }
     }
+    say(it, "CLOSING");
     rd_kafka_resp_err_t code = rd_kafka_consumer_close(it->kafka);
     if (code && code != RD_KAFKA_RESP_ERR__FATAL)
         say(it, "ERROR %s close", rd_kafka_err2name(code));

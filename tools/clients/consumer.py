@@ -114,6 +114,7 @@ class Printing:
         return True
 
     def close(self) -> None:
+        self.say("CLOSING")
         self.consumer.close()
         self.say("CLOSED")
 

@@ -1,7 +1,7 @@
 """Scenarios in which members come, go, and subscribe."""
 
 import time
-from typing import Any, Dict, Iterable, List
+from typing import Dict, Iterable, List
 
 from clients.consumers import Consumers
 from clients.trial import BOTH, Trial
@@ -117,8 +117,8 @@ def assignors(t: Trial) -> None:
     """Range, uniform, the client's own choice, a vote between two, and an assignor that isn't there."""
     for assignor in ("range", "uniform", "own"):
         names = [f"{assignor}{number}" for number in (1, 2, 3)]
-        setting: Dict[str, Any] = {"group_remote_assignor": assignor} if assignor != "own" else {}
-        group = [t.start(name, group=f"g-{assignor}", **setting) for name in names]
+        asked = None if assignor == "own" else assignor
+        group = [t.start(name, group=f"g-{assignor}", group_remote_assignor=asked) for name in names]
         t.quiet(BOTH, f"assignor {assignor}", group[-1].started, even=assignor != "range", names=names)
         if assignor == "range":
             sizes = {topic: sorted(sum(p.startswith(topic) for p in t.owned[name]) for name in names) for topic in BOTH}

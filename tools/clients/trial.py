@@ -64,9 +64,9 @@ class Trial:
     def start(
         self, name: str, *options: object, group: str = "g", topics: str = "orders,bills", count: int = 0, client: str = "", **settings: Any
     ) -> Consumers:
-        """Starts a consumer. An underscore in a setting's name stands for a dot."""
+        """Starts a consumer. An underscore in a setting's name stands for a dot, and None for the library's own choice."""
         of = CLIENTS[client or self.client]
-        given = [f"{key.replace('_', '.')}={value}" for key, value in settings.items()]
+        given = [f"{key.replace('_', '.')}={value}" for key, value in settings.items() if value is not None]
         if "group_remote_assignor" not in settings:
             given += of.settings
         words = ["chroot", str(self.roots / of.release), *of.words, *map(str, options), *(["-n", str(count)] if count else [])]
