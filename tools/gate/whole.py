@@ -117,7 +117,7 @@ class Gate:
         return f"{self.tree.folder(cases.PROGRAM_CRATE)}/out/{cases.PROGRAM_CRATE}"
 
     def run_scripts(self):
-        """Checks the launcher, and with the built program what the documents show, the server and what real clients said, by scripts of their own."""
+        """Checks the launcher, and with the built program the documents, the server and recorded conversations, by scripts of their own."""
         built = [self.program()]
         for script, words in (("check-launcher", []), ("check-readme", built), ("check-server", built), ("check-conversations", built)):
             if not all(map(os.path.isfile, words)):
