@@ -145,14 +145,14 @@ def late(t: Trial) -> None:
 def late_acknowledgement(t: Trial) -> None:
     """The reply to an acknowledgement, which assigns more, comes later than its client waits for it: it is never told again."""
     t.expect("UNKNOWN_MEMBER_ID", *BROKEN)
-    c1, c2 = t.start("c1"), t.start("c2", "-b", 2_500)
+    c1, c2 = t.start("c1"), t.start("c2", "-b", 4_000)
     t.quiet(BOTH, "2 consumers", c2.started)
     heard = len(t.heartbeats("c2"))
     t.wait_for(lambda: len(t.heartbeats("c2")) > heard, 2 * INTERVAL, "c2 sends a heartbeat")
     time.sleep(1)
-    # c2 is told to give up 4 s after c3's join, and takes 2.5 s for it. c3 is assigned what c1 has given up after 5 s, and takes
-    # 3 s for it.
-    t.start("c3", "-w", 3_000)
+    # Both are told to give up at most 4 s after c3's join, and c2 takes 4 s for it. c3 is assigned what c1 has given up after 5 s,
+    # takes 4.5 s for it, and then reports it.
+    t.start("c3", "-w", 4_500)
     t.wait_for(lambda: t.of("ASSIGN", "c3") and t.owned["c3"], 3 * INTERVAL, "c3 is assigned what c1 has given up")
     t.stand.tell_relay(f"hold-reply c3 heartbeat {INTERVAL + 2}")
     time.sleep(4 * INTERVAL)
