@@ -3,6 +3,7 @@
 from __future__ import annotations
 
 import asyncio
+import socket
 from typing import Optional
 
 from broker.frames import BadFrame, framed, read_body
@@ -29,24 +30,29 @@ class Coordinator:
     def __str__(self) -> str:
         return f"{self.host}:{self.port}"
 
-    async def open(self) -> Optional[Link]:
+    async def connect(self) -> Optional[socket.socket]:
         """A new connection, or None where the coordinator can't be reached."""
+        connection = socket.socket()
+        connection.setblocking(False)
         try:
-            streams = await within(OPEN_SECONDS, asyncio.open_connection(self.host, self.port))
+            await within(OPEN_SECONDS, asyncio.get_running_loop().sock_connect(connection, (self.host, self.port)))
         except (OSError, asyncio.TimeoutError) as why:
-            if self.is_there is not False:
-                reason = str(why) or f"it hasn't answered for {OPEN_SECONDS} s"
-                say(f"the coordinator {self} can't be reached, and clients' connections are closed: {reason}")
-            self.is_there = False
+            connection.close()
+            self._was_not_there(str(why) or f"it hasn't answered for {OPEN_SECONDS} s")
             return None
         if self.is_there is False:
             say(f"the coordinator {self} is there again")
         self.is_there = True
-        return Link(*streams)
+        return connection
+
+    def _was_not_there(self, why: str) -> None:
+        if self.is_there is not False:
+            say(f"the coordinator {self} can't be reached, and clients' connections are closed: {why}")
+        self.is_there = False
 
 
 class Link:
-    """One connection to a coordinator. It always reads, so that it learns of its end; `arriving` is the next frame's body."""
+    """A connection to a coordinator. It always reads, so that it learns of its end; `arriving` is the next frame's body."""
 
     def __init__(self, reader: asyncio.StreamReader, writer: asyncio.StreamWriter) -> None:
         self._reader, self._writer = reader, writer

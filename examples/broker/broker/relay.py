@@ -36,13 +36,30 @@ async def serve_node(cluster: Cluster, node: Node, watch: Watch, listener: socke
     """
 
     async def prepare(client: socket.socket, address: Address) -> Optional[Work]:
-        link = await node.coordinator.open()
-        if link is None:
+        coordinator = await node.coordinator.connect()
+        if coordinator is None:
             client.close()
             return None
-        return Relay(cluster, node, watch, link).run(client, address)
+        return relay(cluster, node, watch, client, coordinator, address)
 
     await accept(listener, MOST_CONNECTIONS, prepare)
+
+
+async def relay(cluster: Cluster, node: Node, watch: Watch, client: socket.socket, coordinator: socket.socket, address: Address) -> None:
+    """Serves a client until either side closes. Says why, unless it was the client."""
+    link = Link(*await asyncio.open_connection(sock=coordinator))
+    reader, writer = await asyncio.open_connection(sock=client)
+    node.connections += 1
+    try:
+        await Relay(cluster, node, watch, link).serve(reader, writer)
+    except (BadFrame, Unreadable, Closed, CoordinatorClosed) as why:
+        say(f"closed the connection of {address[0]}:{address[1]}: {why}")
+    except OSError:
+        pass
+    finally:
+        node.connections -= 1
+        link.close()
+        await close(writer)
 
 
 class Closed(Exception):
@@ -53,24 +70,8 @@ class Relay:
     def __init__(self, cluster: Cluster, node: Node, watch: Watch, link: Link) -> None:
         self.cluster, self.node, self.watch, self.link = cluster, node, watch, link
 
-    async def run(self, client: socket.socket, address: Address) -> None:
-        """Answers requests until either side closes. Says why, unless it was the client."""
-        self.node.connections += 1
-        try:
-            reader, writer = await asyncio.open_connection(sock=client)
-            try:
-                await self._serve(reader, writer)
-            finally:
-                await close(writer)
-        except (BadFrame, Unreadable, Closed, CoordinatorClosed) as why:
-            say(f"closed the connection of {address[0]}:{address[1]}: {why}")
-        except OSError:
-            pass
-        finally:
-            self.node.connections -= 1
-            self.link.close()
-
-    async def _serve(self, reader: asyncio.StreamReader, writer: asyncio.StreamWriter) -> None:
+    async def serve(self, reader: asyncio.StreamReader, writer: asyncio.StreamWriter) -> None:
+        """Answers requests until the client closes. Raises where anything else ends the connection."""
         while True:
             body = await self._next(reader)
             if body is None:
