@@ -1,0 +1,12 @@
+use Rattle.std.proofs.Common.{rules}
+use Rattle.coord_server.proofs.threads.run_beside.Goals as goal
+
+pub scoped-requires : goal.scoped-requires
+scoped-requires g c =
+    let send-B = c.type_bounds.send-B in
+    let send-E = c.type_bounds.send-E in
+    let sync-R = c.type_bounds.sync-R in
+    record {
+      at = λ a. (c.requires.workers, (c.requires.clocks, (c.requires.all, (c.requires.announce,
+        first_of ((send-B, (send-E, (sync-R, tt))), (send-B, (send-E, tt)), (sync-R, (send-B, (send-E, tt))), search (rules, send-B, send-E, sync-R))))));
+    }
