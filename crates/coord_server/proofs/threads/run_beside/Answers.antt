@@ -7,6 +7,5 @@ scoped-requires g c =
     let send-E = c.type_bounds.send-E in
     let sync-R = c.type_bounds.sync-R in
     record {
-      at = λ a. (c.requires.workers, (c.requires.clocks, (c.requires.all, (c.requires.announce,
-        first_of ((send-B, (send-E, (sync-R, tt))), (send-B, (send-E, tt)), (sync-R, (send-B, (send-E, tt))), search (rules, send-B, send-E, sync-R))))));
+      at = λ a. (c.requires.workers, (c.requires.clocks, (c.requires.all, (c.requires.announce, search (rules, send-B, send-E, sync-R)))));
     }
