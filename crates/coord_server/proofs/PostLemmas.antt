@@ -11,8 +11,8 @@ pub one_more : {K : Type 0} (workers : ℕ) (posts : List (Post K)) (post : Post
 one_more workers posts post before worker many i p low =
     let more = length-append posts (post ∷ []) in
     elim (cases_lt i (length posts)) [
-      inl below ↦ rw (get_or_append_left posts (post ∷ []) p i below) (before i p below)
-    | inr above ↦
-        let same : length posts ≡ i = omega (arith, more) in
-        rw (get_or_at posts post [] p i same) (worker ∙ same, many)
+      | inl below ↦ rw (get_or_append_left posts (post ∷ []) p i below) (before i p below)
+      | inr above ↦
+          let same : length posts ≡ i = omega (arith, more) in
+          rw (get_or_at posts post [] p i same) (worker ∙ same, many)
     ]

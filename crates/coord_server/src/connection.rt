@@ -16,6 +16,7 @@ pub trait Connection<I, O>: Drop {
 
 /// What is read of a socket, and what is written.
 pub type SocketReader = Counted<Retried<OwnedReadHalf>>;
+
 pub type SocketWriter = Counted<Retried<OwnedWriteHalf>>;
 
 /// A socket. It has TCP_NODELAY, since a reply is not to wait for the next one.

@@ -15,6 +15,7 @@ const PAUSE: u64 = 50;
 
 /// What the sources of events are known by.
 const INCOMING: Token = Token(0);
+
 const BELL: Token = Token(1);
 
 /// Where connections come from, none of which is at an event loop yet.

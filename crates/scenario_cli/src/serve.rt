@@ -134,9 +134,7 @@ where
     ensures { IfOk result (λ made. made ≡ record { shards = shards; salt = salt; cap = 0 }) }
 {
     let gate = AlwaysOpen;
-    Ok(Shards::<A, C, AlwaysOpen>::new(
-        alloc, shards, salt, 0, keys, gate, entries, calls,
-    )?)
+    Ok(Shards::<A, C, AlwaysOpen>::new(alloc, shards, salt, 0, keys, gate, entries, calls)?)
 }
 
 /// Gives every shard its topics.
