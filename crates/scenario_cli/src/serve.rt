@@ -1,11 +1,11 @@
 //! `coord serve`: the server over sockets of this machine.
-ghost use Rattle.std.specs.Prelude.{◌≡◌, ◌+◌, ◌≤◌, ◌<◌};
+ghost use Rattle.std.specs.Prelude.{◌≡◌, ◌+◌, ◌≤◌, ◌<◌, true, IfOk};
 
-use crate::service::Service;
 use coord_server::{
     AlwaysOpen, ClockMoments, Moments, Plan, ServerFault, Shards, ShardsDesk, serve_sockets,
 };
-use std::alloc::AllocGlobal;
+use scenario_lines::service::Service;
+use std::alloc::{AllocGlobal, Global};
 use std::collections::hash_map::RandomState;
 use std::io;
 use std::io::Write;
@@ -71,28 +71,44 @@ where
         + Sync,
 {
     let keys = RandomState::new(rt).map_err(ServeFault::Keys)?;
-    let (port, shards) = (service.port, service.shards);
-    let socket = match TcpListener::bind(rt, (Ipv4Addr::LOCALHOST, port)) {
-        Ok(socket) => socket,
-        Err(error) => return Err(ServeFault::Port(port, error)),
-    };
-    let moments = match ClockMoments::start(rt) {
-        Ok(moments) => moments,
-        Err(error) => return Err(ServeFault::Clock(error)),
-    };
-    print(writer, "listening", u64::from(port))?;
-    let salt = moments.first().millis();
-    let (entries, calls) = (Blank::new(shards as u64), Blank::new(SEATS + shards as u64));
-    let served = serve_over::<Brand, Brand, _, R>(
-        rt, service, keys, salt, socket, &moments, entries, calls,
-    )?;
+    let socket = listen(rt, service.port)?;
+    let moments = ClockMoments::start(rt).map_err(ServeFault::Clock)?;
+    print(writer, "listening", u64::from(service.port))?;
+    let served = serve_socket(rt, &service, keys, socket, &moments)?;
     print(writer, "served", served)
+}
+
+/// Listens on a port of 127.0.0.1.
+fn listen<R>(rt: &R, port: u16) -> Result<TcpListener, ServeFault>
+where
+    R: Net<Listener = TcpListener, Stream = TcpStream>,
+{
+    match TcpListener::bind(rt, (Ipv4Addr::LOCALHOST, port)) {
+        Ok(socket) => Ok(socket),
+        Err(error) => Err(ServeFault::Port(port, error)),
+    }
+}
+
+/// Serves the connections of a socket over new shards, whose salt is the first moment. Gives their number.
+fn serve_socket<R>(
+    rt: &R,
+    service: &Service,
+    keys: RandomState,
+    socket: TcpListener,
+    moments: &ClockMoments<'_, R>,
+) -> Result<u64, ServerFault>
+where
+    R: Wait + Threads + Clock + Net + RandomSource + AllocGlobal + Sync,
+{
+    let (salt, shards) = (moments.first().millis(), service.shards as u64);
+    let (entries, calls) = (Blank::new(shards), Blank::new(SEATS + shards));
+    serve_over::<Brand, Brand, _, R>(rt, service, keys, salt, socket, moments, entries, calls)
 }
 
 /// Serves the connections of a socket over new shards with a salt. Gives their number.
 fn serve_over<A, C, M, R>(
     rt: &R,
-    service: Service,
+    service: &Service,
     keys: RandomState,
     salt: u64,
     socket: TcpListener,
@@ -105,26 +121,45 @@ where
     C: Ledger + Send + Sync,
     M: Moments + Clone + Send,
     R: Wait + Threads + Clock + Net + RandomSource + AllocGlobal + Sync,
-    requires entries { (entries.name ≡ A.name) × (entries.parts ≡ A.parts) × (entries.parts ≡ service.shards) }
-    requires calls { (calls.name ≡ C.name) × (calls.parts ≡ C.parts) × (calls.parts ≡ 256 + service.shards) }
+    requires entries { (entries.name ≡ A.name) × (entries.parts ≡ A.parts) × (entries.parts ≡ service.now.shards) }
+    requires calls { (calls.name ≡ C.name) × (calls.parts ≡ C.parts) × (calls.parts ≡ 256 + service.now.shards) }
 {
-    let shards = Shards::<A, C, AlwaysOpen>::new(
-        rt.alloc(),
-        service.shards,
-        salt,
-        0,
-        keys,
-        AlwaysOpen,
-        entries,
-        calls,
-    )?;
+    let shards = shards_of::<A, C>(rt.alloc(), service.shards, salt, keys, entries, calls)?;
     set_image(rt, &shards, moments.clone()?, &service.image)?;
-    let plan = Plan {
+    serve_sockets(rt, &shards, socket, moments, plan_of(service))
+}
+
+/// How large the server is: as many workers and connections as are asked for, and an expiry worker.
+fn plan_of(service: &Service) -> Plan
+    ensures workers { result.workers ≡ service.now.workers }
+    ensures connections { result.connections ≡ service.now.connections }
+    ensures expires { result.expires ≡ true }
+{
+    Plan {
         workers: service.workers,
         connections: service.connections,
         expires: true,
-    };
-    serve_sockets(rt, &shards, socket, moments, plan)
+    }
+}
+
+/// So many new shards with a salt, which keep no journals.
+fn shards_of<A, C>(
+    alloc: Global,
+    shards: usize,
+    salt: u64,
+    keys: RandomState,
+    entries: Blank,
+    calls: Blank,
+) -> Result<Shards<A, C, AlwaysOpen>, ServerFault>
+where
+    A: Ledger,
+    C: Ledger,
+    requires entries { (entries.name ≡ A.name) × (entries.parts ≡ A.parts) × (entries.parts ≡ shards) }
+    requires calls { (calls.name ≡ C.name) × (calls.parts ≡ C.parts) × (calls.parts ≡ 256 + shards) }
+    ensures { IfOk result (λ made. made ≡ record { shards = shards; salt = salt; cap = 0 }) }
+{
+    let gate = AlwaysOpen;
+    Ok(Shards::<A, C, AlwaysOpen>::new(alloc, shards, salt, 0, keys, gate, entries, calls)?)
 }
 
 /// Gives every shard its topics.

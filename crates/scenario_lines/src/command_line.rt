@@ -1,0 +1,157 @@
+//! The command line.
+ghost use Rattle.std.specs.Prelude.{◌≡◌, ◌↔◌};
+ghost use Rattle.scenario_lines.specs.Statuses.{IsForMemory};
+
+use crate::service::{self, Service};
+use clap::Command;
+use clap::error::ErrorKind;
+use std::alloc::{AllocError, AllocFailed, Global};
+use std::convert::AsStr;
+use std::io;
+use std::rt::Env;
+use thiserror::Error;
+use topic_meta::ImageFault;
+
+/// What the program is asked to do.
+#[derive(Drop)]
+pub enum Subcommand {
+    /// Answer the request frames on standard input.
+    Reply,
+    /// Print what is in the request frames on standard input.
+    Frame,
+    /// Play the script on standard input.
+    Run,
+    /// Serve connections.
+    Serve(Service),
+}
+
+/// Why a command line asks for nothing that the program does. The text ends its line.
+#[derive(Debug, Drop, Error)]
+pub enum CommandLineFault {
+    /// The line is wrong, or asks for help, and the text is what `clap` says of it.
+    #[error("{0}")]
+    Refused(clap::Error),
+    /// The words could not be read.
+    #[error("reading the command line: {0}\n")]
+    Unread(io::Error),
+    /// The word of this name isn't a number from 1 to the greatest.
+    #[error("error: '--{0}' wants a number from 1 to {1}\n")]
+    OutOfRange(&'static str, u64),
+    /// The word is no topic.
+    #[error("error: '{0}' is no topic NAME:UUID:COUNT\n")]
+    NoTopic(String),
+    /// The topics make no image.
+    #[error("error: {0}\n")]
+    NoImage(ImageFault),
+    #[error("error: out of memory\n")]
+    NoMemory,
+}
+
+impl CommandLineFault {
+    /// The status with which the program ends: 1 where memory was short, 2 where the command line was wrong.
+    pub fn status(&self) -> u8
+        ensures memory { (result ≡ 1) ↔ IsForMemory self.now }
+        ensures wrong { (result ≡ 2) ↔ (¬ IsForMemory self.now) }
+    {
+        let is_for_memory = match self {
+            CommandLineFault::Refused(error) => error.kind() == ErrorKind::OutOfMemory,
+            CommandLineFault::Unread(error) => error.kind() == io::ErrorKind::OutOfMemory,
+            CommandLineFault::NoMemory => true,
+            CommandLineFault::OutOfRange(..)
+            | CommandLineFault::NoTopic(_)
+            | CommandLineFault::NoImage(_) => false,
+        };
+        if is_for_memory { 1 } else { 2 }
+    }
+}
+
+/// The subcommand that the words of the program's command line name, where they could be read.
+///
+/// Faults: the words could not be read; they name no subcommand, or ask for help.
+pub fn asked(
+    alloc: Global,
+    words: io::Result<Vec<String>>,
+) -> Result<Subcommand, CommandLineFault> {
+    let words = words.map_err(CommandLineFault::Unread)?;
+    subcommand_of(alloc, words.as_slice())
+}
+
+/// The words of the program's command line, its own name first.
+pub fn words_of(rt: &(impl Env + AllocGlobal)) -> io::Result<Vec<String>> {
+    Ok(std::env::args(rt)?.collect(rt.alloc())?)
+}
+
+/// The subcommand that the words name, the program's own name first. A call for help is an error too, whose text is
+/// the help.
+fn subcommand_of<'a, S: AsStr>(
+    alloc: Global,
+    words: &'a [S],
+) -> Result<Subcommand, CommandLineFault> {
+    let coord = command(alloc)?;
+    let matches = coord
+        .try_get_matches_from(words)
+        .map_err(CommandLineFault::Refused)?;
+    match matches.subcommand() {
+        Some(("frame", _)) => Ok(Subcommand::Frame),
+        Some(("run", _)) => Ok(Subcommand::Run),
+        Some(("serve", given)) => Ok(Subcommand::Serve(service::service_of(alloc, given)?)),
+        _ => Ok(Subcommand::Reply),
+    }
+}
+
+/// The command line: its subcommands, and what the help says of them.
+fn command<'a>(alloc: Global) -> Result<Command<'a>, AllocError> {
+    let coord = with_subcommand(
+        alloc,
+        bare_command(alloc)?,
+        "reply",
+        "Answers the request frames on standard input",
+    )?;
+    let coord = with_subcommand(
+        alloc,
+        coord,
+        "frame",
+        "Prints the fields of the request frames on standard input",
+    )?;
+    let coord = with_subcommand(alloc, coord, "run", "Plays the script on standard input")?;
+    coord.subcommand(service::command(alloc)?)
+}
+
+/// The command line with no subcommand yet.
+fn bare_command<'a>(alloc: Global) -> Result<Command<'a>, AllocError> {
+    let coord = Command::new(alloc, "coord")
+        .about("The coordinator of consumer groups, on lines of text")
+        .bin_name("coord")?;
+    Ok(coord.subcommand_required(true))
+}
+
+/// The command line with one subcommand more.
+fn with_subcommand<'a>(
+    alloc: Global,
+    command: Command<'a>,
+    name: &'a str,
+    about: &'a str,
+) -> Result<Command<'a>, AllocError> {
+    command.subcommand(Command::new(alloc, name).about(about))
+}
+
+impl From<AllocError> for CommandLineFault {
+    fn from(_error: AllocError) -> CommandLineFault {
+        CommandLineFault::NoMemory
+    }
+}
+
+impl<T: Drop> From<AllocFailed<T>> for CommandLineFault {
+    fn from(_error: AllocFailed<T>) -> CommandLineFault {
+        CommandLineFault::NoMemory
+    }
+}
+
+impl From<ImageFault> for CommandLineFault {
+    fn from(fault: ImageFault) -> CommandLineFault {
+        match fault {
+            ImageFault::NoMemory => CommandLineFault::NoMemory,
+            _ => CommandLineFault::NoImage(fault),
+        }
+    }
+}
