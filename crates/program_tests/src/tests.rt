@@ -51,6 +51,9 @@ enum Part {
     Told,
 }
 
+/// How many processors there are.
+const PROCESSORS: usize = 3;
+
 /// The line of an act that is refused for want of memory.
 const REFUSED: &[u8] = b"refused 4\n";
 
@@ -156,7 +159,16 @@ impl Runner {
             Fails::Keys => Err(Error::from(ErrorKind::BrokenPipe)),
             _ => Ok(self.keys),
         };
-        match program::run(self.alloc, words, keys, &mut reader, writer, faults) {
+        let ran = program::run(
+            self.alloc,
+            words,
+            keys,
+            PROCESSORS,
+            &mut reader,
+            writer,
+            faults,
+        );
+        match ran {
             Ran::Ended(status) => status,
             Ran::Serves(service) => echo(service, writer),
         }

@@ -10,15 +10,21 @@ use scenario_lines::command_line;
 use scenario_lines::program::{self, Ran};
 use std::collections::hash_map::RandomState;
 use std::process::ExitCode;
+use std::thread::available_parallelism;
+
+/// How many processors there are, where the system doesn't say.
+const USUAL_PROCESSORS: usize = 4;
 
 fn main(rt: HostRuntime) -> ExitCode {
     let (mut stdin, mut stdout, mut stderr) = (rt.stdin(), rt.stdout(), rt.stderr());
     let words = command_line::words_of(&rt);
     let keys = RandomState::new(&rt);
+    let processors = available_parallelism(&rt).map_or(USUAL_PROCESSORS, |count| count.get());
     let ran = program::run(
         rt.alloc(),
         words,
         keys,
+        processors,
         &mut stdin,
         &mut stdout,
         &mut stderr,

@@ -12,9 +12,14 @@ use std::rt::Env;
 use thiserror::Error;
 use topic_meta::ImageFault;
 
+/// The program's version.
+pub const VERSION: &str = "0.1.0";
+
 /// What the program is asked to do.
 #[derive(Drop)]
 pub enum Subcommand {
+    /// Print the program's version.
+    Version,
     /// Answer the request frames on standard input.
     Reply,
     /// Print what is in the request frames on standard input.
@@ -65,15 +70,52 @@ impl CommandLineFault {
     }
 }
 
-/// The subcommand that the words of the program's command line name, where they could be read.
+/// The subcommand that the words of the program's command line name, where they could be read. A server has as many workers as there
+/// are processors, where the words don't say how many.
 ///
-/// Faults: the words could not be read; they name no subcommand, or ask for help.
+/// Faults: the words could not be read; they name no subcommand, or ask for help. The text of a fault has no control character of a word.
 pub fn asked(
     alloc: Global,
     words: io::Result<Vec<String>>,
+    processors: usize,
 ) -> Result<Subcommand, CommandLineFault> {
     let words = words.map_err(CommandLineFault::Unread)?;
-    subcommand_of(alloc, words.as_slice())
+    match subcommand_of(alloc, words.as_slice(), processors) {
+        Err(CommandLineFault::Refused(error)) => Err(refusal(alloc, words.as_slice(), error)),
+        asked => asked,
+    }
+}
+
+/// What `clap` says of words that it has refused so, with their control characters escaped.
+fn refusal(alloc: Global, words: &[String], error: clap::Error) -> CommandLineFault {
+    match escaped_words(alloc, words) {
+        Ok(words) => match subcommand_of(alloc, words.as_slice(), 1) {
+            Err(CommandLineFault::Refused(error)) => CommandLineFault::Refused(error),
+            _ => CommandLineFault::Refused(error),
+        },
+        Err(_) => CommandLineFault::NoMemory,
+    }
+}
+
+fn escaped_words(alloc: Global, words: &[String]) -> Result<Vec<String>, AllocError> {
+    let mut all = Vec::with_capacity(alloc, words.len())?;
+    for word in words {
+        all.push(escaped(alloc, word.as_str())?)?;
+    }
+    Ok(all)
+}
+
+/// A word with its control characters escaped.
+pub fn escaped(alloc: Global, word: &str) -> Result<String, AllocError> {
+    let mut text = String::new(alloc);
+    for letter in word.chars() {
+        if letter.is_control() {
+            write!(text, "{}", letter.escape_default())?;
+        } else {
+            text.push(letter)?;
+        }
+    }
+    Ok(text)
 }
 
 /// The words of the program's command line, its own name first.
@@ -86,15 +128,19 @@ pub fn words_of(rt: &(impl Env + AllocGlobal)) -> io::Result<Vec<String>> {
 fn subcommand_of<'a, S: AsStr>(
     alloc: Global,
     words: &'a [S],
+    processors: usize,
 ) -> Result<Subcommand, CommandLineFault> {
-    let coord = command(alloc)?;
-    let matches = coord
-        .try_get_matches_from(words)
-        .map_err(CommandLineFault::Refused)?;
+    let matches = match command(alloc)?.try_get_matches_from(words) {
+        Ok(matches) => matches,
+        Err(error) if error.kind() == ErrorKind::DisplayVersion => return Ok(Subcommand::Version),
+        Err(error) => return Err(CommandLineFault::Refused(error)),
+    };
     match matches.subcommand() {
         Some(("frame", _)) => Ok(Subcommand::Frame),
         Some(("run", _)) => Ok(Subcommand::Run),
-        Some(("serve", given)) => Ok(Subcommand::Serve(service::service_of(alloc, given)?)),
+        Some(("serve", given)) => Ok(Subcommand::Serve(service::service_of(
+            alloc, given, processors,
+        )?)),
         _ => Ok(Subcommand::Reply),
     }
 }
@@ -121,6 +167,7 @@ fn command<'a>(alloc: Global) -> Result<Command<'a>, AllocError> {
 fn bare_command<'a>(alloc: Global) -> Result<Command<'a>, AllocError> {
     let coord = Command::new(alloc, "coord")
         .about("The coordinator of consumer groups, on lines of text")
+        .version(VERSION)
         .bin_name("coord")?;
     Ok(coord.subcommand_required(true))
 }

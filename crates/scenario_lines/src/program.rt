@@ -1,7 +1,9 @@
 //! The program over its words and its streams.
+ghost use Rattle.std.specs.Prelude.{◌≤◌};
 ghost use Rattle.scenario_lines.specs.Statuses.{HasStatus};
 
-use crate::command_line::{Subcommand, asked};
+use crate::command_line::{Subcommand, VERSION, asked};
+use crate::fault::Fault;
 use crate::frames::frame_lines;
 use crate::reply::reply_lines;
 use crate::run::run_lines;
@@ -21,22 +23,25 @@ pub enum Ran {
 }
 
 /// Does what the words of the command line ask over the input and the two outputs; serving is left to the caller, which has the
-/// sockets. The keys are those of the maps' hashes.
+/// sockets. The keys are those of the maps' hashes. A server has as many workers as there are processors, where the words don't say
+/// how many.
 ///
 /// Gives the program's status: that of the subcommand; 2 where the words name none or ask for help, and 1 where memory is
-/// out or there are no keys. Why is told on the second output, and so is the help.
+/// out or there are no keys. Why is told on the second output, and so is the help. The version is printed on the first one.
 pub fn run<R: Read, W: Write, E: Write>(
     alloc: Global,
     words: io::Result<Vec<String>>,
     keys: io::Result<RandomState>,
+    processors: usize,
     reader: &mut R,
     writer: &mut W,
     faults: &mut E,
 ) -> Ran
     ensures { HasStatus result }
 {
-    match asked(alloc, words) {
+    match asked(alloc, words, processors) {
         Ok(Subcommand::Serve(service)) => Ran::Serves(service),
+        Ok(Subcommand::Version) => Ran::Ended(print_version(writer, faults)),
         Ok(Subcommand::Frame) => Ran::Ended(frame_lines(alloc, reader, writer, faults)),
         Ok(Subcommand::Reply) => Ran::Ended(match drawn(keys, faults) {
             Some(keys) => reply_lines(alloc, keys, reader, writer, faults),
@@ -49,6 +54,19 @@ pub fn run<R: Read, W: Write, E: Write>(
         Err(fault) => {
             let _ = write!(faults, "{fault}");
             Ran::Ended(fault.status())
+        }
+    }
+}
+
+/// Prints the program's version. Gives the status: 1 where the output failed.
+fn print_version<W: Write, E: Write>(writer: &mut W, faults: &mut E) -> u8
+    ensures { result ≤ 1 }
+{
+    match writeln!(writer, "coord {VERSION}") {
+        Ok(()) => 0,
+        Err(error) => {
+            let _ = writeln!(faults, "{}", Fault::Write(error));
+            1
         }
     }
 }

@@ -14,6 +14,14 @@ const TABLE: &str = "\
 $ serve --port 1 --workers 64 --shards 64 --connections 1000000
 => 1 64 64 1000000 0
 
+# what isn't said: a worker a processor, and no end
+$ serve
+=> 9092 3 8 18446744073709551615 0
+
+# what isn't said, with topics
+$ serve --connections 7 t:11111111-1111-1111-1111-111111111111:2 u:22222222-2222-2222-2222-222222222222:1
+=> 9092 3 8 7 2
+
 # a topic is cut at its first colon and its last
 $ serve --port 65535 --workers 1 --shards 1 --connections 1 t:urn:uuid:11111111-1111-1111-1111-111111111111:2
 => 65535 1 1 1 2";
