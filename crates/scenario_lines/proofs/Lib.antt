@@ -8,6 +8,7 @@ pub mod CutLines
 pub mod Prints
 pub mod Pages
 pub mod Reported
+pub mod ReplyReported
 pub mod FirstBytes
 pub mod Running
 pub mod Commanded

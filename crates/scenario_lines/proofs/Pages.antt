@@ -30,6 +30,25 @@ word_put : (a b c word rest : List ℕ) → b ≡ a ++ codes " " ++ word → c �
 word_put a b c word rest first more =
     two_put a b c (32 ∷ word) rest (first ∙ append_assoc a (32 ∷ []) word) more
 
+-- a key, two words and a line feed
+pub two_words_put : (s0 s1 s2 s3 s4 key a b : List ℕ)
+    → s1 ≡ s0 ++ key → s2 ≡ s1 ++ codes " " ++ a → s3 ≡ s2 ++ codes " " ++ b → s4 ≡ s3 ++ 10 ∷ []
+    → s4 ≡ s0 ++ fed (line key (a ∷ b ∷ []))
+two_words_put s0 s1 s2 s3 s4 key a b e1 e2 e3 e4 =
+    let p3 = word_put s2 s3 s4 b (10 ∷ []) e3 e4 in
+    let p2 = word_put s1 s2 s4 a _ e2 p3 in
+    line_put s0 s4 key (a ∷ b ∷ []) (two_put s0 s1 s4 key _ e1 p2)
+
+-- a key, three words and a line feed
+pub three_words_put : (s0 s1 s2 s3 s4 s5 key a b c : List ℕ)
+    → s1 ≡ s0 ++ key → s2 ≡ s1 ++ codes " " ++ a → s3 ≡ s2 ++ codes " " ++ b → s4 ≡ s3 ++ codes " " ++ c
+    → s5 ≡ s4 ++ 10 ∷ [] → s5 ≡ s0 ++ fed (line key (a ∷ b ∷ c ∷ []))
+three_words_put s0 s1 s2 s3 s4 s5 key a b c e1 e2 e3 e4 e5 =
+    let p4 = word_put s3 s4 s5 c (10 ∷ []) e4 e5 in
+    let p3 = word_put s2 s3 s5 b _ e3 p4 in
+    let p2 = word_put s1 s2 s5 a _ e2 p3 in
+    line_put s0 s5 key (a ∷ b ∷ c ∷ []) (two_put s0 s1 s5 key _ e1 p2)
+
 -- a key, four words and a line feed
 pub four_words_put : (s0 s1 s2 s3 s4 s5 s6 key a b c d : List ℕ)
     → s1 ≡ s0 ++ key → s2 ≡ s1 ++ codes " " ++ a → s3 ≡ s2 ++ codes " " ++ b → s4 ≡ s3 ++ codes " " ++ c
@@ -87,6 +106,11 @@ one_put a b l put = put ∙ ap (λ x. a ++ x) (sym (append-nil (fed l)))
 pub lines_put : (a b c : List ℕ) (ls more : List (List ℕ)) → b ≡ a ++ flat_map fed ls → c ≡ b ++ flat_map fed more → c ≡ a ++ flat_map fed (ls ++ more)
 lines_put a b c ls more first second =
     two_put a b c (flat_map fed ls) (flat_map fed more) first second ∙ ap (λ x. a ++ x) (sym (flat_map-append fed ls more))
+
+-- two lines and those behind them
+pub two_lines_put : (s0 s1 s2 s3 a b : List ℕ) (more : List (List ℕ))
+    → s1 ≡ s0 ++ fed a → s2 ≡ s1 ++ fed b → s3 ≡ s2 ++ flat_map fed more → s3 ≡ s0 ++ flat_map fed (a ∷ b ∷ more)
+two_lines_put s0 s1 s2 s3 a b more e1 e2 e3 = fed_put s0 s1 s3 a (b ∷ more) e1 (fed_put s1 s2 s3 b more e2 e3)
 
 -- three lines and those behind them
 pub three_lines_put : (s0 s1 s2 s3 s4 a b c : List ℕ) (more : List (List ℕ))

@@ -15,3 +15,4 @@ pub mod Scripts
 pub mod Shows
 pub mod Plays
 pub mod Stages
+pub mod ReplyReports

@@ -3,8 +3,9 @@ ghost use Rattle.std.specs.Prelude.{◌≡◌, ◌↔◌};
 ghost use Rattle.scenario_lines.specs.Statuses.{IsForMemory};
 
 use crate::service::{self, Service};
-use clap::Command;
 use clap::error::ErrorKind;
+use clap::{Arg, ArgAction, ArgMatches, Command};
+use kip_msgs::Api;
 use std::alloc::{AllocError, AllocFailed, Global};
 use std::convert::AsStr;
 use std::io;
@@ -15,19 +16,33 @@ use topic_meta::ImageFault;
 /// The program's version.
 pub const VERSION: &str = "0.1.0";
 
+/// The names of the APIs whose replies are printed.
+const APIS: &[&str] = &["heartbeat", "commit"];
+
 /// What the program is asked to do.
 #[derive(Drop)]
 pub enum Subcommand {
     /// Print the program's version.
     Version,
     /// Answer the request frames on standard input.
-    Reply,
+    Reply(Telling),
     /// Print what is in the request frames on standard input.
-    Frame,
+    Frame(Telling),
+    /// Print what is in the frames of replies to requests of the API on standard input.
+    Replies(Api),
     /// Play the script on standard input.
-    Run,
+    Run(Telling),
     /// Serve connections.
     Serve(Service),
+}
+
+/// What is told of lines that come to nothing.
+#[derive(Clone, Copy, Debug, PartialEq, Eq)]
+pub enum Telling {
+    /// The number of a bad line.
+    Numbers,
+    /// Why each is bad, closes, is refused or has a fault, too.
+    Reasons,
 }
 
 /// Why a command line asks for nothing that the program does. The text ends its line.
@@ -90,8 +105,8 @@ pub fn asked(
 fn refusal(alloc: Global, words: &[String], error: clap::Error) -> CommandLineFault {
     match escaped_words(alloc, words) {
         Ok(words) => match subcommand_of(alloc, words.as_slice(), 1) {
-            Err(CommandLineFault::Refused(error)) => CommandLineFault::Refused(error),
-            _ => CommandLineFault::Refused(error),
+            Err(fault) => fault,
+            Ok(_) => CommandLineFault::Refused(error),
         },
         Err(_) => CommandLineFault::NoMemory,
     }
@@ -132,35 +147,103 @@ fn subcommand_of<'a, S: AsStr>(
 ) -> Result<Subcommand, CommandLineFault> {
     let matches = match command(alloc)?.try_get_matches_from(words) {
         Ok(matches) => matches,
-        Err(error) if error.kind() == ErrorKind::DisplayVersion => return Ok(Subcommand::Version),
-        Err(error) => return Err(CommandLineFault::Refused(error)),
+        Err(error) => return version_or_refusal(error),
     };
     match matches.subcommand() {
-        Some(("frame", _)) => Ok(Subcommand::Frame),
-        Some(("run", _)) => Ok(Subcommand::Run),
+        Some(("frame", given)) => Ok(frames_of(given)),
+        Some(("run", given)) => Ok(Subcommand::Run(telling_of(given))),
         Some(("serve", given)) => Ok(Subcommand::Serve(service::service_of(
             alloc, given, processors,
         )?)),
-        _ => Ok(Subcommand::Reply),
+        Some((_, given)) => Ok(Subcommand::Reply(telling_of(given))),
+        None => Ok(Subcommand::Reply(Telling::Numbers)),
+    }
+}
+
+/// What words ask for that `clap` gives no matches for.
+fn version_or_refusal(error: clap::Error) -> Result<Subcommand, CommandLineFault> {
+    match error.kind() {
+        ErrorKind::DisplayVersion => Ok(Subcommand::Version),
+        _ => Err(CommandLineFault::Refused(error)),
+    }
+}
+
+/// Which frames the words of `frame` ask for.
+fn frames_of(matches: &ArgMatches<'_>) -> Subcommand {
+    match matches.get_str("replies") {
+        Some("commit") => Subcommand::Replies(Api::Commit),
+        Some(_) => Subcommand::Replies(Api::Heartbeat),
+        None => Subcommand::Frame(telling_of(matches)),
+    }
+}
+
+/// What the words of a subcommand ask to be told.
+fn telling_of(matches: &ArgMatches<'_>) -> Telling {
+    if matches.get_flag("explain") {
+        Telling::Reasons
+    } else {
+        Telling::Numbers
     }
 }
 
 /// The command line: its subcommands, and what the help says of them.
 fn command<'a>(alloc: Global) -> Result<Command<'a>, AllocError> {
-    let coord = with_subcommand(
+    let reply = "Answers the request frames on standard input";
+    let coord = with_lines(alloc, bare_command(alloc)?, "reply", reply)?;
+    let coord = with_lines(
         alloc,
-        bare_command(alloc)?,
-        "reply",
-        "Answers the request frames on standard input",
+        with_frames(alloc, coord)?,
+        "run",
+        "Plays the script on standard input",
     )?;
-    let coord = with_subcommand(
-        alloc,
-        coord,
-        "frame",
-        "Prints the fields of the request frames on standard input",
-    )?;
-    let coord = with_subcommand(alloc, coord, "run", "Plays the script on standard input")?;
-    coord.subcommand(service::command(alloc)?)
+    with_service(alloc, coord)
+}
+
+/// The command line with one subcommand more, which does lines.
+fn with_lines<'a>(
+    alloc: Global,
+    command: Command<'a>,
+    name: &'a str,
+    about: &'a str,
+) -> Result<Command<'a>, AllocError> {
+    command.subcommand(Command::new(alloc, name).about(about).arg(explain(alloc))?)
+}
+
+/// The command line with the subcommand `frame`.
+fn with_frames<'a>(alloc: Global, command: Command<'a>) -> Result<Command<'a>, AllocError> {
+    command.subcommand(frame_command(alloc)?)
+}
+
+/// The command line with the subcommand `serve`.
+fn with_service<'a>(alloc: Global, command: Command<'a>) -> Result<Command<'a>, AllocError> {
+    command.subcommand(service::command(alloc)?)
+}
+
+/// The subcommand `frame`, with its words.
+fn frame_command<'a>(alloc: Global) -> Result<Command<'a>, AllocError> {
+    let explain = explain(alloc).conflicts_with("replies")?;
+    let frame = Command::new(alloc, "frame")
+        .about("Prints the fields of the request frames on standard input")
+        .arg(explain)?;
+    frame.arg(replies(alloc))
+}
+
+/// The word by which frames are those of replies.
+fn replies<'a>(alloc: Global) -> Arg<'a> {
+    Arg::new(alloc, "replies")
+        .long("replies")
+        .value_name("API")
+        .help("Prints the fields of replies to requests of this API")
+        .value_parser(APIS)
+        .action(ArgAction::Set)
+}
+
+/// The word by which reasons are told.
+fn explain<'a>(alloc: Global) -> Arg<'a> {
+    Arg::new(alloc, "explain")
+        .long("explain")
+        .help("Tells on standard error why lines come to nothing")
+        .action(ArgAction::SetTrue)
 }
 
 /// The command line with no subcommand yet.
@@ -170,16 +253,6 @@ fn bare_command<'a>(alloc: Global) -> Result<Command<'a>, AllocError> {
         .version(VERSION)
         .bin_name("coord")?;
     Ok(coord.subcommand_required(true))
-}
-
-/// The command line with one subcommand more.
-fn with_subcommand<'a>(
-    alloc: Global,
-    command: Command<'a>,
-    name: &'a str,
-    about: &'a str,
-) -> Result<Command<'a>, AllocError> {
-    command.subcommand(Command::new(alloc, name).about(about))
 }
 
 impl From<AllocError> for CommandLineFault {

@@ -141,7 +141,7 @@ fn write<W: Write>(output: &mut Output, writer: &mut W) -> Result<(), Fault>
 }
 
 /// Writes the text of a fault, and gives its status. Where memory is short for the text, want of memory is the fault.
-fn tell<E: Write>(alloc: Global, fault: Fault, faults: &mut E) -> u8
+pub fn tell<E: Write>(alloc: Global, fault: Fault, faults: &mut E) -> u8
     ensures status { (result ≡ status_of fault) ⊎ (result ≡ 1) }
     ensures told { Grows (E.contents faults.old) (E.contents faults.new) }
 {

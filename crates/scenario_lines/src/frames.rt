@@ -7,11 +7,12 @@ ghost use Rattle.scenario_lines.specs.FrameLines.{SpellsBytes};
 ghost use Rattle.scenario_lines.specs.Runs.{Prints, PrintsNothing, RunsLines};
 
 use crate::driver::{self, LineWorker};
+use crate::explain::Explains;
 use crate::fault::LineFault;
 use crate::output::Output;
 use crate::page::Page;
 use crate::report::put_report;
-use crate::words;
+use crate::{reasons, words};
 use std::alloc::{AllocError, Global};
 use std::io::{Read, Write};
 
@@ -34,14 +35,14 @@ pub fn frame_lines<R: Read, W: Write, E: Write>(
 
 /// Prints the report of each line's frame.
 #[derive(Drop)]
-struct Reporter {
+pub struct Reporter {
     alloc: Global,
     page: Page,
 }
 
 impl Reporter {
     /// Before the first line.
-    fn new(alloc: Global) -> Reporter
+    pub fn new(alloc: Global) -> Reporter
         ensures { result ≡ new_reporter alloc }
     {
         Reporter {
@@ -75,5 +76,11 @@ impl LineWorker for Reporter {
     /// Nothing stands behind the last line.
     fn end(&mut self, _output: &mut Output) -> Result<(), AllocError> {
         Ok(())
+    }
+}
+
+impl Explains for Reporter {
+    fn reason(&self, line: &[u8]) -> Result<String, AllocError> {
+        reasons::of_frame_line(self.alloc, line)
     }
 }

@@ -8,12 +8,13 @@ ghost use Rattle.scenario_lines.specs.Commands.{DoesReplyLine, IsReplyLine};
 ghost use Rattle.scenario_lines.specs.Runs.{PrintsNothing};
 
 use crate::driver::LineWorker;
+use crate::explain::Explains;
 use crate::fault::LineFault;
 use crate::output::Output;
 use crate::page::Page;
 use crate::stamps::Stamps;
 use crate::topics::image_of;
-use crate::{frame, words};
+use crate::{frame, reasons, words};
 use coord_node::{Answered, Node};
 use group_types::{Moment, Stamp};
 use std::alloc::{AllocError, Global};
@@ -195,6 +196,12 @@ impl LineWorker for Interpreter {
     /// Nothing stands behind the last line.
     fn end(&mut self, _output: &mut Output) -> Result<(), AllocError> {
         Ok(())
+    }
+}
+
+impl Explains for Interpreter {
+    fn reason(&self, line: &[u8]) -> Result<String, AllocError> {
+        reasons::of_reply_line(self.alloc, line, self.stamps.coming())
     }
 }
 

@@ -55,6 +55,13 @@ impl Output {
         self.held.extend_from_slice(lines.as_bytes())
     }
 
+    /// The lines that are held.
+    pub fn as_bytes(&self) -> &[u8]
+        ensures { result.now ≡ self.now }
+    {
+        self.held.as_slice()
+    }
+
     /// Whether there is enough to be worth a write.
     pub fn is_full(&self) -> bool
         ensures { IsTrue result ↔ (PIECE ≤ length self.now) }

@@ -10,6 +10,7 @@ ghost use Rattle.scenario_lines.specs.Stages.{IsShortStage, has_begun, world_at}
 use crate::act::act_of;
 use crate::cast::Cast;
 use crate::driver::LineWorker;
+use crate::explain::Explains;
 use crate::fault::LineFault;
 use crate::output::Output;
 use crate::page::Page;
@@ -17,7 +18,7 @@ use crate::settings::settings_of;
 use crate::shown::{print_answer, print_settled};
 use crate::standings::put_standings;
 use crate::verb::Verb;
-use crate::words;
+use crate::{reasons, words};
 use std::alloc::{AllocError, Global};
 use std::collections::hash_map::RandomState;
 use std::marker::Model;
@@ -195,6 +196,12 @@ impl LineWorker for Player {
         let mut page = Page::new(self.alloc);
         put_standings(&mut page, &self.cast, &world)?;
         output.text(page.as_str())
+    }
+}
+
+impl Explains for Player {
+    fn reason(&self, line: &[u8]) -> Result<String, AllocError> {
+        reasons::of_run_line(self.alloc, line)
     }
 }
 

@@ -2,9 +2,11 @@
 ghost use Rattle.std.specs.Prelude.{◌≤◌};
 ghost use Rattle.scenario_lines.specs.Statuses.{HasStatus};
 
-use crate::command_line::{Subcommand, VERSION, asked};
+use crate::command_line::{Subcommand, Telling, VERSION, asked};
+use crate::explain::{explained_frame_lines, explained_reply_lines, explained_run_lines};
 use crate::fault::Fault;
 use crate::frames::frame_lines;
+use crate::replies::reply_frame_lines;
 use crate::reply::reply_lines;
 use crate::run::run_lines;
 use crate::service::Service;
@@ -42,19 +44,72 @@ pub fn run<R: Read, W: Write, E: Write>(
     match asked(alloc, words, processors) {
         Ok(Subcommand::Serve(service)) => Ran::Serves(service),
         Ok(Subcommand::Version) => Ran::Ended(print_version(writer, faults)),
-        Ok(Subcommand::Frame) => Ran::Ended(frame_lines(alloc, reader, writer, faults)),
-        Ok(Subcommand::Reply) => Ran::Ended(match drawn(keys, faults) {
-            Some(keys) => reply_lines(alloc, keys, reader, writer, faults),
+        Ok(Subcommand::Frame(telling)) => Ran::Ended(frame(alloc, telling, reader, writer, faults)),
+        Ok(Subcommand::Replies(api)) => {
+            Ran::Ended(reply_frame_lines(alloc, api, reader, writer, faults))
+        }
+        Ok(Subcommand::Reply(telling)) => Ran::Ended(match drawn(keys, faults) {
+            Some(keys) => reply(alloc, keys, telling, reader, writer, faults),
             None => 1,
         }),
-        Ok(Subcommand::Run) => Ran::Ended(match drawn(keys, faults) {
-            Some(keys) => run_lines(alloc, keys, reader, writer, faults),
+        Ok(Subcommand::Run(telling)) => Ran::Ended(match drawn(keys, faults) {
+            Some(keys) => play(alloc, keys, telling, reader, writer, faults),
             None => 1,
         }),
         Err(fault) => {
             let _ = write!(faults, "{fault}");
             Ran::Ended(fault.status())
         }
+    }
+}
+
+/// Prints what is in the request frames of the reader.
+fn frame<R: Read, W: Write, E: Write>(
+    alloc: Global,
+    telling: Telling,
+    reader: &mut R,
+    writer: &mut W,
+    faults: &mut E,
+) -> u8
+    ensures { result ≤ 2 }
+{
+    match telling {
+        Telling::Numbers => frame_lines(alloc, reader, writer, faults),
+        Telling::Reasons => explained_frame_lines(alloc, reader, writer, faults),
+    }
+}
+
+/// Answers the request frames of the reader.
+fn reply<R: Read, W: Write, E: Write>(
+    alloc: Global,
+    keys: RandomState,
+    telling: Telling,
+    reader: &mut R,
+    writer: &mut W,
+    faults: &mut E,
+) -> u8
+    ensures { result ≤ 2 }
+{
+    match telling {
+        Telling::Numbers => reply_lines(alloc, keys, reader, writer, faults),
+        Telling::Reasons => explained_reply_lines(alloc, keys, reader, writer, faults),
+    }
+}
+
+/// Plays the script of the reader.
+fn play<R: Read, W: Write, E: Write>(
+    alloc: Global,
+    keys: RandomState,
+    telling: Telling,
+    reader: &mut R,
+    writer: &mut W,
+    faults: &mut E,
+) -> u8
+    ensures { result ≤ 2 }
+{
+    match telling {
+        Telling::Numbers => run_lines(alloc, keys, reader, writer, faults),
+        Telling::Reasons => explained_run_lines(alloc, keys, reader, writer, faults),
     }
 }
 

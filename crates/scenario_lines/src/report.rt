@@ -6,7 +6,7 @@ ghost use Rattle.scenario_lines.specs.Lines.{fed};
 ghost use Rattle.scenario_lines.specs.Reports.{head_line, request_lines, message_lines, fault_words, fault_line, spaced, PutsReport};
 
 mod commit;
-mod heartbeat;
+pub mod heartbeat;
 
 use crate::frame;
 use crate::page::Page;
@@ -60,7 +60,7 @@ fn put_head(page: &mut Page, name: &str, header: &RequestHeader<'_>) -> Result<(
 }
 
 /// Puts the line of a fault. Want of memory has none: it is the run's.
-fn put_fault(page: &mut Page, fault: MsgFault) -> Result<(), AllocError>
+pub fn put_fault(page: &mut Page, fault: MsgFault) -> Result<(), AllocError>
     ensures line { OnOk result (page.new ≡ page.old ++ fed (fault_line fault)) }
     ensures read { OnOk result (fault ≢ MsgFault.NoMemory) }
 {

@@ -78,7 +78,7 @@ fn put_owned(page: &mut Page, owned: &Option<Array<TopicPartitions<'_>>>) -> Res
 }
 
 /// Puts a word for each entry of TopicPartitions.
-fn put_topic_words(page: &mut Page, topics: &[TopicPartitions<'_>]) -> Result<(), AllocError>
+pub fn put_topic_words(page: &mut Page, topics: &[TopicPartitions<'_>]) -> Result<(), AllocError>
     ensures { OnOk result (page.new ≡ page.old ++ spaced (map topic_word (topic_partitions_values topics.now))) }
 {
     for topic in topics {
