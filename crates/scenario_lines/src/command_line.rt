@@ -24,16 +24,23 @@ const APIS: &[&str] = &["heartbeat", "commit"];
 pub enum Subcommand {
     /// Print the program's version.
     Version,
-    /// Answer the request frames on standard input.
-    Reply(Telling),
-    /// Print what is in the request frames on standard input.
-    Frame(Telling),
-    /// Print what is in the frames of replies to requests of the API on standard input.
-    Replies(Api),
-    /// Play the script on standard input.
-    Run(Telling),
+    /// Do the lines on standard input.
+    Lines(LineCommand),
     /// Serve connections.
     Serve(Service),
+}
+
+/// What is done with lines.
+#[derive(Clone, Copy, Debug, PartialEq, Eq)]
+pub enum LineCommand {
+    /// Answer their request frames.
+    Reply(Telling),
+    /// Print what is in their request frames.
+    Frame(Telling),
+    /// Print what is in their frames of replies to requests of the API.
+    Replies(Api),
+    /// Play their script.
+    Run(Telling),
 }
 
 /// What is told of lines that come to nothing.
@@ -145,18 +152,34 @@ fn subcommand_of<'a, S: AsStr>(
     words: &'a [S],
     processors: usize,
 ) -> Result<Subcommand, CommandLineFault> {
-    let matches = match command(alloc)?.try_get_matches_from(words) {
-        Ok(matches) => matches,
-        Err(error) => return version_or_refusal(error),
-    };
+    match command(alloc)?.try_get_matches_from(words) {
+        Ok(matches) => subcommand_in(alloc, &matches, processors),
+        Err(error) => version_or_refusal(error),
+    }
+}
+
+/// The subcommand that was found in words.
+fn subcommand_in(
+    alloc: Global,
+    matches: &ArgMatches<'_>,
+    processors: usize,
+) -> Result<Subcommand, CommandLineFault> {
     match matches.subcommand() {
-        Some(("frame", given)) => Ok(frames_of(given)),
-        Some(("run", given)) => Ok(Subcommand::Run(telling_of(given))),
-        Some(("serve", given)) => Ok(Subcommand::Serve(service::service_of(
-            alloc, given, processors,
-        )?)),
-        Some((_, given)) => Ok(Subcommand::Reply(telling_of(given))),
-        None => Ok(Subcommand::Reply(Telling::Numbers)),
+        Some(("serve", given)) => {
+            let service = service::service_of(alloc, given, processors)?;
+            Ok(Subcommand::Serve(service))
+        }
+        Some((name, given)) => Ok(Subcommand::Lines(line_command(name, given))),
+        None => Ok(Subcommand::Lines(LineCommand::Reply(Telling::Numbers))),
+    }
+}
+
+/// What the subcommand of this name does with lines.
+fn line_command(name: &str, matches: &ArgMatches<'_>) -> LineCommand {
+    match name {
+        "frame" => frames_of(matches),
+        "run" => LineCommand::Run(telling_of(matches)),
+        _ => LineCommand::Reply(telling_of(matches)),
     }
 }
 
@@ -169,11 +192,11 @@ fn version_or_refusal(error: clap::Error) -> Result<Subcommand, CommandLineFault
 }
 
 /// Which frames the words of `frame` ask for.
-fn frames_of(matches: &ArgMatches<'_>) -> Subcommand {
+fn frames_of(matches: &ArgMatches<'_>) -> LineCommand {
     match matches.get_str("replies") {
-        Some("commit") => Subcommand::Replies(Api::Commit),
-        Some(_) => Subcommand::Replies(Api::Heartbeat),
-        None => Subcommand::Frame(telling_of(matches)),
+        Some("commit") => LineCommand::Replies(Api::Commit),
+        Some(_) => LineCommand::Replies(Api::Heartbeat),
+        None => LineCommand::Frame(telling_of(matches)),
     }
 }
 

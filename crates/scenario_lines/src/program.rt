@@ -2,7 +2,7 @@
 ghost use Rattle.std.specs.Prelude.{◌≤◌};
 ghost use Rattle.scenario_lines.specs.Statuses.{HasStatus};
 
-use crate::command_line::{Subcommand, Telling, VERSION, asked};
+use crate::command_line::{LineCommand, Subcommand, Telling, VERSION, asked};
 use crate::explain::{explained_frame_lines, explained_reply_lines, explained_run_lines};
 use crate::fault::Fault;
 use crate::frames::frame_lines;
@@ -44,22 +44,38 @@ pub fn run<R: Read, W: Write, E: Write>(
     match asked(alloc, words, processors) {
         Ok(Subcommand::Serve(service)) => Ran::Serves(service),
         Ok(Subcommand::Version) => Ran::Ended(print_version(writer, faults)),
-        Ok(Subcommand::Frame(telling)) => Ran::Ended(frame(alloc, telling, reader, writer, faults)),
-        Ok(Subcommand::Replies(api)) => {
-            Ran::Ended(reply_frame_lines(alloc, api, reader, writer, faults))
+        Ok(Subcommand::Lines(command)) => {
+            Ran::Ended(do_lines(alloc, command, keys, reader, writer, faults))
         }
-        Ok(Subcommand::Reply(telling)) => Ran::Ended(match drawn(keys, faults) {
-            Some(keys) => reply(alloc, keys, telling, reader, writer, faults),
-            None => 1,
-        }),
-        Ok(Subcommand::Run(telling)) => Ran::Ended(match drawn(keys, faults) {
-            Some(keys) => play(alloc, keys, telling, reader, writer, faults),
-            None => 1,
-        }),
         Err(fault) => {
             let _ = write!(faults, "{fault}");
             Ran::Ended(fault.status())
         }
+    }
+}
+
+/// Does with the lines of the reader what is asked.
+fn do_lines<R: Read, W: Write, E: Write>(
+    alloc: Global,
+    command: LineCommand,
+    keys: io::Result<RandomState>,
+    reader: &mut R,
+    writer: &mut W,
+    faults: &mut E,
+) -> u8
+    ensures { result ≤ 2 }
+{
+    match command {
+        LineCommand::Frame(telling) => frame(alloc, telling, reader, writer, faults),
+        LineCommand::Replies(api) => reply_frame_lines(alloc, api, reader, writer, faults),
+        LineCommand::Reply(telling) => match drawn(keys, faults) {
+            Some(keys) => reply(alloc, keys, telling, reader, writer, faults),
+            None => 1,
+        },
+        LineCommand::Run(telling) => match drawn(keys, faults) {
+            Some(keys) => play(alloc, keys, telling, reader, writer, faults),
+            None => 1,
+        },
     }
 }
 
