@@ -39,7 +39,7 @@ impl<'a> Setup<'a> {
         let mut how = line_of(row, "% ").split(' ');
         Setup {
             words: line_of(row, "$ "),
-            status: number(how.next(), 0) as u8,
+            status: u8::try_from(number(how.next(), 0)).unwrap_or(u8::MAX),
             fails: Fails::of(how.next().unwrap_or_default()),
             room: number(how.next(), ROOM),
             times: number(how.next(), 1),
