@@ -26,7 +26,6 @@ SCRIPTS = (
     ("check-server", True),
     ("check-broker", True),
     ("check-conversations", True),
-    ("check-library", False),
 )
 # What a check says where all is well; everything else that `rt ci` writes is shown as it comes.
 NOISE = re.compile(
