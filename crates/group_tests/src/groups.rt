@@ -210,30 +210,20 @@ fn request_of<'a>(
     let owned = owned_of(alloc, verb, second)?;
     Ok(HeartbeatRequest {
         group_id: "g",
-        member_id: id.strip_prefix('-').unwrap_or(id),
+        member_id: word_if(id != "-", id).unwrap_or(""),
         member_epoch: epoch_of(verb, first),
-        instance_id: instance_of(verb, first),
+        instance_id: word_if(verb == "static" || verb == "away", first),
         rack_id: None,
         rebalance_timeout_ms: if names.is_some() { 60_000 } else { -1 },
         subscribed_topic_names: names,
-        server_assignor: assignor_of(verb, second),
+        server_assignor: word_if(verb == "join" && !second.is_empty(), second),
         topic_partitions: owned,
         tags: TaggedFields::new(alloc),
     })
 }
 
-fn instance_of<'a>(verb: &str, word: &'a str) -> Option<&'a str> {
-    match verb {
-        "static" | "away" => Some(word),
-        _ => None,
-    }
-}
-
-fn assignor_of<'a>(verb: &str, word: &'a str) -> Option<&'a str> {
-    if verb == "join" && !word.is_empty() {
-        return Some(word);
-    }
-    None
+fn word_if(is_said: bool, word: &str) -> Option<&str> {
+    if is_said { Some(word) } else { None }
 }
 
 fn epoch_of(verb: &str, word: &str) -> i32 {
