@@ -1,5 +1,4 @@
-use Rattle.std.proofs.Common.{◌≡◌, ℕ, List, subst, sym}
-use Rattle.coord_server.specs.declared.handed.Post.{Post}
+use Rattle.std.proofs.Common.{ℕ, subst, sym}
 use Rattle.coord_server.specs.Posts.{ArePosts}
 use Rattle.coord_server.proofs.server.serve_from.Goals as goal
 
