@@ -19,7 +19,7 @@ LAST_BEGIN = 120
 SCRIPT_SECONDS = 1_800
 # The scripts that are run, and whether each takes the built program.
 SCRIPTS = (
-    ("check-launcher", False),
+    ("check-launcher", True),
     ("check-readme", True),
     ("check-model", False),
     ("check-pictures", True),
