@@ -72,7 +72,10 @@ where
 {
     let keys = RandomState::new(rt).map_err(ServeFault::Keys)?;
     let socket = listen(rt, service.port)?;
-    let moments = ClockMoments::start(rt).map_err(ServeFault::Clock)?;
+    let moments = match ClockMoments::start(rt) {
+        Ok(moments) => moments,
+        Err(error) => return Err(ServeFault::Clock(error)),
+    };
     let port = u64::from(service.port);
     let announce = || print(writer, "listening", port);
     let served = serve_socket(rt, &service, keys, socket, &moments, announce)?;
