@@ -80,7 +80,7 @@ impl Embedded {
     /// Adds a topic to those that will be set.
     pub(crate) fn add_topic(&mut self, alloc: Global, name: &[u8], id: [u8; 16], count: i32) -> i32
         ensures added { result ≡ DONE → entries_of self.new.topics.items
-            ≡ entries_of self.old.topics.items ++ record { name = name.now; id = id.entry; count = count } ∷ [] }
+            ≡ entries_of self.old.topics.items ++ record { name = name.now; id = id; count = count } ∷ [] }
         ensures refused { result ≢ DONE → self.new.topics.items ≡ self.old.topics.items }
         ensures text { result ≡ DONE → IsUtf8 name.now }
         ensures not_text { result ≡ NOT_TEXT → ¬ IsUtf8 name.now }

@@ -4,13 +4,15 @@ use std::io;
 use std::random::RandomSource;
 
 /// The random bytes that the caller gave.
+#[derive(Clone, Copy)]
 pub(crate) struct Keys<'a> {
     pub(crate) bytes: &'a [u8; 16],
 }
 
 impl RandomSource for Keys<'_> {
     fn fill_bytes(&self, buf: &mut [u8]) -> io::Result<()> {
-        for (to, from) in buf.iter_mut().zip(self.bytes.iter()) {
+        let bytes = self.bytes;
+        for (to, from) in buf.iter_mut().zip(bytes.iter()) {
             *to = *from;
         }
         Ok(())
