@@ -49,7 +49,7 @@ class Link:
 
     def __init__(self, reader: asyncio.StreamReader, writer: asyncio.StreamWriter) -> None:
         self._reader, self._writer = reader, writer
-        self.arriving = asyncio.ensure_future(self._read())
+        self.arriving: asyncio.Future[Optional[bytes]] = asyncio.ensure_future(self._read())
 
     async def _read(self) -> Optional[bytes]:
         try:
