@@ -4,6 +4,8 @@ import concurrent.futures
 import os
 import pathlib
 import shutil
+import subprocess
+import sys
 from typing import Callable, Iterator, List, Optional, Sequence, Tuple
 
 from clients import conversation, replay
@@ -16,6 +18,7 @@ AT_ONCE = 4
 SECONDS = 300
 SCRIPTS, REFUSED_SCRIPTS, WATCHED_SCRIPTS = 2_000, 100, 4
 WATCH = ("valgrind", "-q", "--error-exitcode=99", "--leak-check=full", "--errors-for-leak-kinds=all")
+TOPIC = "t:11111111-1111-1111-1111-111111111111:2"
 COMPILE = ("cc", "-std=c11", "-O2", "-Wall", "-Wextra", "-Werror")
 
 
@@ -135,4 +138,29 @@ def watched(library: Library, edges: pathlib.Path, reply: pathlib.Path) -> Itera
 
 
 def of_examples(library: Library) -> Iterator[Check]:
-    yield from []
+    embed, broker = library.top / "examples/embed", library.top / "examples/broker"
+    yield "examples/embed/broker.c", serves(library.top, library.compiled("examples/embed/broker.c", "-D_GNU_SOURCE"))
+    python = [sys.executable, "-B", "-m", "unittest"]
+    os.environ["MIGWELUN_LIBRARY"] = os.environ["BROKER_TEST_LIBRARY"] = str(library.shared)
+    yield "examples/embed/python", run([*python, "test_migwelun"], embed / "python")
+    yield "examples/broker --embedded", run([*python, "tests.test_program.Program.test_two_members_of_another_hand_embedded"], broker)
+    if shutil.which("cargo") is None:
+        yield "examples/embed/rust", f"{NOT_RUN}there is no cargo"
+        return
+    os.environ["MIGWELUN_LIBRARY"], os.environ["CARGO_TARGET_DIR"] = str(library.archive.parent), str(library.folder / "target")
+    shutil.copytree(embed / "rust", library.folder / "rust", ignore=shutil.ignore_patterns("target"))
+    yield "examples/embed/rust", run(["cargo", "test", "--offline"], library.folder / "rust")
+
+
+def serves(top: pathlib.Path, program: pathlib.Path) -> str:
+    """The server takes the two members of examples/client.py through a rebalance."""
+    process = subprocess.Popen([program, "0", TOPIC], stdout=subprocess.PIPE, text=True)
+    try:
+        assert process.stdout is not None
+        port = process.stdout.readline().split()[1]
+        ran = commands.run([sys.executable, str(top / "examples/client.py"), f"127.0.0.1:{port}"], limit=SECONDS)
+    finally:
+        process.kill()
+        process.wait()
+    is_right = ran.status == 0 and ran.lines()[-1].startswith("first leaves")
+    return "" if is_right else "\n".join(ran.lines())
