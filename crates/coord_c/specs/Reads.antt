@@ -1,5 +1,5 @@
 -- What C reads of a coordinator.
-use Rattle.std.specs.Prelude.{ℕ, ℤ, pos, negsuc, Bool, true, false, Option, Some, None, option_map}
+use Rattle.std.specs.Prelude.{ℤ, pos, negsuc, Bool, true, false, Option, Some, None, option_map}
 use Rattle.std.specs.FinMap as finite
 use Rattle.group_types.specs.declared.epoch.Epoch.{Epoch}
 use Rattle.group_types.specs.declared.epoch.Epoch.TheVariants.{At, Away}
