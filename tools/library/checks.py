@@ -6,7 +6,7 @@ import pathlib
 import shutil
 import subprocess
 import sys
-from typing import Callable, Iterator, List, Optional, Sequence, Tuple
+from typing import Iterator, List, Optional, Sequence, Tuple
 
 from clients import conversation, replay
 from gate import commands
@@ -15,7 +15,7 @@ Check = Tuple[str, str]
 # Before the reason why a check was not run.
 NOT_RUN = "\0"
 AT_ONCE = 4
-SECONDS = 300
+SECONDS, BUILD_SECONDS = 300, 1_500
 SCRIPTS, REFUSED_SCRIPTS, WATCHED_SCRIPTS = 2_000, 100, 4
 WATCH = ("valgrind", "-q", "--error-exitcode=99", "--leak-check=full", "--errors-for-leak-kinds=all")
 TOPIC = "t:11111111-1111-1111-1111-111111111111:2"
@@ -42,9 +42,9 @@ class Failed(Exception):
     """Why a check can't go on."""
 
 
-def run(words: Sequence[str], folder: Optional[pathlib.Path] = None, given: bytes = b"") -> str:
+def run(words: Sequence[str], folder: Optional[pathlib.Path] = None, given: bytes = b"", limit: float = SECONDS) -> str:
     """Runs a program, and says what it said where its status isn't 0."""
-    ran = commands.run([*words], folder and str(folder), given, limit=SECONDS)
+    ran = commands.run([*words], folder and str(folder), given, limit)
     return "\n".join([*ran.lines()[-20:], f"{words[0]} ended with status {ran.status}"]) if ran.status else ""
 
 
@@ -53,7 +53,7 @@ def all_checks(top: pathlib.Path, folder: pathlib.Path, archive: Optional[pathli
         yield "the C library", f"{NOT_RUN}there is no cc"
         return
     if archive is None:
-        why = run([str(top / "tools/build-library"), str(folder)])
+        why = run([str(top / "tools/build-library"), str(folder)], limit=BUILD_SECONDS)
         yield "tools/build-library", why
         if why:
             return
