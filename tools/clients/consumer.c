@@ -1,17 +1,18 @@
 /* Consumers of librdkafka with the rebalance protocol of KIP-848, a thread each, that print what happens to them.
 
-   usage: consumer [-a] [-l] [-q] [-n COUNT] [-c COMMIT_MS] [-b BLOCK_MS] [-m BYTES] NAME TOPIC,TOPIC.. KEY=VALUE..
+   usage: consumer [-a] [-l] [-q] [-n COUNT] [-c COMMIT_MS] [-b BLOCK_MS] [-w BLOCK_MS] [-m BYTES] NAME TOPIC,TOPIC.. KEY=VALUE..
 
    KEY=VALUE are librdkafka's settings. NAME is the client id; with -n there are COUNT consumers, NAME1 and so on.
    Every COMMIT_MS (500; 0 for never) what was read is committed: -a asynchronously, -m with metadata of so many bytes. -b sleeps in
-   the first revocation. -l commits also what was lost. -q prints no records. Lines on standard input, each for NAME or all:
+   the first revocation, -w in the first assignment that isn't empty. -l commits also what was lost. -q prints no records. Lines on
+   standard input, each for NAME or all:
        quit WHO            closes the consumer; the end of the input quits all
        subscribe WHO T,T   changes the subscription; `-` stands for none
        commit WHO          commits at once
    A line that is printed has the seconds, the name, and what happened:
        START VERSION   ASSIGN T:P,..   REVOKE T:P,..   LOST T:P,..   BLOCK   RECORD T P OFFSET VALUE
-       COMMIT T:P=OFFSET,..   REFUSED NAME T:P=OFFSET,..   ERROR NAME TEXT   FATAL NAME TEXT   WRONG TEXT   CLOSED
-   ASSIGN is printed before a partition is read, and REVOKE and LOST before it is given up. */
+       COMMIT T:P=OFFSET,..   REFUSED NAME T:P=OFFSET,..   ERROR NAME TEXT   FATAL NAME TEXT   WRONG TEXT   CLOSING   CLOSED
+   ASSIGN is printed before a partition is read, and REVOKE and LOST before it is given up. Nothing is read after CLOSING. */
 #define _GNU_SOURCE
 #include <librdkafka/rdkafka.h>
 #include <pthread.h>
@@ -43,7 +44,7 @@ struct consumer {
     char topics[MOST_TOPICS];
 };
 
-static int asynchronous, commits_lost, quiet, commit_ms = 500, block_ms;
+static int asynchronous, commits_lost, quiet, commit_ms = 500, block_ms, assign_ms;
 static char *metadata, **settings;
 
 static double seconds(void)
@@ -141,6 +142,10 @@ static void assign(struct consumer *it, rd_kafka_topic_partition_list_t *list)
         struct partition *of = partition_of(it, list->elems[at].topic, list->elems[at].partition);
         of->owned = 1;
         of->next = of->committed = -1;
+    }
+    if (assign_ms && list->cnt) {
+        usleep(assign_ms * 1000);
+        assign_ms = 0;
     }
 }
 
@@ -308,6 +313,7 @@ static void *consume(void *of)
             due = seconds() + commit_ms / 1e3;
         }
     }
+    say(it, "CLOSING");
     rd_kafka_resp_err_t code = rd_kafka_consumer_close(it->kafka);
     if (code && code != RD_KAFKA_RESP_ERR__FATAL)
         say(it, "ERROR %s close", rd_kafka_err2name(code));
@@ -331,7 +337,7 @@ static void ask(struct consumer *it, const char *verb, const char *what)
 int main(int argc, char **argv)
 {
     int count = 0;
-    for (int option; (option = getopt(argc, argv, "+alqn:c:b:m:")) != -1;) {
+    for (int option; (option = getopt(argc, argv, "+alqn:c:b:w:m:")) != -1;) {
         switch (option) {
         case 'a': asynchronous = 1; break;
         case 'l': commits_lost = 1; break;
@@ -339,6 +345,7 @@ int main(int argc, char **argv)
         case 'n': count = atoi(optarg); break;
         case 'c': commit_ms = atoi(optarg); break;
         case 'b': block_ms = atoi(optarg); break;
+        case 'w': assign_ms = atoi(optarg); break;
         case 'm':
             metadata = calloc(1, atoi(optarg) + 1);
             memset(metadata, 'm', atoi(optarg));
@@ -347,7 +354,7 @@ int main(int argc, char **argv)
         }
     }
     if (argc - optind < 2) {
-        fprintf(stderr, "usage: consumer [-a] [-l] [-q] [-n COUNT] [-c MS] [-b MS] [-m BYTES] NAME TOPIC,TOPIC.. KEY=VALUE..\n");
+        fprintf(stderr, "usage: consumer [-a] [-l] [-q] [-n COUNT] [-c MS] [-b MS] [-w MS] [-m BYTES] NAME TOPIC,TOPIC.. KEY=VALUE..\n");
         return 2;
     }
     settings = argv + optind + 2;

@@ -33,8 +33,8 @@ class Printing:
         self.owned: Set[Key] = set()
         self.next: Dict[Key, int] = {}
         self.committed: Dict[Key, int] = {}
-        fixed: Dict[str, object] = {"client.id": name, "group.protocol": "consumer", "enable.auto.commit": False, "auto.offset.reset": "earliest", "check.crcs": True}
-        self.consumer = Consumer({**fixed, **settings, "error_cb": self.tell_error})
+        fixed = {"client.id": name, "group.protocol": "consumer", "enable.auto.commit": "false", "auto.offset.reset": "earliest"}
+        self.consumer = Consumer({**fixed, "check.crcs": "true", **settings, "error_cb": self.tell_error})
         self.say("START", confluent_kafka.libversion()[0])
 
     def say(self, *words: object) -> None:
@@ -114,6 +114,7 @@ class Printing:
         return True
 
     def close(self) -> None:
+        self.say("CLOSING")
         self.consumer.close()
         self.say("CLOSED")
 

@@ -79,7 +79,8 @@ def without_empty_fetches(events: List[Event], topics: List[Topic]) -> List[Even
 
 def write(path: pathlib.Path, it: Conversation) -> None:
     lines = [f"# {text}" for text in it.title] + [f"topic {topic.word()}" for topic in it.topics] + ["paced"] * it.paced
-    lines += [" ".join([f"{event.moment:.0f}", event.side, str(event.connection), event.what, event.frame.hex()]).rstrip() for event in it.events]
+    for event in it.events:
+        lines.append(f"{event.moment:.0f} {event.side} {event.connection} {event.what} {event.frame.hex()}".rstrip())
     path.write_text("\n".join(lines) + "\n", encoding="utf-8")
 
 

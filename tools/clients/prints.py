@@ -35,9 +35,10 @@ def partitions_of(it: Print) -> List[str]:
 
 def spans(prints: Iterable[Print], ends: Dict[str, List[float]], faults: List[str]) -> List[Span]:
     """Who owned what. What a consumer has ends at its moments of `ends`: it was killed or stopped, or knows by its own clock that
-    it is out. What can't be is told in `faults`."""
+    it is out. A consumer that is closing owns nothing of what it is still assigned. What can't be is told in `faults`."""
     found: List[Span] = []
     open_since: Dict[Tuple[str, str], float] = {}
+    closing: Set[str] = set()
 
     def close(name: str, partition: str, moment: float) -> None:
         start = open_since.pop((name, partition))
@@ -45,14 +46,18 @@ def spans(prints: Iterable[Print], ends: Dict[str, List[float]], faults: List[st
 
     for it in sorted(prints):
         mine = [partition for name, partition in open_since if name == it.name]
-        if it.kind == "ASSIGN":
+        if it.kind == "CLOSING":
+            closing.add(it.name)
+        elif it.kind == "ASSIGN" and it.name not in closing:
             faults += [f"{it.name} is assigned {partition}, which it has" for partition in partitions_of(it) if partition in mine]
             open_since.update({(it.name, partition): it.moment for partition in partitions_of(it)})
         elif it.kind in ("REVOKE", "LOST"):
-            faults += [f"{it.name} gives up {partition}, which it hasn't" for partition in partitions_of(it) if partition not in mine]
+            unknown = [partition for partition in partitions_of(it) if partition not in mine and it.name not in closing]
+            faults += [f"{it.name} gives up {partition}, which it hasn't" for partition in unknown]
             for partition in {*mine} & {*partitions_of(it)}:
                 close(it.name, partition, it.moment)
         elif it.kind in ("START", "CLOSED"):
+            closing.discard(it.name)
             for partition in mine:
                 close(it.name, partition, it.moment)
     for name, partition in [*open_since]:

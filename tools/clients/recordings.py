@@ -40,10 +40,12 @@ def two(t: Trial) -> Tuple[Consumers, Consumers]:
 
 
 def join(t: Trial) -> None:
+    """A consumer joins, is assigned four partitions, reads five records of each, and commits."""
     t.kill(alone(t))
 
 
 def rebalance(t: Trial) -> None:
+    """A second consumer joins: the first is told to give up two partitions, reports that it has, and the second is assigned them."""
     c1, c2 = two(t)
     commit(t, c1)
     for it in (c1, c2):
@@ -51,6 +53,7 @@ def rebalance(t: Trial) -> None:
 
 
 def leave(t: Trial) -> None:
+    """Of two consumers one leaves, and the other is assigned its partitions. Then it leaves, too."""
     c1, c2 = two(t)
     t.quiet(NAMES, "c2 leaves", c2.quit())
     commit(t, c1)
@@ -58,6 +61,7 @@ def leave(t: Trial) -> None:
 
 
 def static_restart(t: Trial) -> None:
+    """Of two static members one goes away with epoch -2, and comes back under another id to what it had."""
     c1, c2 = (start(t, name, group_instance_id=f"i-{name}") for name in ("c1", "c2"))
     t.quiet(NAMES, "two static members", c2.started)
     c1.quit()
@@ -69,6 +73,7 @@ def static_restart(t: Trial) -> None:
 
 
 def late_heartbeat(t: Trial) -> None:
+    """A heartbeat comes late, over a connection that its member has left for another one. The coordinator closes it."""
     c1 = start(t, "c1", socket_timeout_ms=2_000)
     t.quiet(NAMES, "one consumer", c1.started)
     t.stand.tell_relay("hold c1 heartbeat 9")
@@ -79,6 +84,7 @@ def late_heartbeat(t: Trial) -> None:
 
 
 def stale_commit(t: Trial) -> None:
+    """A commit crosses the reply that raises its member's epoch: 113. The member commits again at the new epoch."""
     c1, c2 = two(t)
     c2.quit()
     t.stand.tell_relay("hold-reply c1 heartbeat 2")
@@ -91,6 +97,7 @@ def stale_commit(t: Trial) -> None:
 
 
 def fenced_commit(t: Trial) -> None:
+    """A member doesn't hear that it is to give up, and is removed when its 2 s for this are over. Its commit is answered with 25."""
     c1 = start(t, "c1", max_poll_interval_ms=2_000)
     t.quiet(NAMES, "one consumer", c1.started)
     wait_for_heartbeat(t)
@@ -119,21 +126,22 @@ def codes_of(t: Trial) -> List[int]:
 
 
 class Recording(NamedTuple):
+    """A client, what it goes through, and whether the time between the events matters."""
+
     client: str
     play: Callable[[Trial], None]
-    text: str
     paced: bool = False
 
 
 RECORDINGS: Dict[str, Recording] = {
-    "join-2.8.0": Recording("trixie", join, "A consumer joins, is assigned four partitions, reads five records of each, and commits. Its id is made by the coordinator."),
-    "join-2.14.2": Recording("sid", join, "A consumer joins under an id of its own, is assigned four partitions, reads five records of each, and commits."),
-    "rebalance-2.8.0": Recording("trixie", rebalance, "A second consumer joins: the first is told to give up two partitions, reports that it has, and the second is assigned them."),
-    "rebalance-2.14.2": Recording("sid", rebalance, "A second consumer joins: the first is told to give up two partitions, reports that it has, and the second is assigned them."),
-    "leave-2.8.0": Recording("trixie", leave, "Of two consumers one leaves, and the other is assigned its partitions. Then it leaves, too."),
-    "leave-2.14.2": Recording("sid", leave, "Of two consumers one leaves, and the other is assigned its partitions. Then it leaves, too."),
-    "static-restart-2.14.2": Recording("sid", static_restart, "Of two static members one goes away with epoch -2, and comes back under another id to what it had."),
-    "late-heartbeat-2.14.2": Recording("sid", late_heartbeat, "A heartbeat comes late, over a former connection of its member, which has gone on over another one. The coordinator closes the former one."),
-    "stale-commit-2.14.2": Recording("sid", stale_commit, "A commit crosses the reply that raises its member's epoch: 113. The member commits again at the new epoch."),
-    "fenced-commit-2.14.2": Recording("sid", fenced_commit, "A member doesn't hear that it is to give up, and is removed when its 2 s for this are over. Its commit is answered with 25.", True),
+    "join-2.8.0": Recording("trixie", join),
+    "join-2.14.2": Recording("sid", join),
+    "rebalance-2.8.0": Recording("trixie", rebalance),
+    "rebalance-2.14.2": Recording("sid", rebalance),
+    "leave-2.8.0": Recording("trixie", leave),
+    "leave-2.14.2": Recording("sid", leave),
+    "static-restart-2.14.2": Recording("sid", static_restart),
+    "late-heartbeat-2.14.2": Recording("sid", late_heartbeat),
+    "stale-commit-2.14.2": Recording("sid", stale_commit),
+    "fenced-commit-2.14.2": Recording("sid", fenced_commit, paced=True),
 }

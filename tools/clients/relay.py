@@ -16,8 +16,8 @@ FILE gets a line for each event: seconds, side, number of the connection on its 
 The frames of Fetch are passed on and not recorded, unless `--fetches` is given. Metadata and FindCoordinator name the front end's
 ports to clients; so that their connections come through here, TARGET is replaced by PORT in what a front end replies.
 
-With `--serial` one request at a time is under way on the side of the clients, but for Fetch, so that the record's order is the order in which
-all was done.
+With `--serial` one request at a time is under way on the side of the clients, but for Fetch, so that the record's order is the order
+in which all was done.
 
 The control port takes lines, and answers each with one:
 

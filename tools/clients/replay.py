@@ -11,7 +11,7 @@ from typing import Dict, List, Sequence
 
 from clients.conversation import FRONT_END, Conversation, Pins
 from clients.log import Event, head_of
-from clients.stand import HOST, Failed, Stand
+from clients.stand import HOST, Stand
 
 REPLY_SECONDS = 10
 TICK_MS = 500

@@ -75,10 +75,12 @@ def build(root: pathlib.Path) -> None:
     place.mkdir(exist_ok=True)
     for name in ("consumer.c", "consumer.py"):
         shutil.copy(HERE / name, place)
-    words = ["gcc", "-O1", "-Wall", "-Wextra", "-o", f"/{PLACE}/consumer", f"/{PLACE}/consumer.c", "-lrdkafka", "-lpthread"]
+    words = ["gcc", "-O1", "-Wall", "-Wextra", "-o", f"/{PLACE}/consumer.new", f"/{PLACE}/consumer.c", "-lrdkafka", "-lpthread"]
     built = subprocess.run(["chroot", str(root), *words], capture_output=True, text=True, check=False)
     if built.returncode:
         raise NotHere(f"the consumer can't be built in {root}: {built.stderr.strip()}")
+    # So another run's consumers are always whole.
+    os.replace(place / "consumer.new", place / "consumer")
 
 
 def versions(folder: pathlib.Path) -> List[str]:

@@ -24,8 +24,9 @@ def killed(t: Trial) -> None:
     t.check(not t.of("ASSIGN", since=moment), "38 s after the kill nothing has moved")
     t.quiet(BOTH, "after the kill", moment)
     gains = [it.moment - last for it in t.of("ASSIGN", since=moment)]
-    t.check(min(gains, default=0) >= SESSION, f"its partitions were given {min(gains):.2f} to {max(gains):.2f} s after its last heartbeat, not before 45 s")
-    t.check(max(gains) <= SESSION + TICK + 2 * INTERVAL + 0.5, "and within two intervals more")
+    times = f"{min(gains, default=0):.2f} to {max(gains, default=0):.2f} s after its last heartbeat"
+    t.check(min(gains, default=0) >= SESSION, f"its partitions were given {times}, not before 45 s")
+    t.check(max(gains, default=0) <= SESSION + TICK + 2 * INTERVAL + 0.5, "and within two intervals more")
 
 
 def stopped(t: Trial) -> None:
@@ -44,7 +45,8 @@ def stopped(t: Trial) -> None:
     back = group["c2"].go_on()
     t.wait_for(lambda: t.of("ASSIGN", "c2", back), 30, "c2 is assigned partitions again")
     t.quiet(BOTH, "after c2's return", back)
-    t.check(len(t.of("LOST", "c2", back)) == 1, f"c2 lost its partitions once, {[round(it.moment - back, 2) for it in t.of('LOST', 'c2', back)]} s after it went on")
+    losses = [round(it.moment - back, 2) for it in t.of("LOST", "c2", back)]
+    t.check(len(losses) == 1, f"c2 lost its partitions once, {losses} s after it went on")
     codes = [it.told.code for it in t.heartbeats("c2", back)]
     t.check(25 in codes, f"c2's heartbeats are answered with {codes[:4]}")
     joined = min(it.answered for it in t.heartbeats("c2", back) if it.told.code == 0)
@@ -81,7 +83,8 @@ def cut_in_steady_state(t: Trial, kind: str) -> None:
     time.sleep(3 * INTERVAL)
     new = {it.connection for it in t.exchanges("c1")} - before
     codes = {it.told.code for it in t.heartbeats(since=moment)}
-    t.check(bool(new) and not t.changes(moment) and codes == {0}, f"cut {kind}: c1 goes on over another connection, nothing moves, heartbeat codes {codes}")
+    goes_on = bool(new) and not t.changes(moment) and codes == {0}
+    t.check(goes_on, f"cut {kind}: c1 goes on over another connection, nothing moves, heartbeat codes {codes}")
 
 
 def lose_a_joins_reply(t: Trial) -> None:
@@ -90,7 +93,8 @@ def lose_a_joins_reply(t: Trial) -> None:
     t.wait_for(lambda: t.of("ASSIGN", "c4"), 70, "c4 is assigned partitions after its join's reply was lost")
     t.quiet(BOTH, "a join's reply is lost", fourth.started, limit=150)
     members = {it.told.member for it in t.heartbeats("c4") if it.told.code == 0}
-    t.note(f"c4 was answered as {len(members)} member(s), and each partition was owned {t.last_change - fourth.started:.1f} s after its start")
+    took = t.last_change - fourth.started
+    t.note(f"c4 was answered as {len(members)} member(s), and each partition was owned {took:.1f} s after its start")
 
 
 def slow_revocation(t: Trial) -> None:
@@ -112,7 +116,8 @@ def slow_revocation(t: Trial) -> None:
     refused = [it for it in t.heartbeats("slow") if it.told.code == 42]
     if t.is_old():
         t.expect("INVALID_REQUEST", "nvalid request")
-        t.check(bool(refused) and refused[0].asked.timeout == -1 and refused[0].asked.names is None, "2.8.0 joins again without timeout and names: 42, fatal to it")
+        is_bare = bool(refused) and refused[0].asked.timeout == -1 and refused[0].asked.names is None
+        t.check(is_bare, "2.8.0 joins again without timeout and names: 42, fatal to it")
         t.check(not t.problem(BOTH, ("fast",)), "fast has all")
     else:
         t.quiet(BOTH, "slow is back", time.time() - 20)
@@ -135,6 +140,28 @@ def late(t: Trial) -> None:
     first = min((it for it in t.exchanges("c3") if it.sent >= third.started + LATE - 1), key=lambda it: it.connection)
     wanted = "code 0" if t.is_old() else "closes"
     t.check(outcome(first) == wanted, f"a join 12 s late, overtaken by another one: {outcome(first)}")
+
+
+def late_acknowledgement(t: Trial) -> None:
+    """The reply to an acknowledgement, which assigns more, comes later than its client waits for it: it is never told again."""
+    t.expect("UNKNOWN_MEMBER_ID", *BROKEN)
+    c1, c2 = t.start("c1"), t.start("c2", "-b", 4_000)
+    t.quiet(BOTH, "2 consumers", c2.started)
+    heard = len(t.heartbeats("c2"))
+    t.wait_for(lambda: len(t.heartbeats("c2")) > heard, 2 * INTERVAL, "c2 sends a heartbeat")
+    time.sleep(1)
+    # Both are told to give up at most 4 s after c3's join, and c2 takes 4 s for it. c3 is assigned what c1 has given up after 5 s,
+    # takes 4.5 s for it, and then reports it.
+    t.start("c3", "-w", 4_500)
+    t.wait_for(lambda: t.of("ASSIGN", "c3") and t.owned["c3"], 3 * INTERVAL, "c3 is assigned what c1 has given up")
+    t.stand.tell_relay(f"hold-reply c3 heartbeat {INTERVAL + 2}")
+    time.sleep(4 * INTERVAL)
+    told = [len(it.told.assignment) for it in t.heartbeats("c3") if it.told.assignment]
+    t.check(len(told) == 2 and told[0] < told[1], f"c3 was told of so many partitions: {told}")
+    t.note(f"c3 reads {len(t.owned['c3'])} partitions of {told[-1:]} that it was told of {3 * INTERVAL:g} s before")
+    moment = time.time()
+    c1.quit()
+    t.quiet(BOTH, "c1 leaves", moment)
 
 
 def late_request(t: Trial, kind: str) -> str:
@@ -185,7 +212,8 @@ def coordinator_stalls(t: Trial) -> None:
         time.sleep(1)
         t.quiet(BOTH, f"stopped for {seconds} s", moment)
         codes = {it.told.code for it in t.heartbeats(since=moment)}
-        t.note(f"stopped for {seconds} s: heartbeat codes {sorted(codes)}, {len(t.of('LOST', since=moment))} losses, {len(t.of('REVOKE', since=moment))} revokes")
+        losses, revokes = len(t.of("LOST", since=moment)), len(t.of("REVOKE", since=moment))
+        t.note(f"stopped for {seconds} s: heartbeat codes {sorted(codes)}, {losses} losses, {revokes} revokes")
 
 
 def long_run(t: Trial) -> None:

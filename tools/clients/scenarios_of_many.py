@@ -107,7 +107,7 @@ def kcat(t: Trial) -> None:
         settings = ["group.protocol=consumer", "auto.offset.reset=earliest", f"client.id=kcat{number}", *CLIENTS[client].settings]
         words = ["timeout", "-s", "INT", str(32 - 12 * number), "chroot", str(t.roots / client), "kcat", "-b", f"{HOST}:{t.stand.port}"]
         words += [word for setting in settings for word in ("-X", setting)] + ["-G", "g", *BOTH, "-f", "%t/%p/%o=%s\\n"]
-        with open(t.folder / f"kcat{number}.out", "w", encoding="utf-8") as printed, open(t.folder / f"kcat{number}.err", "w", encoding="utf-8") as errors:
+        with open(t.folder / f"kcat{number}.out", "wb") as printed, open(t.folder / f"kcat{number}.err", "wb") as errors:
             running.append(subprocess.Popen(words, stdin=subprocess.DEVNULL, stdout=printed, stderr=errors))
         time.sleep(12)
     for it in running:

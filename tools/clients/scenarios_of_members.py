@@ -1,7 +1,7 @@
 """Scenarios in which members come, go, and subscribe."""
 
 import time
-from typing import Any, Dict, Iterable, List
+from typing import Dict, Iterable, List
 
 from clients.consumers import Consumers
 from clients.trial import BOTH, Trial
@@ -16,7 +16,8 @@ def one_alone(t: Trial) -> None:
     c = t.start("c1", group="größe Ω", client_rack="eu-1")
     t.quiet(BOTH, "one consumer", c.started)
     join = t.heartbeats("c1")[0]
-    t.check((join.told.code, join.told.epoch, len(join.told.assignment or ())) == (0, 1, 19), "its join is answered with code 0, epoch 1 and 19 partitions")
+    told = join.told.code, join.told.epoch, len(join.told.assignment or ())
+    t.check(told == (0, 1, 19), "its join is answered with code 0, epoch 1 and 19 partitions")
     t.note(f"assigned {t.of('ASSIGN')[0].moment - c.started:.2f} s after the start of its process")
     c.quit()
     leave = t.heartbeats("c1")[-1]
@@ -114,18 +115,20 @@ def rolling_restart(t: Trial) -> None:
 
 def assignors(t: Trial) -> None:
     """Range, uniform, the client's own choice, a vote between two, and an assignor that isn't there."""
-    for assignor in ("range", "uniform", ""):
-        names = [f"{assignor or 'own'}{number}" for number in (1, 2, 3)]
-        setting: Dict[str, Any] = {"group_remote_assignor": assignor} if assignor else {}
-        group = [t.start(name, group=f"g-{assignor}", **setting) for name in names]
-        t.quiet(BOTH, f"assignor {assignor or 'of the client choice'}", group[-1].started, even=assignor != "range", names=names)
+    for assignor in ("range", "uniform", "own"):
+        names = [f"{assignor}{number}" for number in (1, 2, 3)]
+        asked = None if assignor == "own" else assignor
+        group = [t.start(name, group=f"g-{assignor}", group_remote_assignor=asked) for name in names]
+        t.quiet(BOTH, f"assignor {assignor}", group[-1].started, even=assignor != "range", names=names)
         if assignor == "range":
             sizes = {topic: sorted(sum(p.startswith(topic) for p in t.owned[name]) for name in names) for topic in BOTH}
             t.check(sizes == {"orders": [4, 4, 4], "bills": [2, 2, 3]}, f"range gives each topic in runs: {sizes}")
-        t.note(f"assignor {assignor or 'of the client choice'}: the clients name {sorted({str(it.asked.assignor) for it in t.heartbeats() if it.asked.group == f'g-{assignor}'})}")
+        named = {str(it.asked.assignor) for it in t.heartbeats() if it.asked.group == f"g-{assignor}"}
+        t.note(f"assignor {assignor}: the clients name {sorted(named)}")
         for it in group:
             it.quit()
-    voters = {name: t.start(name, group="g-vote", group_remote_assignor=of) for name, of in (("m1", "range"), ("m2", "uniform"), ("m3", "range"))}
+    votes = {"m1": "range", "m2": "uniform", "m3": "range"}
+    voters = {name: t.start(name, group="g-vote", group_remote_assignor=of) for name, of in votes.items()}
     t.quiet(BOTH, "two name range and one uniform", voters["m3"].started, even=False, names=[*voters])
     t.expect("UNSUPPORTED_ASSIGNOR", "assignor")
     t.start("odd", group="g-odd", group_remote_assignor="sticky")

@@ -54,7 +54,13 @@ class Stand:
     """What clients connect to, at `port`. The folder gets what each program prints, and frames.log of a relay, unless that is left out."""
 
     def __init__(
-        self, program: str, topics: Sequence[Topic], folder: pathlib.Path, coordinators: int = 1, relay: Optional[Sequence[str]] = (), front_end: Sequence[str] = ()
+        self,
+        program: str,
+        topics: Sequence[Topic],
+        folder: pathlib.Path,
+        coordinators: int = 1,
+        relay: Optional[Sequence[str]] = (),
+        front_end: Sequence[str] = (),
     ) -> None:
         self.program, self.topics, self.folder = program, topics, folder
         self.running: Dict[str, subprocess.Popen] = {}
@@ -65,7 +71,8 @@ class Stand:
         for number in range(coordinators):
             self.serve(number)
         if relay is not None:
-            sides = [f"coordinator:{tap}:{back}" for tap, back in zip(taps, self.backs)] + [f"client:{door}:{front}" for door, front in zip(doors, fronts)]
+            sides = [f"coordinator:{tap}:{back}" for tap, back in zip(taps, self.backs)]
+            sides += [f"client:{door}:{front}" for door, front in zip(doors, fronts)]
             record = ["--record", str(folder / "frames.log"), "--control", str(self.control)]
             self.start("relay", [sys.executable, "-B", str(HERE / "relay.py"), *record, *relay, *sides])
         several = [word for port in (self.backs if relay is None else taps) for word in ("--coordinator", f"{HOST}:{port}")]

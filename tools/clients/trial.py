@@ -61,14 +61,16 @@ class Trial:
 
     # ---- consumers
 
-    def start(self, name: str, *options: object, group: str = "g", topics: str = "orders,bills", count: int = 0, client: str = "", **settings: Any) -> Consumers:
-        """Starts a consumer. An underscore in a setting's name stands for a dot."""
+    def start(
+        self, name: str, *options: object, group: str = "g", topics: str = "orders,bills", count: int = 0, client: str = "", **settings: Any
+    ) -> Consumers:
+        """Starts a consumer. An underscore in a setting's name stands for a dot, and None for the library's own choice."""
         of = CLIENTS[client or self.client]
-        given = [f"{key.replace('_', '.')}={value}" for key, value in settings.items()]
+        given = [f"{key.replace('_', '.')}={value}" for key, value in settings.items() if value is not None]
         if "group_remote_assignor" not in settings:
             given += of.settings
-        words = ["chroot", str(self.roots / of.release), *of.words, *map(str, options), *(["-n", str(count)] if count else []), name, topics]
-        words += [f"bootstrap.servers={HOST}:{self.stand.port}", f"group.id={group}", *given]
+        words = ["chroot", str(self.roots / of.release), *of.words, *map(str, options), *(["-n", str(count)] if count else [])]
+        words += [name, topics, f"bootstrap.servers={HOST}:{self.stand.port}", f"group.id={group}", *given]
         made = Consumers(words, name, count, self.folder / f"{len(self.consumers)}-{name}.txt", self.take)
         self.groups.update(dict.fromkeys(made.names, group))
         self.consumers.append(made)
@@ -172,7 +174,9 @@ class Trial:
         with self.lock:
             return collections.Counter(len(parts) for name, parts in self.owned.items() if names is None or name in names)
 
-    def quiet(self, topics: Sequence[str], what: str, since: float, limit: float = 120, even: bool = True, names: Optional[Sequence[str]] = None) -> float:
+    def quiet(
+        self, topics: Sequence[str], what: str, since: float, limit: float = 120, even: bool = True, names: Optional[Sequence[str]] = None
+    ) -> float:
         """Waits until each partition has exactly one owner, all have as many but for one, and nothing has changed for a while.
         Gives the seconds from `since` to the last change."""
         until = time.time() + limit

@@ -14,7 +14,7 @@ The first byte of a line says what the line has; its text stands behind one spac
         with no text, none does
     -   a bad line, which is a row of its own: the program tells its number, and the line behind it isn't done
 
-In a text of the input `\\xHH`, `\\r` and `\\t` are bytes, and `\\(N,TEXT)` is N times TEXT.
+In words and in the input `\\xHH`, `\\r`, `\\n` and `\\t` are bytes, and `\\(N,TEXT)` is N times TEXT.
 """
 
 import dataclasses
@@ -67,7 +67,7 @@ def put(row: Row, mark: bytes, text: bytes) -> None:
     if row is None:
         raise BadRow(f"a line stands in no row: {text!r}")
     if mark == b"$":
-        row.words = tuple(text.decode().split())
+        row.words = tuple(unescaped(it).decode() for it in text.split())
     elif mark in (b"<", b"+"):
         row.given += unescaped(text) + b"\n" * (mark == b"<")
     elif mark == b">":

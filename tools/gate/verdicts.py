@@ -13,7 +13,8 @@ PROVED, RESTS, WAITS, UNKNOWN, FAILED = "proved", "rests", "waits", "unknown", "
 
 LINE = re.compile(r"fn (\S+): (.*)")
 # A function whose signature lets it wait or end the process is proved all the same.
-IS_PROVED = re.compile(r"proved(?:, may (?:abort|wait))*")
+# A closure's own `requires` is what its callers give.
+IS_PROVED = re.compile(r"proved(?: where its callers give what it asks)?(?:, may (?:abort|wait))*")
 CALLS = re.compile(r"it (?:calls|passes the blocks?) `[^`]+`(?: and `[^`]+`)*, which (?:is|are) not proved")
 WAITS_FOR = re.compile(
     r"the borrow checker's part in its proof is not made yet.*a call of `[^`]+`(?:: `[^`]+`)?, which has no proof"

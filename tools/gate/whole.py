@@ -19,14 +19,13 @@ LAST_BEGIN = 120
 SCRIPT_SECONDS = 1_800
 # The scripts that are run, and whether each takes the built program.
 SCRIPTS = (
-    ("check-launcher", False),
+    ("check-launcher", True),
     ("check-readme", True),
     ("check-model", False),
     ("check-pictures", True),
     ("check-server", True),
     ("check-broker", True),
     ("check-conversations", True),
-    ("check-library", False),
 )
 # What a check says where all is well; everything else that `rt ci` writes is shown as it comes.
 NOISE = re.compile(

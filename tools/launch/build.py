@@ -152,7 +152,8 @@ class Build:
 
 def said_of(ran: commands.Ran) -> List[str]:
     """The last lines of what was said of a crate that isn't proved, without those of what is."""
-    return [it for it in ran.lines() if not whole.NOISE.match(it)][-SHOWN:]
+    said = [it for it in ran.lines() if not whole.NOISE.match(it)][-SHOWN:] or ran.lines()[-SHOWN:]
+    return [*said, *[f"rt was ended by signal {-ran.status}"] * (ran.status < 0)]
 
 
 def link(source: str, target: str) -> None:

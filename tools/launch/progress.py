@@ -24,10 +24,9 @@ SECONDS: Dict[str, int] = {
     "link_futures": 618,
     "coord_server": 463,
     "world_sim": 733,
-    "scenario_cli": 676,
 }
 # What a crate is taken for that was never measured, in seconds a line of code and of definitions and proofs.
-LINE_SECONDS, ANTT_LINE_SECONDS = 0.12, 0.03
+LINE_SECONDS, ANTT_LINE_SECONDS = 0.09, 0.02
 # What part of that time a build takes where each crate gets the processors that no other one waits for.
 PACE = 0.7
 

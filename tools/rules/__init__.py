@@ -1,13 +1,15 @@
 """The rules of the protocol in Python, for the tools that say what the program must print.
 
-    fields    the bytes of fields, and back
-    messages  requests and replies
-    group     one group: heartbeats, ticks, commits, and the two assignors
-    node      the groups of a coordinator, frame by frame
-    client    the client side: what a member asks, and what it makes of replies
-    world     one coordinator, its clients, and pools of messages that are delivered in any order
-    lines     the lines of scripts of worlds: what each asks for and prints, and why one can't be read
-    compare   runs the program over scripts, and compares what it prints
+    fields     the bytes of fields, and back
+    messages   requests and replies
+    assignors  range and uniform: which member owns which partition
+    group      one group: heartbeats, ticks and commits
+    node       the groups of a coordinator, frame by frame
+    client     the client side: what a member asks, and what it makes of replies
+    world      one coordinator, its clients, and pools of messages that are delivered in any order
+    lines      the lines of scripts of worlds: what each asks for and prints, and why one can't be read
+    compare    runs the program over scripts, and compares what it prints
+    timing     runs the program over lines, and takes its processor time
 
 The rules are those of KIP-848 and of the Kafka protocol guide, and this project's own where these leave a choice
 (docs/MODEL.md). Nothing here is taken from the program.

@@ -1,6 +1,8 @@
-"""One group of a coordinator: what a heartbeat, a tick and a commit make of it, and the two assignors."""
+"""One group of a coordinator: what a heartbeat, a tick and a commit make of it."""
 
 import uuid
+
+from rules.assignors import owners
 
 SESSION, INTERVAL = 45_000, 5_000
 GREATEST_EPOCH, LAST_MOMENT = 2_147_483_647, (1 << 64) - 1
@@ -208,49 +210,3 @@ class Group:
             return 12
         self.offsets[name, index] = offset, leader, metadata
         return 0
-
-
-def owners(records, view, former):
-    """The target under the assignor that most members name: uniform where as many name the one as the other."""
-    order = sorted(records, key=lambda m: (records[m].instance is None, (records[m].instance or "").encode(), m.encode()))
-    votes = [records[m].assignor for m in order]
-    topics = [(name, *view[name]) for name in sorted(view, key=str.encode)]
-    takers = {name: [m for m in order if name in records[m].names] for name, _, _ in topics}
-    if votes.count("range") > votes.count("uniform"):
-        return range_owners(topics, takers)
-    return uniform_owners(order, topics, takers, former)
-
-
-def range_owners(topics, takers):
-    owner = {}
-    for name, topic, count in topics:
-        each, more = divmod(count, len(takers[name]))
-        index = 0
-        for place, member in enumerate(takers[name]):
-            for _ in range(each + (place < more)):
-                owner[topic, index] = member
-                index += 1
-    return owner
-
-
-def uniform_owners(order, topics, takers, former):
-    rank = {m: at for at, m in enumerate(order)}
-    partitions = [((topic, index), name) for name, topic, count in topics for index in range(count)]
-    may = {name: set(members) for name, members in takers.items()}
-    owner = {p: former[p] for p, name in partitions if former.get(p) in may[name]}
-    count = dict.fromkeys(order, 0)
-    for member in owner.values():
-        count[member] += 1
-    for p, name in partitions:
-        if p not in owner:
-            owner[p] = min(takers[name], key=lambda m: (count[m], rank[m]))
-            count[owner[p]] += 1
-    while True:
-        least = {name: min(members, key=lambda m: (count[m], rank[m])) for name, members in takers.items()}
-        can = [(-count[owner[p]], rank[owner[p]], at) for at, (p, name) in enumerate(partitions) if count[least[name]] + 1 < count[owner[p]]]
-        if not can:
-            return owner
-        p, name = partitions[min(can)[2]]
-        count[owner[p]] -= 1
-        owner[p] = least[name]
-        count[owner[p]] += 1

@@ -59,14 +59,28 @@ impl Answers for Granted {
     /// The verdicts of the steps' offers, and the grants after the last.
     fn answer(&self, alloc: Global, question: &str, out: &mut String) -> Result<(), AllocError> {
         let mut grants = Grants::new(alloc);
-        for step in question.split("; ") {
-            take_step(alloc, &mut grants, step, out)?;
-        }
-        for word in SHOWN {
-            tell_partition(&grants, &part(word), out)?;
-        }
-        Ok(())
+        take_steps(alloc, &mut grants, question, out)?;
+        tell_grants(&grants, out)
     }
+}
+
+fn take_steps(
+    alloc: Global,
+    grants: &mut Grants,
+    steps: &str,
+    out: &mut String,
+) -> Result<(), AllocError> {
+    for step in steps.split("; ") {
+        take_step(alloc, grants, step, out)?;
+    }
+    Ok(())
+}
+
+fn tell_grants(grants: &Grants, out: &mut String) -> Result<(), AllocError> {
+    for word in SHOWN {
+        tell_partition(grants, &part(word), out)?;
+    }
+    Ok(())
 }
 
 fn take_step(
@@ -103,9 +117,14 @@ fn make_offer(
     let owned = offer.owned.as_ref();
     let shown = grants.shown_after(alloc, offer.member, &target, owned)?;
     let verdict = grant(alloc, grants, &member, &target, owned)?;
+    let is_shown = is_held(grants, offer, &shown);
+    put_verdict(verdict, is_shown, out)
+}
+
+fn put_verdict(verdict: Verdict, is_shown: bool, out: &mut String) -> Result<(), AllocError> {
     part_words(out)?;
     out.push_str(match verdict {
-        _ if !is_held(grants, offer, &shown) => "?",
+        _ if !is_shown => "?",
         Verdict::Moves => "moves",
         Verdict::StillHolds => "holds",
     })

@@ -12,6 +12,10 @@ mod owners;
 #[cfg(test)]
 mod parts;
 #[cfg(test)]
+mod plain;
+#[cfg(test)]
+mod random_groups;
+#[cfg(test)]
 mod topics;
 #[cfg(test)]
 mod types;

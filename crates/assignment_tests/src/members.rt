@@ -119,18 +119,24 @@ pub fn topic_of(word: &str) -> Option<Topic<'_>> {
 
 /// The view of all topics that the words say.
 fn view_in(alloc: Global, words: &str) -> Result<View, AllocError> {
-    let (mut list, mut names) = (Vec::new(alloc), NameSet::new(alloc));
-    for Topic {
-        name,
-        number,
-        count,
-        ..
-    } in words.split(' ').filter_map(topic_of) {
-        list.push(entry_of(alloc, name, number, count)?)?;
-        names.insert(alloc, name)?;
+    let image = Image::of(alloc, topics_in(alloc, words)?).map_err(|_| AllocError)?;
+    image.view(alloc, &names_in(alloc, words)?)
+}
+
+fn topics_in(alloc: Global, words: &str) -> Result<Vec<TopicEntry>, AllocError> {
+    let mut list = Vec::new(alloc);
+    for topic in words.split(' ').filter_map(topic_of) {
+        list.push(entry_of(alloc, topic.name, topic.number, topic.count)?)?;
     }
-    let image = Image::of(alloc, list).map_err(|_| AllocError)?;
-    image.view(alloc, &names)
+    Ok(list)
+}
+
+fn names_in(alloc: Global, words: &str) -> Result<NameSet, AllocError> {
+    let mut names = NameSet::new(alloc);
+    for topic in words.split(' ').filter_map(topic_of) {
+        names.insert(alloc, topic.name)?;
+    }
+    Ok(names)
 }
 
 /// A topic of an image, whose id ends in the number.

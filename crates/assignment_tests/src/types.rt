@@ -130,14 +130,24 @@ fn tell_parts(alloc: Global, words: &str, out: &mut String) -> Result<(), AllocE
 
 fn tell_names(alloc: Global, words: &str, out: &mut String) -> Result<(), AllocError> {
     let mut names = NameSet::new(alloc);
+    insert_names(alloc, &mut names, words, out)?;
+    put_names(&names, out)?;
+    out.push_str(", copied")?;
+    put_names(&names.copy(alloc)?, out)
+}
+
+/// Inserts names, and tells which of them are new.
+fn insert_names(
+    alloc: Global,
+    names: &mut NameSet,
+    words: &str,
+    out: &mut String,
+) -> Result<(), AllocError> {
     for name in words.split(' ') {
         part_words(out)?;
         write!(out, "{}", names.insert(alloc, name)?)?;
     }
-    out.push(',')?;
-    put_names(&names, out)?;
-    out.push_str(", copied")?;
-    put_names(&names.copy(alloc)?, out)
+    out.push(',')
 }
 
 /// Tells all names of two sets.

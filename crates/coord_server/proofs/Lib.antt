@@ -1,3 +1,2 @@
 pub mod DeskLemmas
-pub mod EndLemmas
 pub mod PostLemmas

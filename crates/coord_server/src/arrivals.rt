@@ -8,29 +8,31 @@ use crate::handed::{Handed, Post};
 use futures::Stream;
 use futures::channel::mpsc::{UnboundedReceiver, unbounded};
 use futures::task::{Context, Poll};
-use link_futures::Line;
+use link_futures::{Line, ReadPart, WriteParts};
 use std::alloc::{AllocError, Global};
 use std::io;
+use std::marker::PhantomData;
 use tokio::reactor::Handle;
 
 /// The lines of the connections that are handed to one of so many workers, at its event loop. A connection that can't be taken, for want
 /// of memory, is closed.
 #[derive(Drop)]
-pub struct Arrivals<K: Drop> {
+pub struct Arrivals<K: Drop, I: Drop, O: Drop> {
     handed: UnboundedReceiver<Handed<K>>,
     handle: Handle,
     worker: usize,
     workers: usize,
     alloc: Global,
+    opens: PhantomData<(I, O)>,
 }
 
 /// The way of connections to the worker with this number, of so many, and their lines at its event loop.
-pub fn arrivals_of<K: Drop>(
+pub fn arrivals_of<K: Drop, I: Drop, O: Drop>(
     alloc: Global,
     handle: Handle,
     worker: usize,
     workers: usize,
-) -> Result<(Post<K>, Arrivals<K>), AllocError>
+) -> Result<(Post<K>, Arrivals<K, I, O>), AllocError>
     ensures post { IfOk result (λ ends. (ends.0.worker ≡ worker) × (ends.0.workers ≡ workers)) }
     ensures arrivals { IfOk result (λ ends. (ends.1.worker ≡ worker) × (ends.1.workers ≡ workers)) }
 {
@@ -46,13 +48,14 @@ pub fn arrivals_of<K: Drop>(
         worker,
         workers,
         alloc,
+        opens: PhantomData,
     };
     Ok((post, arrivals))
 }
 
-impl<K: Connection> Arrivals<K> {
+impl<K: Connection<I, O>, I: ReadPart, O: WriteParts> Arrivals<K, I, O> {
     /// The line of a connection that was handed over.
-    fn line_of(&self, handed: Handed<K>) -> io::Result<Line<K::Reader, K::Writer>>
+    fn line_of(&self, handed: Handed<K>) -> io::Result<Line<I, O>>
         ensures { IfOk result (λ line. (place_of line).connection ≡ handed.number) }
     {
         let (reader, writer) = handed.connection.open(&self.handle)?;
@@ -60,8 +63,8 @@ impl<K: Connection> Arrivals<K> {
     }
 }
 
-impl<K: Connection> Stream for Arrivals<K> {
-    type Item = Line<K::Reader, K::Writer>;
+impl<K: Connection<I, O>, I: ReadPart, O: WriteParts> Stream for Arrivals<K, I, O> {
+    type Item = Line<I, O>;
 
     ghost needs = { λ a source. source ≡ unbounded_readable_source a.handed };
 

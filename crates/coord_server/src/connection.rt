@@ -9,22 +9,19 @@ use tokio::net::{OwnedReadHalf, OwnedWriteHalf};
 use tokio::reactor::Handle;
 
 /// A connection that is at no event loop yet.
-pub trait Connection: Drop {
-    type Reader: ReadPart + Send;
-
-    type Writer: WriteParts + Send;
-
+pub trait Connection<I, O>: Drop {
     /// What is read and what is written, at the event loop of this handle.
-    fn open(self, handle: &Handle) -> io::Result<(Self::Reader, Self::Writer)>;
+    fn open(self, handle: &Handle) -> io::Result<(I, O)>;
 }
 
+/// What is read of a socket, and what is written.
+pub type SocketReader = Counted<Retried<OwnedReadHalf>>;
+
+pub type SocketWriter = Counted<Retried<OwnedWriteHalf>>;
+
 /// A socket. It has TCP_NODELAY, since a reply is not to wait for the next one.
-impl Connection for TcpStream {
-    type Reader = Counted<Retried<OwnedReadHalf>>;
-
-    type Writer = Counted<Retried<OwnedWriteHalf>>;
-
-    fn open(self, handle: &Handle) -> io::Result<(Self::Reader, Self::Writer)> {
+impl Connection<SocketReader, SocketWriter> for TcpStream {
+    fn open(self, handle: &Handle) -> io::Result<(SocketReader, SocketWriter)> {
         let stream = tokio::net::TcpStream::from_std(self, handle)?;
         stream.set_nodelay(true)?;
         let (reader, writer) = stream.into_split()?;
@@ -36,12 +33,8 @@ impl Connection for TcpStream {
 }
 
 /// A reader and a writer that need no event loop, as those over memory.
-impl<R: ReadPart + Send, W: WriteParts + Send> Connection for (R, W) {
-    type Reader = R;
-
-    type Writer = W;
-
-    fn open(self, _handle: &Handle) -> io::Result<(R, W)>
+impl<I: ReadPart, O: WriteParts> Connection<I, O> for (I, O) {
+    fn open(self, _handle: &Handle) -> io::Result<(I, O)>
         ensures { result ≡ Ok self }
     {
         Ok(self)

@@ -49,7 +49,7 @@ fn was_paused(last: Moment, moment: Moment) -> bool
 }
 
 impl<D: Timed> Expiry<D> {
-    ghost use Rattle.coord_server.specs.Ticks.{IsRound, Began};
+    ghost use Rattle.coord_server.specs.Ticks.{IsRound};
 
     /// An expiry worker before its first round.
     pub fn new(desk: D, ticks: Interval) -> Expiry<D>
@@ -77,7 +77,8 @@ impl<D: Timed> Expiry<D> {
 
 impl<D: Timed> Future for Expiry<D> {
     ghost use Rattle.coord_server.specs.Ticks.{IsRound};
-    ghost use Rattle.std.specs.Prelude.{Err, ⊤};
+    ghost use Rattle.std.specs.Prelude.{ℕ, Result, ⊤};
+    ghost use Rattle.coord_server.specs.declared.fault.ServerFault.{ServerFault};
 
     type Output = Result<u64, ServerFault>;
 
@@ -93,7 +94,7 @@ impl<D: Timed> Future for Expiry<D> {
             ⊎ (self.new ≡ record self.old { ticks = self.new.ticks }) × (interval_delay self.new.ticks ≡ interval_delay self.old.ticks)) }
         ensures value { IfReady result IsErr }
         ensures again { OnPending result ⊤ }
-        ensures same { OnPending result ((r : _) → IsErr r → IsErr r) }
+        ensures same { OnPending result ((r : Result ℕ ServerFault) → IsErr r → IsErr r) }
         ensures registered { OnPending result (Covers cx.new (λ source. source ≡ sleep_source (interval_delay self.new.ticks))) }
         ensures kept { Keeps cx.old cx.new }
     {

@@ -29,7 +29,7 @@ pub use acceptor::Acceptor;
 pub use arrivals::Arrivals;
 pub use bell::Bell;
 pub use clock::ClockMoments;
-pub use connection::Connection;
+pub use connection::{Connection, SocketReader, SocketWriter};
 pub use coord_shards::{AlwaysOpen, Gate, Image, Moment, Shards, Stamp};
 pub use desk::ShardsDesk;
 pub use entrance::{Accepted, Entrance, Incoming, Watch};

@@ -21,7 +21,7 @@ use crate::works::Works;
 use coord_shards::{Gate, Shards};
 use futures::Future;
 use futures::future::{Abortable, abortable};
-use link_futures::{Desk, Moments};
+use link_futures::{Desk, Moments, ReadPart, WriteParts};
 use std::alloc::AllocGlobal;
 use std::io;
 use std::net::{Net, TcpListener};
@@ -59,7 +59,7 @@ where
 }
 
 /// Serves connections over shards, until so many have ended as the plan says. Gives their number.
-pub fn serve<A, C, G, M, R, S, K, F>(
+pub fn serve<A, C, G, M, R, S, K, I, O, F>(
     rt: &R,
     shards: &Shards<A, C, G>,
     incoming: S,
@@ -74,7 +74,9 @@ where
     M: Moments + Clone + Send,
     R: Wait + Threads + Clock + Net + RandomSource + AllocGlobal + Sync,
     S: Incoming<K>,
-    K: Connection + Send,
+    K: Connection<I, O> + Send,
+    I: ReadPart + Send,
+    O: WriteParts + Send,
     F: FnOnce() -> io::Result<()>,
     requires workers { 0 < plan.workers }
     requires announce { F.pre announce }
@@ -86,7 +88,7 @@ where
 }
 
 /// Serves connections with a worker at each of the desks, and lets the time of the shards of the clocks' desks go on.
-fn serve_from<D, R, S, K, F>(
+fn serve_from<D, R, S, K, I, O, F>(
     rt: &R,
     plan: Plan,
     desks: Vec<D>,
@@ -98,7 +100,9 @@ where
     D: Desk + Timed + Send,
     R: Wait + Threads + Clock + Net + RandomSource + AllocGlobal + Sync,
     S: Incoming<K>,
-    K: Connection + Send,
+    K: Connection<I, O> + Send,
+    I: ReadPart + Send,
+    O: WriteParts + Send,
     F: FnOnce() -> io::Result<()>,
     requires workers { 0 < plan.workers }
     requires all { (vec_len desks ≡ plan.workers) × (vec_len clocks ≡ clock_count plan.expires) }
@@ -154,16 +158,18 @@ where
 }
 
 /// The ways of connections to the workers at these desks, in their order, and their loops.
-fn workers_of<'a, D, R, K>(
+fn workers_of<'a, D, R, K, I, O>(
     rt: &R,
     desks: Vec<D>,
     bell: &'a Bell,
     stops: &mut Stops,
-) -> Result<(Vec<Post<K>>, Vec<OwnLoop<'a, Abortable<Works<K, D>>>>), ServerFault>
+) -> Result<(Vec<Post<K>>, Vec<OwnLoop<'a, Abortable<Works<K, I, O, D>>>>), ServerFault>
 where
     D: Desk,
     R: Clock + Net + RandomSource + AllocGlobal,
-    K: Connection,
+    K: Connection<I, O>,
+    I: ReadPart,
+    O: WriteParts,
     ensures posts { IfOk result (λ made. vec_len made.0 ≡ vec_len desks) }
     ensures placed { IfOk result (λ made. ArePosts (vec_len desks) made.0.items) }
     ensures loops { IfOk result (λ made. vec_len made.1 ≡ vec_len desks) }
@@ -180,18 +186,20 @@ where
 }
 
 /// The way of connections to the worker with this number, of so many, at a desk, and its loop.
-fn worker_of<'a, D, R, K>(
+fn worker_of<'a, D, R, K, I, O>(
     rt: &R,
     desk: D,
     worker: usize,
     workers: usize,
     bell: &'a Bell,
     stops: &mut Stops,
-) -> Result<(Post<K>, OwnLoop<'a, Abortable<Works<K, D>>>), ServerFault>
+) -> Result<(Post<K>, OwnLoop<'a, Abortable<Works<K, I, O, D>>>), ServerFault>
 where
     D: Desk,
     R: Clock + Net + RandomSource + AllocGlobal,
-    K: Connection,
+    K: Connection<I, O>,
+    I: ReadPart,
+    O: WriteParts,
     ensures { IfOk result (λ made. (made.0.worker ≡ worker) × (made.0.workers ≡ workers)) }
 {
     let runtime = LocalRuntime::new(rt)?;

@@ -62,9 +62,10 @@ where
         thread::scope_env(),
         rt,
         move |scope| -> Result<u64, ServerFault>
-            requires { All (λ own. B.can_poll own.future) workers.items
-                × All (λ own. E.can_poll own.future) clocks.items
-                × (vec_len workers ≡ plan.workers) × (vec_len clocks ≡ clock_count plan.expires) × F.pre announce }
+            requires workers { All (λ own. B.can_poll own.future) workers.items }
+            requires clocks { All (λ own. E.can_poll own.future) clocks.items }
+            requires all { (vec_len workers ≡ plan.workers) × (vec_len clocks ≡ clock_count plan.expires) }
+            requires announce { F.pre announce }
             ensures { IfOk result (λ accepted. accepted ≡ acceptor.entry.most) }
         {
             let workers = start_all(rt, scope, workers)?;

@@ -6,18 +6,18 @@ use crate::connection::Connection;
 use crate::fault::ServerFault;
 use futures::Future;
 use futures::task::{Context, Poll};
-use link_futures::{Desk, Worker};
+use link_futures::{Desk, ReadPart, Worker, WriteParts};
 use std::alloc::Global;
 
 /// A worker over the lines that arrive, and its desk. It has no faults: its lines end with theirs.
 #[derive(Drop)]
-pub struct Works<K: Connection, D> {
-    worker: Worker<Arrivals<K>, D>,
+pub struct Works<K: Connection<I, O>, I: ReadPart, O: WriteParts, D> {
+    worker: Worker<Arrivals<K, I, O>, D>,
 }
 
-impl<K: Connection, D: Desk> Works<K, D> {
+impl<K: Connection<I, O>, I: ReadPart, O: WriteParts, D: Desk> Works<K, I, O, D> {
     /// A worker with no lines.
-    pub fn new(alloc: Global, arrivals: Arrivals<K>, desk: D) -> Works<K, D>
+    pub fn new(alloc: Global, arrivals: Arrivals<K, I, O>, desk: D) -> Works<K, I, O, D>
         ensures { (result.worker.arrivals ≡ arrivals) × (result.worker.desk ≡ desk) }
     {
         Works {
@@ -26,7 +26,7 @@ impl<K: Connection, D: Desk> Works<K, D> {
     }
 }
 
-impl<K: Connection, D: Desk> Future for Works<K, D> {
+impl<K: Connection<I, O>, I: ReadPart, O: WriteParts, D: Desk> Future for Works<K, I, O, D> {
     type Output = Result<u64, ServerFault>;
 
     ghost gives = { λ _ r. IsOk r };

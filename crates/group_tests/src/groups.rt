@@ -82,9 +82,19 @@ impl Answers for Groups {
     /// What the steps are answered, and what the group then is.
     fn answer(&self, alloc: Global, question: &str, out: &mut String) -> Result<(), AllocError> {
         let (epoch, steps) = question.split_once("; ").unwrap_or((question, ""));
-        let mut told = new_told(alloc, self.hasher, number(epoch))?;
-        take_steps(alloc, &mut told, steps, out)
+        put_answer(alloc, self.hasher, number(epoch), steps, out)
     }
+}
+
+fn put_answer(
+    alloc: Global,
+    hasher: RandomState,
+    epoch: i32,
+    steps: &str,
+    out: &mut String,
+) -> Result<(), AllocError> {
+    let mut told = new_told(alloc, hasher, epoch)?;
+    take_steps(alloc, &mut told, steps, out)
 }
 
 fn take_steps(
@@ -174,9 +184,17 @@ fn beat(
     out: &mut String,
 ) -> Result<(), AllocError> {
     let request = request_of(alloc, verb, words)?;
+    send(alloc, told, &request, out)
+}
+
+fn send(
+    alloc: Global,
+    told: &mut Told,
+    request: &HeartbeatRequest<'_>,
+    out: &mut String,
+) -> Result<(), AllocError> {
     let mut frame = Vec::new(alloc);
-    let outcome = heartbeat(alloc, told, &request, &mut frame, out)?;
-    part_words(out)?;
+    let outcome = heartbeat(alloc, told, request, &mut frame, out)?;
     tell_outcome(&outcome, out)
 }
 
@@ -187,79 +205,78 @@ fn request_of<'a>(
     words: &'a str,
 ) -> Result<HeartbeatRequest<'a>, AllocError> {
     let (id, words) = cut(words);
-    let empty = empty_request(alloc, if id == "-" { "" } else { id });
     let (first, second) = cut(words);
-    match verb {
-        "join" => Ok(HeartbeatRequest {
-            rebalance_timeout_ms: 60_000,
-            subscribed_topic_names: Some(names_of(alloc, first)?),
-            server_assignor: Some(second).filter(|name| !name.is_empty()),
-            ..empty
-        }),
-        "static" => Ok(HeartbeatRequest {
-            instance_id: Some(first),
-            rebalance_timeout_ms: 60_000,
-            subscribed_topic_names: Some(names_of(alloc, "t")?),
-            ..empty
-        }),
-        "away" => Ok(HeartbeatRequest {
-            member_epoch: -2,
-            instance_id: Some(first),
-            ..empty
-        }),
-        "beat" => Ok(HeartbeatRequest {
-            member_epoch: number(first),
-            topic_partitions: owned_of(alloc, second)?,
-            ..empty
-        }),
-        _ => Ok(HeartbeatRequest {
-            member_epoch: -1,
-            ..empty
-        }),
-    }
-}
-
-fn empty_request<'a>(alloc: Global, id: &'a str) -> HeartbeatRequest<'a> {
-    HeartbeatRequest {
+    let names = names_of(alloc, verb, first)?;
+    let owned = owned_of(alloc, verb, second)?;
+    Ok(HeartbeatRequest {
         group_id: "g",
-        member_id: id,
-        member_epoch: 0,
-        instance_id: None,
+        member_id: word_if(id != "-", id).unwrap_or(""),
+        member_epoch: epoch_of(verb, first),
+        instance_id: word_if(verb == "static" || verb == "away", first),
         rack_id: None,
-        rebalance_timeout_ms: -1,
-        subscribed_topic_names: None,
-        server_assignor: None,
-        topic_partitions: None,
+        rebalance_timeout_ms: if names.is_some() { 60_000 } else { -1 },
+        subscribed_topic_names: names,
+        server_assignor: word_if(verb == "join" && !second.is_empty(), second),
+        topic_partitions: owned,
         tags: TaggedFields::new(alloc),
+    })
+}
+
+fn word_if(is_said: bool, word: &str) -> Option<&str> {
+    if is_said { Some(word) } else { None }
+}
+
+fn epoch_of(verb: &str, word: &str) -> i32 {
+    match verb {
+        "join" | "static" => 0,
+        "away" => -2,
+        "leave" => -1,
+        _ => number(word),
     }
 }
 
-fn names_of<'a>(alloc: Global, words: &'a str) -> Result<Array<&'a str>, AllocError> {
+/// The names of a join; that of a static member says `t`.
+fn names_of<'a>(
+    alloc: Global,
+    verb: &str,
+    words: &'a str,
+) -> Result<Option<Array<&'a str>>, AllocError> {
+    let words = match verb {
+        "join" => words,
+        "static" => "t",
+        _ => return Ok(None),
+    };
     let mut names = Array::new(alloc);
     for name in words.split(',').filter(|name| *name != "-") {
         names.push(name)?;
     }
-    Ok(names)
+    Ok(Some(names))
 }
 
+/// What a heartbeat reports.
 fn owned_of<'a>(
     alloc: Global,
+    verb: &str,
     words: &str,
 ) -> Result<Option<Array<TopicPartitions<'a>>>, AllocError> {
-    if words == "null" {
+    if verb != "beat" || words == "null" {
         return Ok(None);
-    }
-    let mut partitions = Array::new(alloc);
-    for index in words.split(',').filter(|index| *index != "-") {
-        partitions.push(number(index))?;
     }
     let mut list = Array::new(alloc);
     list.push(TopicPartitions {
         topic_id: topic_id(),
-        partitions,
+        partitions: indexes_of(alloc, words)?,
         tags: TaggedFields::new(alloc),
     })?;
     Ok(Some(list))
+}
+
+fn indexes_of(alloc: Global, words: &str) -> Result<Array<i32>, AllocError> {
+    let mut indexes = Array::new(alloc);
+    for index in words.split(',').filter(|index| *index != "-") {
+        indexes.push(number(index))?;
+    }
+    Ok(indexes)
 }
 
 /// What the group answers. Where a growth is refused nothing may have changed, and the heartbeat is sent once more.
@@ -298,6 +315,7 @@ fn numbers_of(group: &Group) -> (u32, u32, usize) {
 }
 
 fn tell_outcome(outcome: &Outcome<'_>, out: &mut String) -> Result<(), AllocError> {
+    part_words(out)?;
     match outcome {
         Outcome::Closes => out.push_str("closes"),
         Outcome::Replied(reply) => tell_reply(reply, out),

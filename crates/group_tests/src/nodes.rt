@@ -198,14 +198,24 @@ fn take_steps(
     wrong: &mut String,
 ) -> Result<(), AllocError> {
     let mut node = node_over(alloc, hasher)?;
+    send_all(alloc, &mut node, steps, refused, wrong)
+}
+
+fn send_all(
+    alloc: Global,
+    node: &mut Node,
+    steps: &[Step],
+    refused: Refused,
+    wrong: &mut String,
+) -> Result<(), AllocError> {
     let mut ends: &[u64] = &[];
     for step in steps {
-        if !is_taken(alloc, &mut node, step, refused, wrong)? {
+        if !is_taken(alloc, node, step, refused, wrong)? {
             break;
         }
         ends = step.ends;
     }
-    pass_time(&mut node, ends, wrong)
+    pass_time(node, ends, wrong)
 }
 
 /// Lets time pass: a member is removed where its session ends, and not before, and then none is left.
@@ -240,17 +250,28 @@ fn is_taken(
     wrong: &mut String,
 ) -> Result<bool, AllocError> {
     let frame = frame_in(alloc, step)?;
-    let reply = bytes_of(alloc, step.reply)?;
     let mut out = Vec::new(alloc);
     if !is_answered(alloc, node, &frame, refused, &mut out, wrong)? {
         return Ok(false);
     }
-    if out.as_slice() != reply.as_slice() {
-        write!(wrong, "{}: ", step.name)?;
-        put_hex(wrong, out.as_slice())?;
-        wrong.push('\n')?;
-    }
+    look_at_reply(alloc, step, out.as_slice(), wrong)?;
     Ok(true)
+}
+
+/// Tells a reply that isn't the one that is wanted.
+fn look_at_reply(
+    alloc: Global,
+    step: &Step,
+    out: &[u8],
+    wrong: &mut String,
+) -> Result<(), AllocError> {
+    let reply = bytes_of(alloc, step.reply)?;
+    if out == reply.as_slice() {
+        return Ok(());
+    }
+    write!(wrong, "{}: ", step.name)?;
+    put_hex(wrong, out)?;
+    wrong.push('\n')
 }
 
 /// A frame without its size, and the stamp and the moment with which it comes.
@@ -361,9 +382,14 @@ fn padded_join(alloc: Global) -> Result<Vec<u8>, AllocError> {
     Ok(body)
 }
 
-/// What a new node appends for a body. Where a growth is refused the body comes once more.
+/// What a new node appends for a body.
 fn replies(alloc: Global, hasher: RandomState, body: &[u8]) -> Result<Vec<u8>, AllocError> {
     let mut node = node_over(alloc, hasher)?;
+    reply(alloc, &mut node, body)
+}
+
+/// What a node appends for a body. Where a growth is refused the body comes once more.
+fn reply(alloc: Global, node: &mut Node, body: &[u8]) -> Result<Vec<u8>, AllocError> {
     let (stamp, now) = (stamp(1), Moment::of_millis(0));
     let mut out = Vec::new(alloc);
     if node.answer(alloc, body, stamp, now, &mut out).is_err() {
@@ -380,21 +406,32 @@ fn events_are_taken_in_their_order(rt: HostRuntime) -> Result<(), Fail> {
     Ok(())
 }
 
-/// Whether a node takes all events, appends both replies, and remembers the first member alone of those that are asked for. Where a
-/// growth is refused it takes up again what is left.
+/// Whether a node takes all events, appends both replies, and remembers the first member alone of those that are asked for.
 fn are_taken(alloc: Global, hasher: RandomState) -> Result<bool, AllocError> {
-    let mut events = events(alloc)?;
     let mut node = Node::new(alloc, 0, hasher);
+    let is_answered = answers_both(alloc, &mut node);
+    Ok(
+        is_answered?
+            && node.remembers("g", IDS[0])
+            && !node.remembers("g", "x")
+            && !node.remembers("h", IDS[0]),
+    )
+}
+
+fn answers_both(alloc: Global, node: &mut Node) -> Result<bool, AllocError> {
+    let out = run(alloc, node)?;
+    let (first, second) = (frame_of(alloc, JOINED)?, frame_of(alloc, JOINED_SECOND)?);
+    Ok(out.as_slice().strip_prefix(first.as_slice()) == Some(second.as_slice()))
+}
+
+/// What a node appends for the events. Where a growth is refused it takes up again what is left.
+fn run(alloc: Global, node: &mut Node) -> Result<Vec<u8>, AllocError> {
+    let mut events = events(alloc)?;
     let mut out = Vec::new(alloc);
     if node.run(alloc, &mut events, &mut out).is_err() {
         node.run(alloc, &mut events, &mut out)?;
     }
-    let mut both = frame_of(alloc, JOINED)?;
-    both.extend_from_slice(frame_of(alloc, JOINED_SECOND)?.as_slice())?;
-    let is_known = node.remembers("g", IDS[0])
-        && !node.remembers("g", "x")
-        && !node.remembers("h", IDS[0]);
-    Ok(is_known && events.is_empty() && out == both)
+    Ok(out)
 }
 
 /// The image of topic `t` of two partitions, and then a join twice.

@@ -60,12 +60,21 @@ impl Answers for Commits {
     /// The codes of the commits, and what is then committed.
     fn answer(&self, alloc: Global, question: &str, out: &mut String) -> Result<(), AllocError> {
         let mut kept = nothing_committed(alloc, self.hasher)?;
-        for words in question.split("; ") {
-            put_commit(alloc, &mut kept, words, out)?;
-        }
-        out.push_str(" |")?;
-        tell_offsets(&kept.offsets, out)
+        put_commits(alloc, &mut kept, question, out)
     }
+}
+
+fn put_commits(
+    alloc: Global,
+    kept: &mut Kept,
+    question: &str,
+    out: &mut String,
+) -> Result<(), AllocError> {
+    for words in question.split("; ") {
+        put_commit(alloc, kept, words, out)?;
+    }
+    out.push_str(" |")?;
+    tell_offsets(&kept.offsets, out)
 }
 
 fn put_commit(

@@ -170,18 +170,29 @@ impl Streaming {
     /// Tells how a session ends, and what it has written.
     fn tell_session(&self, session: Polled, out: &mut String) -> Result<(), AllocError> {
         let mut session = session;
-        put_end(last_turn(&self.task, &mut session), out)?;
+        let end = last_turn(&self.task, &mut session);
         let (line, _) = session.into_parts();
-        put_words(line.writer().inner().taken(), &self.replies, out)
+        self.tell_end(end, line.writer().inner().taken(), out)
+    }
+
+    fn tell_end(
+        &self,
+        end: Option<End>,
+        written: &[u8],
+        out: &mut String,
+    ) -> Result<(), AllocError> {
+        match end {
+            Some(end) => write!(out, "{end:?}")?,
+            None => out.push_str("no end")?,
+        }
+        put_words(written, &self.replies, out)
     }
 
     fn tell_held(&self, alloc: Global, words: &str, out: &mut String) -> Result<(), AllocError> {
         let (turns, words) = cut(words);
         let mut session = self.session_of(alloc, words)?;
         for _ in 0..number::<u32>(turns) {
-            if let Poll::Ready(end) = turn(&self.task, &mut session) {
-                write!(out, "{end:?} ")?;
-            }
+            let _ = turn(&self.task, &mut session);
         }
         let (line, desk) = session.into_parts();
         let written = line.writer().inner().taken().len();
@@ -192,31 +203,14 @@ impl Streaming {
     /// Tells what a worker's lines have written. A line that finds no memory is let go, and is no line that has ended: then the row
     /// is asked again.
     fn tell_worker(&self, alloc: Global, words: &str, out: &mut String) -> Result<(), AllocError> {
-        let (mut lines, mut far_ends) = (Vec::new(alloc), Vec::new(alloc));
-        for words in words.split("; ") {
-            let (line, far) = self.piped_line(alloc, words)?;
-            lines.push(line)?;
-            far_ends.push(far)?;
-        }
+        let (lines, far_ends) = self.piped_lines(alloc, words)?;
         let wanted = lines.len() as u64;
-        let ended = ended_within(alloc, &self.task, lines, self.desk(alloc)?, 1_000);
+        let ended = self.ended_within(alloc, lines, 1_000)?;
         if ended != Some(wanted) {
             return Err(AllocError);
         }
         write!(out, "{wanted}")?;
         self.tell_written(alloc, far_ends, out)
-    }
-
-    /// A line that writes into a pipe, and the other end of the pipe.
-    fn piped_line(
-        &self,
-        alloc: Global,
-        words: &str,
-    ) -> Result<(FedLine<Counted<DuplexStream>>, DuplexStream), AllocError> {
-        let (reads, words) = cut(words);
-        let reader = Counted::new(feed(alloc, reads, words, &self.requests)?);
-        let (near, far) = duplex(alloc, PIPE)?;
-        Ok((Line::new(alloc, 1, reader, Counted::new(near)), far))
     }
 
     fn tell_written(
@@ -237,10 +231,48 @@ impl Streaming {
         let (polls, words) = cut(words);
         let mut lines = Vec::new(alloc);
         lines.push(self.line_of(alloc, words)?)?;
-        match ended_within(alloc, &self.task, lines, self.desk(alloc)?, number(polls)) {
+        match self.ended_within(alloc, lines, number(polls))? {
             Some(ended) => write!(out, "{ended}"),
             None => out.push_str("no end"),
         }
+    }
+
+    /// How many of these lines have ended once their worker is ready, if it is within so many polls.
+    fn ended_within<W: WriteParts>(
+        &self,
+        alloc: Global,
+        lines: Vec<FedLine<W>>,
+        polls: usize,
+    ) -> Result<Option<u64>, AllocError> {
+        let worker = Worker::new(alloc, stream::iter(lines), self.desk(alloc)?);
+        Ok(output_within(&self.task, worker, polls))
+    }
+
+    /// Lines that write into pipes, and the other ends of the pipes.
+    fn piped_lines(
+        &self,
+        alloc: Global,
+        words: &str,
+    ) -> Result<(Vec<FedLine<Counted<DuplexStream>>>, Vec<DuplexStream>), AllocError> {
+        let (mut lines, mut far_ends) = (Vec::new(alloc), Vec::new(alloc));
+        for words in words.split("; ") {
+            let (line, far) = self.piped_line(alloc, words)?;
+            lines.push(line)?;
+            far_ends.push(far)?;
+        }
+        Ok((lines, far_ends))
+    }
+
+    /// A line that writes into a pipe, and the other end of the pipe.
+    fn piped_line(
+        &self,
+        alloc: Global,
+        words: &str,
+    ) -> Result<(FedLine<Counted<DuplexStream>>, DuplexStream), AllocError> {
+        let (reads, words) = cut(words);
+        let reader = Counted::new(feed(alloc, reads, words, &self.requests)?);
+        let (near, far) = duplex(alloc, PIPE)?;
+        Ok((Line::new(alloc, 1, reader, Counted::new(near)), far))
     }
 
     /// The session of a question, over a node with a topic `t` of two partitions.
@@ -297,25 +329,6 @@ fn turn(task: &MockTask, session: &mut Polled) -> Poll<End> {
         Poll::Ready(End::NoMemory) => task.poll(session),
         polled => polled,
     }
-}
-
-fn put_end(end: Option<End>, out: &mut String) -> Result<(), AllocError> {
-    match end {
-        Some(end) => write!(out, "{end:?}"),
-        None => out.push_str("no end"),
-    }
-}
-
-/// How many of these lines have ended once their worker is ready, if it is within so many polls.
-fn ended_within<W: WriteParts>(
-    alloc: Global,
-    task: &MockTask,
-    lines: Vec<FedLine<W>>,
-    desk: Solo<Still>,
-    polls: usize,
-) -> Option<u64> {
-    let worker = Worker::new(alloc, stream::iter(lines), desk);
-    output_within(task, worker, polls)
 }
 
 /// The numbers that reports use for the ends.

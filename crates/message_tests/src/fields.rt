@@ -145,18 +145,24 @@ fn take(alloc: Global, field: &str, value: &str, out: &mut String) -> Result<(),
 
 fn take_from(alloc: Global, field: &str, bytes: &[u8], out: &mut String) -> Result<(), AllocError> {
     match field {
-        "varint" => tell(take_varint(bytes), out),
         "compact_string" => tell(take_compact_str(bytes), out),
         "nullable_string" => tell(take_nullable_str(bytes), out),
         "old_string" => tell(take_old_str(bytes), out),
-        "count" => tell(take_count(bytes), out),
-        "nullable_count" => tell(take_nullable_count(bytes), out),
         "mark" => tell(take_mark(bytes), out),
         "uuid" => take_uuid_from(bytes, out),
+        "tags" => take_tags_from(alloc, bytes, out),
+        _ => take_number(field, bytes, out),
+    }
+}
+
+fn take_number(field: &str, bytes: &[u8], out: &mut String) -> Result<(), AllocError> {
+    match field {
+        "varint" => tell(take_varint(bytes), out),
+        "count" => tell(take_count(bytes), out),
+        "nullable_count" => tell(take_nullable_count(bytes), out),
         "i16" => tell(take_i16(bytes), out),
         "i32" => tell(take_i32(bytes), out),
-        "i64" => tell(take_i64(bytes), out),
-        _ => take_tags_from(alloc, bytes, out),
+        _ => tell(take_i64(bytes), out),
     }
 }
 

@@ -139,25 +139,32 @@ fn tell_body(
     tell_read(alloc, call, body.as_slice(), out)
 }
 
+/// Bodies and their names.
+const BODIES: [(&str, &str); 14] = [
+    ("join", frames::JOIN),
+    ("steady", frames::STRANGER),
+    ("full_heartbeat", bodies::FULL_HEARTBEAT),
+    ("unnamed", bodies::UNNAMED),
+    ("commit", frames::COMMIT),
+    ("full_commit", bodies::FULL_COMMIT),
+    ("granted", frames::JOINED),
+    ("granted_nothing", frames::JOINED_SECOND),
+    ("unknown_member", frames::UNKNOWN),
+    ("full_heartbeat_reply", bodies::FULL_HEARTBEAT_REPLY),
+    ("taken", frames::TAKEN),
+    ("full_commit_reply", bodies::FULL_COMMIT_REPLY),
+    ("-", ""),
+    ("one_byte", "00"),
+];
+
 /// The text of a body that has a name; else the word itself.
-fn text_of(name: &str) -> &str {
-    match name {
-        "join" => frames::JOIN,
-        "steady" => frames::STRANGER,
-        "full_heartbeat" => bodies::FULL_HEARTBEAT,
-        "unnamed" => bodies::UNNAMED,
-        "commit" => frames::COMMIT,
-        "full_commit" => bodies::FULL_COMMIT,
-        "granted" => frames::JOINED,
-        "granted_nothing" => frames::JOINED_SECOND,
-        "unknown_member" => frames::UNKNOWN,
-        "full_heartbeat_reply" => bodies::FULL_HEARTBEAT_REPLY,
-        "taken" => frames::TAKEN,
-        "full_commit_reply" => bodies::FULL_COMMIT_REPLY,
-        "-" => "",
-        "one_byte" => "00",
-        word => word,
+fn text_of(word: &str) -> &str {
+    for (name, text) in BODIES {
+        if name == word {
+            return text;
+        }
     }
+    word
 }
 
 /// Puts other bytes in place of those from a place on, and the last of them behind the end.

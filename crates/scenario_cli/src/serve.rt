@@ -1,10 +1,10 @@
 //! `coord serve`: the server over sockets of this machine.
-ghost use Rattle.std.specs.Prelude.{◌≡◌, ◌+◌, ◌≤◌, ◌<◌, IfOk};
+ghost use Rattle.std.specs.Prelude.{◌≡◌, ◌+◌, ◌≤◌, ◌<◌, true, IfOk};
 
-use crate::service::Service;
 use coord_server::{
-    AlwaysOpen, ClockMoments, Moments, ServerFault, Shards, ShardsDesk, serve_sockets,
+    AlwaysOpen, ClockMoments, Moments, Plan, ServerFault, Shards, ShardsDesk, serve_sockets,
 };
+use scenario_lines::service::Service;
 use std::alloc::{AllocGlobal, Global};
 use std::collections::hash_map::RandomState;
 use std::io;
@@ -59,7 +59,7 @@ where
     }
 }
 
-/// Listens on a port of 127.0.0.1, prints that it does, serves the connections, and prints how many there were.
+/// Listens on a port of 127.0.0.1, prints so once it serves, serves the connections, and prints how many there were.
 fn serve_port<R, W: Write>(rt: &R, service: Service, writer: &mut W) -> Result<(), ServeFault>
 where
     R: Wait
@@ -71,28 +71,51 @@ where
         + Sync,
 {
     let keys = RandomState::new(rt).map_err(ServeFault::Keys)?;
-    let (port, shards) = (service.port, service.shards);
-    let socket = match TcpListener::bind(rt, (Ipv4Addr::LOCALHOST, port)) {
-        Ok(socket) => socket,
-        Err(error) => return Err(ServeFault::Port(port, error)),
-    };
-    let moments = match ClockMoments::start(rt) {
-        Ok(moments) => moments,
-        Err(error) => return Err(ServeFault::Clock(error)),
-    };
-    let salt = moments.first().millis();
-    let (entries, calls) = (Blank::new(shards as u64), Blank::new(SEATS + shards as u64));
-    let announce = || print(writer, "listening", u64::from(port));
-    let served = serve_over::<Brand, Brand, _, R, _>(
-        rt, service, keys, salt, socket, &moments, entries, calls, announce,
-    )?;
+    let socket = listen(rt, service.port)?;
+    let moments = ClockMoments::start(rt).map_err(ServeFault::Clock)?;
+    let port = u64::from(service.port);
+    let announce = || print(writer, "listening", port);
+    let served = serve_socket(rt, &service, keys, socket, &moments, announce)?;
     Ok(print(writer, "served", served)?)
+}
+
+/// Listens on a port of 127.0.0.1.
+fn listen<R>(rt: &R, port: u16) -> Result<TcpListener, ServeFault>
+where
+    R: Net<Listener = TcpListener, Stream = TcpStream>,
+{
+    match TcpListener::bind(rt, (Ipv4Addr::LOCALHOST, port)) {
+        Ok(socket) => Ok(socket),
+        Err(error) => Err(ServeFault::Port(port, error)),
+    }
+}
+
+/// Serves the connections of a socket over new shards, whose salt is the first moment. Gives their number.
+fn serve_socket<R, F>(
+    rt: &R,
+    service: &Service,
+    keys: RandomState,
+    socket: TcpListener,
+    moments: &ClockMoments<'_, R>,
+    announce: F,
+) -> Result<u64, ServerFault>
+where
+    R: Wait + Threads + Clock + Net + RandomSource + AllocGlobal + Sync,
+    F: FnOnce() -> io::Result<()>,
+    requires { F.pre announce }
+    ensures { IfOk result (λ served. served ≡ service.now.connections) }
+{
+    let (salt, shards) = (moments.first().millis(), service.shards as u64);
+    let (entries, calls) = (Blank::new(shards), Blank::new(SEATS + shards));
+    serve_over::<Brand, Brand, _, R, _>(
+        rt, service, keys, salt, socket, moments, entries, calls, announce,
+    )
 }
 
 /// Serves the connections of a socket over new shards with a salt. Gives their number.
 fn serve_over<A, C, M, R, F>(
     rt: &R,
-    service: Service,
+    service: &Service,
     keys: RandomState,
     salt: u64,
     socket: TcpListener,
@@ -108,13 +131,26 @@ where
     R: Wait + Threads + Clock + Net + RandomSource + AllocGlobal + Sync,
     F: FnOnce() -> io::Result<()>,
     requires announce { F.pre announce }
-    requires entries { (entries.name ≡ A.name) × (entries.parts ≡ A.parts) × (entries.parts ≡ service.shards) }
-    requires calls { (calls.name ≡ C.name) × (calls.parts ≡ C.parts) × (calls.parts ≡ 256 + service.shards) }
-    ensures { IfOk result (λ served. served ≡ service.connections) }
+    requires entries { (entries.name ≡ A.name) × (entries.parts ≡ A.parts) × (entries.parts ≡ service.now.shards) }
+    requires calls { (calls.name ≡ C.name) × (calls.parts ≡ C.parts) × (calls.parts ≡ 256 + service.now.shards) }
+    ensures { IfOk result (λ served. served ≡ service.now.connections) }
 {
     let shards = shards_of::<A, C>(rt.alloc(), service.shards, salt, keys, entries, calls)?;
     set_image(rt, &shards, moments.clone()?, &service.image)?;
-    serve_sockets(rt, &shards, socket, moments, service.plan(), announce)
+    serve_sockets(rt, &shards, socket, moments, plan_of(service), announce)
+}
+
+/// How large the server is: as many workers and connections as are asked for, and an expiry worker.
+fn plan_of(service: &Service) -> Plan
+    ensures workers { result.workers ≡ service.now.workers }
+    ensures connections { result.connections ≡ service.now.connections }
+    ensures expires { result.expires ≡ true }
+{
+    Plan {
+        workers: service.workers,
+        connections: service.connections,
+        expires: true,
+    }
 }
 
 /// So many new shards with a salt, which keep no journals.
@@ -129,7 +165,7 @@ fn shards_of<A, C>(
 where
     A: Ledger,
     C: Ledger,
-    requires entries { (entries.name ≡ A.name) × (entries.parts ≡ A.parts) }
+    requires entries { (entries.name ≡ A.name) × (entries.parts ≡ A.parts) × (entries.parts ≡ shards) }
     requires calls { (calls.name ≡ C.name) × (calls.parts ≡ C.parts) × (calls.parts ≡ 256 + shards) }
     ensures { IfOk result (λ made. made ≡ record { shards = shards; salt = salt; cap = 0 }) }
 {

@@ -15,12 +15,13 @@ from broker.acceptor import Work, listen, port_of
 from broker.cluster import Cluster, Node
 from broker.command_line import EMBEDDED, Options, Place, parse
 from broker.embedded import Embedded
-from broker.link import Coordinator, say
+from broker.link import Coordinator
 from broker.log import Log
 from broker.offsets import Offsets
 from broker.relay import serve_node
 from broker.status import Status
 from broker.watch import Watch
+from broker.words import say
 
 HOST = "127.0.0.1"
 # Each client's connection takes two files, the second to the coordinator.
@@ -40,7 +41,8 @@ def main(words: List[str]) -> int:
 def raise_file_limit() -> None:
     soft, hard = resource.getrlimit(resource.RLIMIT_NOFILE)
     wanted = WANTED_FILES if hard == resource.RLIM_INFINITY else min(WANTED_FILES, hard)
-    resource.setrlimit(resource.RLIMIT_NOFILE, (max(soft, wanted), hard))
+    if soft != resource.RLIM_INFINITY and soft < wanted:
+        resource.setrlimit(resource.RLIMIT_NOFILE, (wanted, hard))
 
 
 async def until_signalled(options: Options) -> int:
@@ -59,7 +61,7 @@ def teller(stop: Callable[[], object]) -> Callable[[str], None]:
     def tell(line: str) -> None:
         try:
             print(line, flush=True)
-        except BrokenPipeError:
+        except OSError:
             sys.stdout = open(os.devnull, "w", encoding="utf-8")
             stop()
 

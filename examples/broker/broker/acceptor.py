@@ -4,13 +4,15 @@ from __future__ import annotations
 
 import asyncio
 import socket
-from typing import Any, Awaitable, Callable, Coroutine, Optional, Set
+from typing import Any, Awaitable, Callable, Coroutine, Optional, Set, Tuple
 
-from broker.link import say
+from broker.words import say
 
 BACKLOG = 1024
 NO_FILES_SECONDS = 1.0
+END_SECONDS = 1.0
 Work = Coroutine[Any, Any, None]
+Address = Tuple[str, int]
 
 
 def listen(host: str, port: int) -> socket.socket:
@@ -24,7 +26,9 @@ def port_of(listener: socket.socket) -> int:
     return port
 
 
-async def accept(listener: socket.socket, most: int, prepare: Callable[[socket.socket], Awaitable[Optional[Work]]]) -> None:
+async def accept(
+    listener: socket.socket, most: int, prepare: Callable[[socket.socket, Address], Awaitable[Optional[Work]]]
+) -> None:
     """Accepts connections for ever. Each is prepared before the next is accepted; what that gives serves it. Where `most` are served, the
     next one waits unaccepted. When this is cancelled, all of them are."""
     room = asyncio.Semaphore(most)
@@ -39,7 +43,7 @@ async def accept(listener: socket.socket, most: int, prepare: Callable[[socket.s
             if room.locked():
                 say(f"{most} connections to port {port_of(listener)} are open: further ones wait")
             await room.acquire()
-            work = await prepare(await _accept_one(listener))
+            work = await prepare(*await _accept_one(listener))
             if work is None:
                 room.release()
                 continue
@@ -47,17 +51,22 @@ async def accept(listener: socket.socket, most: int, prepare: Callable[[socket.s
             serving.add(task)
             task.add_done_callback(ended)
     finally:
-        for task in serving:
-            task.cancel()
-        await asyncio.gather(*serving, return_exceptions=True)
+        # At the first cancellation a connection closes behind what was written to it, at the second at once.
+        for _ in range(2):
+            for task in serving:
+                task.cancel()
+            await _all_ended(serving)
 
 
-async def _accept_one(listener: socket.socket) -> socket.socket:
+async def _all_ended(tasks: Set[asyncio.Task[None]]) -> None:
+    if tasks:
+        await asyncio.wait(tasks, timeout=END_SECONDS)
+
+
+async def _accept_one(listener: socket.socket) -> Tuple[socket.socket, Address]:
     while True:
         try:
-            client, _ = await asyncio.get_running_loop().sock_accept(listener)
-            client.setblocking(False)
-            return client
+            return await asyncio.get_running_loop().sock_accept(listener)
         except OSError as why:
             say(f"no connection could be accepted: {why}")
             await asyncio.sleep(NO_FILES_SECONDS)

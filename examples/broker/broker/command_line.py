@@ -54,7 +54,9 @@ def parse(words: List[str]) -> Options:
         "--embedded", dest="places", action="append_const", const=EMBEDDED, help="has a coordinator in this process; may be repeated as well"
     )
     parser.add_argument("--library", default=str(LIBRARY), metavar="PATH", help="the library that --embedded loads, as tools/build-library makes it")
-    parser.add_argument("--program", default=str(LAUNCHER), metavar="PATH", help=f"the program coord that --start starts ({LAUNCHER.name}, its launcher)")
+    parser.add_argument(
+        "--program", default=str(LAUNCHER), metavar="PATH", help="the program coord that --start starts (the launcher of this repository)"
+    )
     parser.add_argument("--port", type=_port, required=True, help="clients' port of 127.0.0.1, the first of as many as brokers; 0 is a free one each")
     parser.add_argument("--status", type=_port, metavar="PORT", help="port of 127.0.0.1 for the page /, /groups and /metrics")
     parser.add_argument("--rate", type=_rate, default=2.0, metavar="R", help="records a second in each partition (%(default)g)")

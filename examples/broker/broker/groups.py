@@ -12,7 +12,7 @@ from typing import Dict, FrozenSet, Iterable, List, Optional
 from broker import codes
 from broker.heartbeats import AWAY, JOIN, LEAVE, Asked, Index, Told
 from broker.topics import Topics
-from broker.words import Partition, in_words, plain
+from broker.words import Partition, in_words, names_in_words, plain
 
 SESSION_SECONDS = 45.0
 MOST_GROUPS = 1_000
@@ -49,8 +49,9 @@ class Member:
 class Group:
     name: str
     members: Dict[str, Member] = dataclasses.field(default_factory=dict)
-    # Since when a rebalance is under way, or None.
+    # Since when a rebalance is under way, or None; and the epoch at which the group was last settled.
     since: Optional[float] = None
+    settled_epoch: int = 0
 
     def epoch(self) -> int:
         """The greatest epoch of a member that is known."""
@@ -64,9 +65,9 @@ class Group:
             return None
         subscribed = {topics.by_name[name] for member in members for name in member.names or () if name in topics.by_name}
         epochs = {member.epoch for member in members if not member.is_away}
-        assigned = sum(len(member.assigned or ()) for member in members)
+        assigned = NOTHING.union(*(member.assigned or NOTHING for member in members))
         is_held = all(member.held == member.assigned for member in members)
-        return len(epochs) < 2 and is_held and assigned == sum(topic.count for topic in subscribed)
+        return len(epochs) < 2 and is_held and len(assigned) == sum(topic.count for topic in subscribed)
 
 
 @dataclasses.dataclass
@@ -149,7 +150,8 @@ class Groups:
             self._remove(group, member.id)
             return self._change(group, member.id, member.epoch, ["leaves"], now)
         member.is_away, member.heard = True, now
-        return self._change(group, member.id, member.epoch, [f"goes away, and instance {plain(member.instance or '')} has 45 s to come back"], now)
+        phrase = f"goes away, and instance {plain(member.instance or '')} has {SESSION_SECONDS:.0f} s to come back"
+        return self._change(group, member.id, member.epoch, [phrase], now)
 
     def expire(self, now: float) -> List[Change]:
         """Removes the members that said nothing for a session's time, as the coordinator does."""
@@ -194,16 +196,13 @@ class Groups:
         return frozenset((topic.name, index) for topic, index in found if topic and topic.has(index))
 
     def _change(self, group: Group, member: str, epoch: int, phrases: List[str], now: float) -> Change:
-        """A change begins a rebalance where none is under way. It ends where all is as it is to be."""
+        """A change after which a group isn't settled begins a rebalance, where none is under way. One that moves nothing takes no time."""
         began = now if group.since is None else group.since
-        is_settled = group.is_settled(self.topics)
+        is_settled = group.is_settled(self.topics) if group.members else None
+        group.since = began if is_settled is False else None
         converged = None
-        if not group.members:
-            group.since = None
-        elif is_settled:
-            group.since, converged = None, now - began
-        else:
-            group.since = None if is_settled is None else began
+        if is_settled and (now > began or group.epoch() > group.settled_epoch):
+            converged, group.settled_epoch = now - began, group.epoch()
         return Change(group.name, member, epoch, phrases, converged)
 
 
@@ -215,7 +214,7 @@ def _phrases(former: Optional[Member], member: Member, asked: Asked) -> Iterable
     elif former is None:
         yield "is heard of for the first time"
     if before.names != member.names and member.names is not None:
-        yield f"subscribes {' '.join(sorted(member.names)) or 'no topic that is known here'}"
+        yield f"subscribes {names_in_words(sorted(member.names)) or 'no topic that is known here'}"
     yield from _moves(before, member, asked)
     if former is not None and former.epoch != member.epoch:
         yield f"was at epoch {former.epoch}"

@@ -3,11 +3,12 @@
 from __future__ import annotations
 
 import asyncio
-import contextlib
-import sys
+import socket
 from typing import Optional
 
 from broker.frames import BadFrame, framed, read_body
+from broker.streams import within
+from broker.words import say
 
 OPEN_SECONDS = 5
 ANSWER_SECONDS = 60
@@ -29,23 +30,29 @@ class Coordinator:
     def __str__(self) -> str:
         return f"{self.host}:{self.port}"
 
-    async def open(self) -> Optional[Link]:
+    async def connect(self) -> Optional[socket.socket]:
         """A new connection, or None where the coordinator can't be reached."""
+        connection = socket.socket()
+        connection.setblocking(False)
         try:
-            streams = await asyncio.wait_for(asyncio.open_connection(self.host, self.port), OPEN_SECONDS)
+            await within(OPEN_SECONDS, asyncio.get_running_loop().sock_connect(connection, (self.host, self.port)))
         except (OSError, asyncio.TimeoutError) as why:
-            if self.is_there is not False:
-                say(f"the coordinator {self} can't be reached, and clients' connections are closed: {why or 'it is silent'}")
-            self.is_there = False
+            connection.close()
+            self._was_not_there(str(why) or f"it hasn't answered for {OPEN_SECONDS} s")
             return None
         if self.is_there is False:
             say(f"the coordinator {self} is there again")
         self.is_there = True
-        return Link(*streams)
+        return connection
+
+    def _was_not_there(self, why: str) -> None:
+        if self.is_there is not False:
+            say(f"the coordinator {self} can't be reached, and clients' connections are closed: {why}")
+        self.is_there = False
 
 
 class Link:
-    """One connection to a coordinator. It always reads, so that it learns of its end; `arriving` is the next frame's body."""
+    """A connection to a coordinator. It always reads, so that it learns of its end; `arriving` is the next frame's body."""
 
     def __init__(self, reader: asyncio.StreamReader, writer: asyncio.StreamWriter) -> None:
         self._reader, self._writer = reader, writer
@@ -61,9 +68,8 @@ class Link:
         """Sends a request's body, framed, and gives the reply's. Raises CoordinatorClosed."""
         if self.arriving.done():
             raise CoordinatorClosed("the coordinator closed the connection")
-        with contextlib.suppress(OSError):
-            self._writer.write(framed(body))
-            await self._writer.drain()
+        # (Nothing else is under way, so no more than this one is ever buffered.)
+        self._writer.write(framed(body))
         await asyncio.wait({self.arriving}, timeout=ANSWER_SECONDS)
         if not self.arriving.done():
             raise CoordinatorClosed(f"the coordinator hasn't answered for {ANSWER_SECONDS} s")
@@ -73,13 +79,7 @@ class Link:
         self.arriving = asyncio.ensure_future(self._read())
         return reply
 
-    async def close(self) -> None:
+    def close(self) -> None:
+        """Closes it at once. (What was asked has been sent, unless the coordinator takes nothing any more.)"""
         self.arriving.cancel()
-        self._writer.close()
-        with contextlib.suppress(OSError):
-            await self._writer.wait_closed()
-
-
-def say(line: str) -> None:
-    """One line on standard error."""
-    print(f"broker: {line}", file=sys.stderr, flush=True)
+        self._writer.transport.abort()

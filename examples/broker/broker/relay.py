@@ -7,19 +7,20 @@ closes, the other is closed too, behind the replies before it.
 from __future__ import annotations
 
 import asyncio
-import contextlib
 import socket
 import time
 from typing import Optional
 
-from broker.acceptor import Work, accept
+from broker.acceptor import Address, Work, accept
 from broker.apis import ANSWERS
 from broker.call import Call
 from broker.cluster import Cluster, Node
 from broker.fields import Unreadable
 from broker.frames import BadFrame, framed, read_body, read_request
-from broker.link import CoordinatorClosed, Link, say
+from broker.link import CoordinatorClosed, Link
+from broker.streams import close, within
 from broker.watch import Watch
+from broker.words import say
 
 MOST_CONNECTIONS = 2_000
 # A client that says nothing for so long is disconnected, as is one that doesn't read its replies.
@@ -34,14 +35,31 @@ async def serve_node(cluster: Cluster, node: Node, watch: Watch, listener: socke
     opened in the order in which the clients' were accepted, one after the other.
     """
 
-    async def prepare(client: socket.socket) -> Optional[Work]:
-        link = await node.coordinator.open()
-        if link is None:
+    async def prepare(client: socket.socket, address: Address) -> Optional[Work]:
+        coordinator = await node.coordinator.connect()
+        if coordinator is None:
             client.close()
             return None
-        return Relay(cluster, node, watch, link).run(client)
+        return relay(cluster, node, watch, client, coordinator, address)
 
     await accept(listener, MOST_CONNECTIONS, prepare)
+
+
+async def relay(cluster: Cluster, node: Node, watch: Watch, client: socket.socket, coordinator: socket.socket, address: Address) -> None:
+    """Serves a client until either side closes. Says why, unless it was the client."""
+    link = Link(*await asyncio.open_connection(sock=coordinator))
+    reader, writer = await asyncio.open_connection(sock=client)
+    node.connections += 1
+    try:
+        await Relay(cluster, node, watch, link).serve(reader, writer)
+    except (BadFrame, Unreadable, Closed, CoordinatorClosed) as why:
+        say(f"closed the connection of {address[0]}:{address[1]}: {why}")
+    except OSError:
+        pass
+    finally:
+        node.connections -= 1
+        link.close()
+        await close(writer)
 
 
 class Closed(Exception):
@@ -52,31 +70,15 @@ class Relay:
     def __init__(self, cluster: Cluster, node: Node, watch: Watch, link: Link) -> None:
         self.cluster, self.node, self.watch, self.link = cluster, node, watch, link
 
-    async def run(self, client: socket.socket) -> None:
-        """Answers requests until either side closes. Says why, unless the client closed between two requests."""
-        reader, writer = await asyncio.open_connection(sock=client)
-        host, port = writer.get_extra_info("peername")
-        self.node.connections += 1
-        try:
-            await self._serve(reader, writer)
-        except (BadFrame, Unreadable, Closed, CoordinatorClosed) as why:
-            say(f"closed the connection of {host}:{port}: {why}")
-        except OSError:
-            pass
-        finally:
-            self.node.connections -= 1
-            await self.link.close()
-            writer.close()
-            with contextlib.suppress(OSError):
-                await writer.wait_closed()
-
-    async def _serve(self, reader: asyncio.StreamReader, writer: asyncio.StreamWriter) -> None:
+    async def serve(self, reader: asyncio.StreamReader, writer: asyncio.StreamWriter) -> None:
+        """Answers requests until the client closes. Raises where anything else ends the connection."""
         while True:
             body = await self._next(reader)
             if body is None:
                 return
             writer.write(framed(await self._answer(body)))
-            await _drain(writer)
+            if writer.transport.get_write_buffer_size():
+                await _drain(writer)
 
     async def _next(self, reader: asyncio.StreamReader) -> Optional[bytes]:
         """The next request's body, or None where the client has closed. Raises Closed where the coordinator has."""
@@ -106,7 +108,7 @@ class Relay:
 
 async def _drain(writer: asyncio.StreamWriter) -> None:
     try:
-        await asyncio.wait_for(writer.drain(), UNREAD_SECONDS)
+        await within(UNREAD_SECONDS, writer.drain())
     except asyncio.TimeoutError:
         writer.transport.abort()
         raise Closed(f"it read none of its replies for {UNREAD_SECONDS} s") from None

@@ -7,7 +7,7 @@ from typing import Any, Dict, Iterable, List, Tuple
 
 from broker.cluster import Cluster, Node
 from broker.groups import MOST_GROUPS, SESSION_SECONDS, Group, Member
-from broker.metrics import Labels, gauge
+from broker.metrics import Labels, gauge, head, line
 from broker.watch import Watch
 from broker.words import Partition, by_topic, ranges, short_id
 
@@ -86,7 +86,8 @@ def metrics(cluster: Cluster, watch: Watch) -> str:
         *gauge("broker_group_members", "Members of a group, as far as their heartbeats passed here.", members),
         *_one("broker_groups", "Groups with members.", len(known)),
         *_one("broker_groups_rebalancing", "Groups in which a rebalance is under way.", sum(it.since is not None for it in known)),
-        *_one("broker_unwatched_heartbeats", "Heartbeats of members that there was no room to know.", watch.groups.unwatched),
+        *head("broker_unwatched_heartbeats_total", "counter", "Heartbeats of members that there was no room to know."),
+        line("broker_unwatched_heartbeats_total", (), watch.groups.unwatched),
         *_one("broker_committed_offsets", "Offsets that are kept for OffsetFetch.", cluster.offsets.count),
         *gauge("broker_connections", "Clients' connections of a broker.", connections),
         *gauge("broker_coordinator_up", "Whether a coordinator could be reached when a client last connected.", there),

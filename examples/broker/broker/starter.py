@@ -8,6 +8,7 @@ import dataclasses
 import socket
 
 from broker.link import Coordinator
+from broker.streams import within
 from broker.topics import Topics
 
 HOST = "127.0.0.1"
@@ -39,7 +40,7 @@ class Started:
         with contextlib.suppress(ProcessLookupError):
             self.process.terminate()
         try:
-            await asyncio.wait_for(self.process.wait(), END_SECONDS)
+            await within(END_SECONDS, self.process.wait())
         except asyncio.TimeoutError:
             with contextlib.suppress(ProcessLookupError):
                 self.process.kill()

@@ -10,8 +10,9 @@ import time
 from typing import Dict, Tuple
 
 from broker import report
-from broker.acceptor import Work, accept
+from broker.acceptor import Address, Work, accept
 from broker.cluster import Cluster
+from broker.streams import close, within
 from broker.watch import Watch
 
 PAGE = pathlib.Path(__file__).with_name("page.html")
@@ -40,7 +41,7 @@ class Status:
     async def run(self, listener: socket.socket) -> None:
         """Serves for ever."""
 
-        async def prepare(client: socket.socket) -> Work:
+        async def prepare(client: socket.socket, _: Address) -> Work:
             return self._serve(client)
 
         await accept(listener, MOST_CONNECTIONS, prepare)
@@ -48,14 +49,14 @@ class Status:
     async def _serve(self, client: socket.socket) -> None:
         reader, writer = await asyncio.open_connection(sock=client)
         try:
-            await self._answer(await asyncio.wait_for(_path(reader), REQUEST_SECONDS), writer)
+            await self._answer(await within(REQUEST_SECONDS, _path(reader)), writer)
         except Refused as why:
             status = why.args[0]
             await _send(writer, _response(status, TEXT, f"{status} {REASONS[status]}\n".encode()))
         except (OSError, asyncio.TimeoutError, asyncio.IncompleteReadError):
             pass
         finally:
-            writer.close()
+            await close(writer)
 
     async def _answer(self, path: str, writer: asyncio.StreamWriter) -> None:
         if path == "/":
@@ -117,4 +118,4 @@ def _response(status: int, kind: str, body: bytes) -> bytes:
 
 async def _send(writer: asyncio.StreamWriter, data: bytes) -> None:
     writer.write(data)
-    await asyncio.wait_for(writer.drain(), UNREAD_SECONDS)
+    await within(UNREAD_SECONDS, writer.drain())

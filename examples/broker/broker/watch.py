@@ -44,10 +44,11 @@ class Watch:
     def commit(self, asked: commits.Asked, results: List[commits.Result]) -> None:
         self.revision += 1
         for code in sorted({result.code for result in results}):
-            refused: List[Partition] = [(result.topic, result.partition) for result in results if result.code == code]
-            self.commits.add(_labels(code), len(refused))
+            partitions: List[Partition] = [(result.topic, result.partition) for result in results if result.code == code]
+            self.commits.add(_labels(code), len(partitions))
             if code != codes.NONE:
-                self._changed(Change(asked.group, asked.member, asked.epoch, [f"{codes.name(code)}: its commit of {in_words(refused)}"]))
+                phrase = f"{codes.name(code)}: its commit of {in_words(partitions)}"
+                self._changed(Change(asked.group, asked.member, asked.epoch, [phrase]))
 
     def answered(self, api: str, seconds: float) -> None:
         self.seconds.observe(seconds, (("api", api),))

@@ -2,13 +2,21 @@
 
 from __future__ import annotations
 
+import contextlib
+import sys
 from typing import Dict, Iterable, List, Tuple
 
 # A partition by its topic's name and its index.
 Partition = Tuple[str, int]
 LONGEST_NAME = 60
-MOST_RANGES = 12
+MOST_RANGES = MOST_NAMES = 12
 MEMBER_LETTERS = 6
+
+
+def say(line: str) -> None:
+    """One line on standard error."""
+    with contextlib.suppress(OSError):
+        print(f"broker: {line}", file=sys.stderr, flush=True)
 
 
 def plain(text: str) -> str:
@@ -44,7 +52,12 @@ def ranges(indexes: Iterable[int]) -> List[Tuple[int, int]]:
 def in_words(partitions: Iterable[Partition]) -> str:
     """As `orders[0..3,7] bills[0]`."""
     topics = by_topic(partitions)
-    return " ".join(f"{plain(topic)}[{_indexes(topics[topic])}]" for topic in topics) or "nothing"
+    return names_in_words(f"{plain(topic)}[{_indexes(indexes)}]" for topic, indexes in topics.items()) or "nothing"
+
+
+def names_in_words(names: Iterable[str]) -> str:
+    shown = list(names)
+    return " ".join(shown[:MOST_NAMES]) + (" .." if len(shown) > MOST_NAMES else "")
 
 
 def _indexes(indexes: List[int]) -> str:

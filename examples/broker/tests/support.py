@@ -82,8 +82,13 @@ class Front:
     """The front end over a played coordinator: its port, what it printed, and what it said on standard error."""
 
     def __init__(self, port: int, coordinator: Played, lines: List[str], said: io.StringIO, watch: Watch) -> None:
-        self.port, self.coordinator, self.lines, self.said, self.watch = port, coordinator, lines, said, watch
+        self.port, self.coordinator, self.lines, self.watch = port, coordinator, lines, watch
+        self._stderr = said
         self.writers: List[asyncio.StreamWriter] = []
+
+    def said(self) -> List[str]:
+        """Its lines on standard error. (Python's own can stand between them.)"""
+        return [line for line in self._stderr.getvalue().splitlines() if line.startswith("broker: ")]
 
     async def client(self) -> Client:
         client = Client(*await asyncio.open_connection(HOST, self.port))

@@ -108,6 +108,8 @@ class Groups(unittest.TestCase):
         it.join(9, B, 1, of_orders(0, 1), instance="i")
         back = [(member["short_id"], member["is_away"]) for member in it.group()["members"]]
         self.assertEqual((away, back), ([("000001", True)], [("000002", False)]))
+        # The epoch is as it was, so that was no rebalance.
+        self.assertIn("broker_rebalance_seconds_count 1", report.metrics(it.cluster, it.watch))
         self.assertEqual(it.lines[1], "g  000001  epoch 1  goes away, and instance i has 45 s to come back")
 
     def test_what_is_known_during_a_rebalance(self) -> None:
@@ -131,6 +133,15 @@ class Groups(unittest.TestCase):
                 "offsets": {"orders": {"1": 7}},
             },
         )
+
+    def test_a_coordinator_that_begins_anew_assigns_what_another_one_reads(self) -> None:
+        it = Conversation()
+        it.rebalance()
+        it.join(12, B, 1, of_orders(0, 1))
+        held = {member["short_id"]: member["held"] for member in it.group()["members"]}
+        self.assertEqual((it.group()["is_settled"], held), (False, {"000001": {"orders": [(0, 0)]}, "000002": {"orders": [(0, 1)]}}))
+        it.beat(13, A, 2, Told(25))
+        self.assertEqual((it.group()["is_settled"], it.lines[-1]), (True, "g  settled after 1.0 s"))
 
     def test_what_is_not_known_is_said(self) -> None:
         # A member that joined before this program began: only its epoch is known until it is told something.
@@ -194,6 +205,7 @@ class Words(unittest.TestCase):
             ([], "nothing"),
             ([("b", 3), ("a", 0), ("a", 1), ("a", 5)], "a[0..1,5] b[3]"),
             ([("a", 2 * number) for number in range(14)], "a[0,2,4,6,8,10,12,14,16,18,20,22,..]"),
+            ([(chr(97 + number), 0) for number in range(14)], "a[0] b[0] c[0] d[0] e[0] f[0] g[0] h[0] i[0] j[0] k[0] l[0] .."),
         ]
         self.assertEqual([in_words(partitions) for partitions, _ in rows], [text for _, text in rows])
 

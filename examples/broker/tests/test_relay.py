@@ -4,13 +4,16 @@ from __future__ import annotations
 
 import asyncio
 import socket
+import struct
+import time
 import unittest
 from typing import List, Optional, Tuple
 from unittest import mock
 
 from broker import relay
+from broker.frames import framed
 from broker.link import Coordinator
-from tests.support import HOST, accept_all, data, front, small_cluster
+from tests.support import HOST, Client, accept_all, data, front, small_cluster
 
 # The headers have the correlation ids 1, 2 .. so that replies can be told apart.
 VERSIONS = "0012 0000 {:08x} 0001 'c'"
@@ -18,6 +21,7 @@ HEARTBEAT = "0044 0000 {:08x} 0001 'c' 00 02 'g' 02 'm' 00000001 00 00 ffffffff 
 FIND = "000a 0000 {:08x} 0001 'c' 0001 'g'"
 # At the end, where nothing comes for the 200 ms that it may wait.
 FETCH = "0001 0004 {:08x} 0001 'c' ffffffff 000000c8 00000001 00100000 00 00000001 0006 'orders' 00000001 00000001 0000000000000000 00100000"
+ALL_TOPICS = "0003 0009 00000001 0001 'c' 00 00 00 00 00 00"
 COMMIT = "0008 0009 {:08x} 0001 'c' 00 02 'g' 00000001 02 'm' 00 02 07 'orders' 02 00000000 0000000000000009 00000000 02 'x' 00 00 00"
 OFFSETS = "0009 0009 {:08x} 0001 'c' 00 02 02 'g' 00 ffffffff 02 07 'orders' 02 00000000 00 00 01 00"
 # What librdkafka 2.14.2 sent: version 1, with an empty regular expression behind the names; and the same request in version 0.
@@ -86,7 +90,7 @@ class Relay(unittest.IsolatedAsyncioTestCase):
             for text, why in NO_REQUESTS:
                 client = await it.client()
                 client.writer.write(data(text))
-                whys.append((text, await client.body(), it.said.getvalue().splitlines()[len(whys) :]))
+                whys.append((text, await client.body(), it.said()[len(whys) :]))
         found = [(text, body, len(lines), why in lines[0]) for (text, body, lines), (_, why) in zip(whys, NO_REQUESTS)]
         self.assertEqual(found, [(text, None, 1, True) for text, _ in NO_REQUESTS])
 
@@ -96,13 +100,25 @@ class Relay(unittest.IsolatedAsyncioTestCase):
             first.writer.write(b"\xff" * 4)
             self.assertEqual((await first.body(), await second.ask(VERSIONS.format(5)) is None), (None, False))
 
+    async def test_a_client_that_is_gone_at_once_leaves_nothing_behind(self) -> None:
+        cluster = small_cluster()
+        async with front(cluster=cluster) as it:
+            for _ in range(20):
+                gone = socket.create_connection((HOST, it.port))
+                # It closes by a reset.
+                gone.setsockopt(socket.SOL_SOCKET, socket.SO_LINGER, struct.pack("ii", 1, 0))
+                gone.close()
+            self.assertIsNotNone(await (await it.client()).ask(VERSIONS.format(1)))
+            await it.wait_for(lambda: cluster.nodes[0].connections == 1)
+        self.assertEqual(it.said(), [])
+
     async def test_a_client_that_closes_closes_its_connection_to_the_coordinator(self) -> None:
         async with front() as it:
             client = await it.client()
             await client.ask(HEARTBEAT.format(1))
             client.close()
             await asyncio.wait_for(it.coordinator.ended.wait(), 10)
-        self.assertEqual(it.said.getvalue(), "")
+        self.assertEqual(it.said(), [])
 
     async def test_a_coordinator_that_closes_closes_the_client_behind_the_replies_before(self) -> None:
         def answer(number: int, body: bytes) -> Optional[bytes]:
@@ -114,7 +130,7 @@ class Relay(unittest.IsolatedAsyncioTestCase):
                 client.send(text)
             bodies = [await client.body() for _ in range(3)]
         self.assertEqual([body and body[3] for body in bodies], [1, 2, None])
-        self.assertIn("the coordinator closed the connection instead of an answer", it.said.getvalue())
+        self.assertIn("the coordinator closed the connection instead of an answer", it.said()[0])
 
     async def test_a_coordinator_that_ends_closes_quiet_clients(self) -> None:
         async with front() as it:
@@ -122,7 +138,7 @@ class Relay(unittest.IsolatedAsyncioTestCase):
             await it.wait_for(lambda: it.coordinator.opened == 1)
             it.coordinator.writers[0].close()
             self.assertEqual(await client.body(), None)
-            self.assertIn("the coordinator closed its side", it.said.getvalue())
+            self.assertIn("the coordinator closed its side", it.said()[0])
 
     async def test_a_coordinator_that_is_not_there_is_said_once_a_time(self) -> None:
         cluster = small_cluster()
@@ -133,8 +149,24 @@ class Relay(unittest.IsolatedAsyncioTestCase):
                 self.assertEqual([await (await it.client()).body() for _ in range(2)], [None, None])
                 cluster.nodes[0].coordinator.host, cluster.nodes[0].coordinator.port = there.host, there.port
             self.assertIsNotNone(await (await it.client()).ask(VERSIONS.format(1)))
-        said = it.said.getvalue().splitlines()
+        said = it.said()
         self.assertEqual((len(said), "can't be reached" in said[0], "is there again" in said[1]), (2, True, True))
+
+    async def test_the_end_waits_for_nobody(self) -> None:
+        async def ask_on(client: Client) -> None:
+            while await client.ask(HEARTBEAT.format(1)) is not None:
+                pass
+
+        async with front() as it:
+            deaf, busy = await it.client(), [await it.client() for _ in range(5)]
+            deaf.writer.write(framed(data(ALL_TOPICS)) * 50_000)
+            asking = [asyncio.ensure_future(ask_on(client)) for client in busy]
+            # Until what the deaf one doesn't read fills all buffers.
+            await asyncio.sleep(2)
+            began = time.monotonic()
+        seconds = time.monotonic() - began
+        await asyncio.wait(asking, timeout=10)
+        self.assertEqual((seconds < 10, [task.done() for task in asking]), (True, [True] * 5))
 
     async def test_connections_above_the_bound_wait(self) -> None:
         with mock.patch.object(relay, "MOST_CONNECTIONS", 2):
@@ -142,7 +174,7 @@ class Relay(unittest.IsolatedAsyncioTestCase):
                 clients = [await it.client() for _ in range(3)]
                 await clients[1].ask(VERSIONS.format(1))
                 clients[2].send(VERSIONS.format(2))
-                await it.wait_for(lambda: "further ones wait" in it.said.getvalue())
+                await it.wait_for(lambda: "further ones wait" in "".join(it.said()))
                 opened = it.coordinator.opened
                 clients[0].close()
                 self.assertIsNotNone(await clients[2].body())

@@ -1,0 +1,124 @@
+-- Bytes that are spelled in hex, two digits each.
+use Rattle.std.proofs.Common.{All, get_or, Bool, true, false, IfOk, ◌==◌, ◌≡◌, ◌≢◌, ◌⊎◌, inl, inr, ℕ, ◌+◌, ◌*◌, ◌<◌, ◌≤◌, List, [], ◌∷◌, length, Option, Some, None, Result, Ok, Err, unwrap_or, refl, sym, ap, ◌∙◌, subst, arith}
+use Rattle.std.specs.Prelude.{IsErr, IfSome}
+use Rattle.std.specs.List.{AllPass, join_with_byte}
+use Rattle.std.specs.Str.{IsAscii}
+use Rattle.std.proofs.lemmas.Bool.{false≢true}
+use Rattle.std.proofs.lemmas.Bool.Decides.{nat_tests}
+use Rattle.std.proofs.lemmas.List.Elements.{All-nil, All-cons, All-head, All-tail}
+use Rattle.std.proofs.lemmas.List.Splits.{slice_split_none, join_with_byte-slice_split}
+use Rattle.std.proofs.lemmas.Str.{IsUtf8-from_ascii}
+use Rattle.std.proofs.lemmas.Str.Ascii.{IsAscii-nil, IsAscii-cons}
+use Rattle.hex.proofs.HexLemmas.{decode_of-ok}
+use Rattle.uuid.specs.Text.{by_index}
+use Rattle.uuid.proofs.TextLemmas.{by_index_at}
+use Rattle.hex.specs.Hex.{hex_digit_value, is_hex_digit, digit_or_error, pair_value, decode_of, ◌>>=◌}
+use Rattle.scenario_lines.specs.Words.{digit_value, is_space, words_of}
+use Rattle.scenario_lines.specs.FrameLines.{IsFrameLine, SpellsBytes}
+use Rattle.hex.specs.declared.error.FromHexError.{FromHexError}
+use Rattle.hex.specs.declared.error.FromHexError.TheVariants.{InvalidHexCharacter}
+
+abbrev digit_table : List ℕ
+digit_table = 255 ∷ 255 ∷ 255 ∷ 255 ∷ 255 ∷ 255 ∷ 255 ∷ 255 ∷ 255 ∷ 255 ∷ 255 ∷ 255 ∷ 255 ∷ 255 ∷ 255 ∷ 255 ∷ 255 ∷ 255 ∷ 255 ∷ 255 ∷ 255 ∷ 255 ∷ 255 ∷ 255 ∷ 255 ∷ 255 ∷ 255 ∷ 255 ∷ 255 ∷ 255 ∷ 255 ∷ 255 ∷ 255 ∷ 255 ∷ 255 ∷ 255 ∷ 255 ∷ 255 ∷ 255 ∷ 255 ∷ 255 ∷ 255 ∷ 255 ∷ 255 ∷ 255 ∷ 255 ∷ 255 ∷ 255 ∷ 0 ∷ 1 ∷ 2 ∷ 3 ∷ 4 ∷ 5 ∷ 6 ∷ 7 ∷ 8 ∷ 9 ∷ 255 ∷ 255 ∷ 255 ∷ 255 ∷ 255 ∷ 255 ∷ 255 ∷ 10 ∷ 11 ∷ 12 ∷ 13 ∷ 14 ∷ 15 ∷ 255 ∷ 255 ∷ 255 ∷ 255 ∷ 255 ∷ 255 ∷ 255 ∷ 255 ∷ 255 ∷ 255 ∷ 255 ∷ 255 ∷ 255 ∷ 255 ∷ 255 ∷ 255 ∷ 255 ∷ 255 ∷ 255 ∷ 255 ∷ 255 ∷ 255 ∷ 255 ∷ 255 ∷ 255 ∷ 255 ∷ 10 ∷ 11 ∷ 12 ∷ 13 ∷ 14 ∷ 15 ∷ 255 ∷ 255 ∷ 255 ∷ 255 ∷ 255 ∷ 255 ∷ 255 ∷ 255 ∷ 255 ∷ 255 ∷ 255 ∷ 255 ∷ 255 ∷ 255 ∷ 255 ∷ 255 ∷ 255 ∷ 255 ∷ 255 ∷ 255 ∷ 255 ∷ 255 ∷ 255 ∷ 255 ∷ 255 ∷ 255 ∷ 255 ∷ 255 ∷ 255 ∷ 255 ∷ 255 ∷ 255 ∷ 255 ∷ 255 ∷ 255 ∷ 255 ∷ 255 ∷ 255 ∷ 255 ∷ 255 ∷ 255 ∷ 255 ∷ 255 ∷ 255 ∷ 255 ∷ 255 ∷ 255 ∷ 255 ∷ 255 ∷ 255 ∷ 255 ∷ 255 ∷ 255 ∷ 255 ∷ 255 ∷ 255 ∷ 255 ∷ 255 ∷ 255 ∷ 255 ∷ 255 ∷ 255 ∷ 255 ∷ 255 ∷ 255 ∷ 255 ∷ 255 ∷ 255 ∷ 255 ∷ 255 ∷ 255 ∷ 255 ∷ 255 ∷ 255 ∷ 255 ∷ 255 ∷ 255 ∷ 255 ∷ 255 ∷ 255 ∷ 255 ∷ 255 ∷ 255 ∷ 255 ∷ 255 ∷ 255 ∷ 255 ∷ 255 ∷ 255 ∷ 255 ∷ 255 ∷ 255 ∷ 255 ∷ 255 ∷ 255 ∷ 255 ∷ 255 ∷ 255 ∷ 255 ∷ 255 ∷ 255 ∷ 255 ∷ 255 ∷ 255 ∷ 255 ∷ 255 ∷ 255 ∷ 255 ∷ 255 ∷ 255 ∷ 255 ∷ 255 ∷ 255 ∷ 255 ∷ 255 ∷ 255 ∷ 255 ∷ 255 ∷ 255 ∷ 255 ∷ 255 ∷ 255 ∷ 255 ∷ 255 ∷ 255 ∷ 255 ∷ 255 ∷ 255 ∷ 255 ∷ 255 ∷ 255 ∷ 255 ∷ 255 ∷ 255 ∷ 255 ∷ 255 ∷ 255 ∷ 255 ∷ 255 ∷ 255 ∷ 255 ∷ 255 ∷ 255 ∷ 255 ∷ 255 ∷ 255 ∷ 255 ∷ 255 ∷ 255 ∷ 255 ∷ 255 ∷ 255 ∷ 255 ∷ []
+
+digit_table-by_index : digit_table ≡ by_index 256 digit_value
+unfolding by_index
+digit_table-by_index = refl
+
+-- the table has the value of every byte
+pub table_value : (c : ℕ) → c < 256 → get_or digit_table c 0 ≡ digit_value c
+table_value c within = ap (λ (l : List ℕ). get_or l c 0) digit_table-by_index ∙ by_index_at 256 digit_value c 0 within
+
+is_digit : (o : Option ℕ) (v : ℕ) → v ≡ unwrap_or o 255 → v < 16 → o ≡ Some v
+is_digit None v same small = absurd (omega arith)
+is_digit (Some x) v same small = ap Some (sym same)
+
+digit_below : (c : ℕ) → IfSome (hex_digit_value c) (λ v. v < 16)
+digit_below c = grind (arith, nat_tests)
+
+no_digit : (o : Option ℕ) (v : ℕ) → IfSome o (λ x. x < 16) → v ≡ unwrap_or o 255 → 16 ≤ v → o ≡ None
+no_digit None v below same large = refl
+no_digit (Some x) v below same large = absurd (omega arith)
+
+-- two digits are a byte
+pub pair_ok : (a b i h l : ℕ) → h ≡ digit_value a → l ≡ digit_value b → h < 16 → l < 16 → pair_value a b i ≡ Ok (h * 16 + l)
+pair_ok a b i h l high low high_small low_small =
+    let one = is_digit (hex_digit_value a) h high high_small in
+    let two = is_digit (hex_digit_value b) l low low_small in
+    ap (λ o. digit_or_error a i o >>= (λ x. digit_or_error b (i + 1) (hex_digit_value b) >>= (λ y. Ok (x * 16 + y)))) one
+    ∙ ap (λ o. digit_or_error b (i + 1) o >>= (λ y. Ok (h * 16 + y))) two
+
+second : (o : Option ℕ) (a b i : ℕ) → hex_digit_value b ≡ None
+    → (e : FromHexError) × ((digit_or_error a i o >>= (λ x. digit_or_error b (i + 1) (hex_digit_value b) >>= (λ y. Ok (x * 16 + y)))) ≡ Err e)
+second None a b i none = (InvalidHexCharacter a i, refl)
+second (Some x) a b i none =
+    (InvalidHexCharacter b (i + 1), ap (λ o. digit_or_error b (i + 1) o >>= (λ y. Ok (x * 16 + y))) none)
+
+-- and other bytes are none
+pub pair_bad : (a b i h l : ℕ) → h ≡ digit_value a → l ≡ digit_value b → (16 ≤ h) ⊎ (16 ≤ l) → (e : FromHexError) × (pair_value a b i ≡ Err e)
+pair_bad a b i h l high low (inl large) =
+    let none = no_digit (hex_digit_value a) h (digit_below a) high large in
+    (InvalidHexCharacter a i, ap (λ o. digit_or_error a i o >>= (λ x. digit_or_error b (i + 1) (hex_digit_value b) >>= (λ y. Ok (x * 16 + y)))) none)
+pair_bad a b i h l high low (inr large) =
+    let none = no_digit (hex_digit_value b) l (digit_below b) low large in
+    second (hex_digit_value a) a b i none
+
+-- ---- a line of digits
+
+digit_below_128 : (c : ℕ) → is_hex_digit c ≡ true → c < 128
+digit_below_128 c is = grind (arith, nat_tests)
+
+digit_no_space : (c : ℕ) → is_hex_digit c ≡ true → is_space c ≡ false
+digit_no_space c is = grind (arith, nat_tests)
+
+IsAscii-digits : (line : List ℕ) → AllPass is_hex_digit line → IsAscii line
+IsAscii-digits [] all = IsAscii-nil
+IsAscii-digits (c ∷ line) all =
+    IsAscii-cons c line (digit_below_128 c (All-head (λ x. is_hex_digit x ≡ true) c line all)) (IsAscii-digits line (All-tail (λ x. is_hex_digit x ≡ true) c line all))
+
+no_spaces : (line : List ℕ) → AllPass is_hex_digit line → All (λ c. is_space c ≡ false) line
+no_spaces [] all = All-nil _
+no_spaces (c ∷ line) all =
+    All-cons (λ x. is_space x ≡ false) c line (digit_no_space c (All-head (λ x. is_hex_digit x ≡ true) c line all)) (no_spaces line (All-tail (λ x. is_hex_digit x ≡ true) c line all))
+
+-- digits are a line of one word
+pub digits_are_a_line : (line bytes : List ℕ) → line ≢ [] → decode_of line ≡ Ok bytes → IsFrameLine line bytes
+digits_are_a_line line bytes some spelled =
+    let digits = (decode_of-ok line bytes spelled).1 in
+    let alone : words_of line ≡ line ∷ [] = slice_split_none is_space line (no_spaces line digits) in
+    record {
+      is_line = record {
+        text = IsUtf8-from_ascii line (IsAscii-digits line digits);
+        words = subst (All (λ (word : List ℕ). word ≢ [])) (sym alone) (All-cons (λ (word : List ℕ). word ≢ []) line [] some (All-nil _));
+      };
+      word = line;
+      alone = alone;
+      spelled = spelled;
+    }
+
+-- and a line of one word is that word
+pub line_is_word : (line bytes : List ℕ) → IsFrameLine line bytes → decode_of line ≡ Ok bytes
+line_is_word line bytes is =
+    let same : is.word ≡ line = sym (ap (join_with_byte 32) is.alone) ∙ join_with_byte-slice_split 32 line in
+    subst (λ l. decode_of l ≡ Ok bytes) same is.spelled
+
+not_both_ways : {X E : Type 0} (r : Result X E) (x : X) → r ≡ Ok x → IsErr r → ⊥
+not_both_ways (Ok y) x is bad = absurd (false≢true bad)
+not_both_ways (Err e) x is bad = absurd cc
+
+pub no_frame_line : (line : List ℕ) → IsErr (decode_of line) → SpellsBytes line → ⊥
+no_frame_line line bad (bytes, is) = not_both_ways (decode_of line) bytes (line_is_word line bytes is) bad
+
+pub no_empty_line : (line bytes : List ℕ) → line ≡ [] → IsFrameLine line bytes → ⊥
+no_empty_line line bytes none is =
+    let same : is.word ≡ line = sym (ap (join_with_byte 32) is.alone) ∙ join_with_byte-slice_split 32 line in
+    let given = All-head (λ (word : List ℕ). word ≢ []) is.word [] (subst (All (λ (word : List ℕ). word ≢ [])) is.alone is.is_line.words) in
+    given (same ∙ none)
+
+pub is_not_empty : (line : List ℕ) (answer : Bool) → answer ≡ (length line == 0) → answer ≡ false → line ≢ []
+is_not_empty [] answer says other = λ _. absurd (false≢true (sym other ∙ says))
+is_not_empty (c ∷ line) answer says other = λ none. cc
+
+pub if_ok_by : {X E : Type 0} (r : Result X E) (P Q : X → Type 0) → IfOk r P → ((x : X) → P x → Q x) → IfOk r Q
+if_ok_by (Ok x) P Q holds more = more x holds
+if_ok_by (Err e) P Q holds more = tt

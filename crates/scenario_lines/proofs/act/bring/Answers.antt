@@ -1,0 +1,8 @@
+use Rattle.scenario_lines.proofs.Asked.{on_err, no_bring}
+use Rattle.scenario_lines.proofs.Commanded.{texts}
+use Rattle.scenario_lines.proofs.act.bring.Goals as goal
+
+pub returns-in_err-number-clause-refused : goal.returns-in_err-number-clause-refused
+returns-in_err-number-clause-refused c =
+    on_err c.from_residual.result _ (λ deed spelled.
+    no_bring c.args.cast.now (texts c.args.arguments.now) deed c.in_err-number.ensures.refused spelled)

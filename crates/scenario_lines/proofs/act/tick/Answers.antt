@@ -1,0 +1,8 @@
+use Rattle.scenario_lines.proofs.Asked.{on_err, no_tick}
+use Rattle.scenario_lines.proofs.Commanded.{texts}
+use Rattle.scenario_lines.proofs.act.tick.Goals as goal
+
+pub returns-in_err-number-clause-refused : goal.returns-in_err-number-clause-refused
+returns-in_err-number-clause-refused c =
+    on_err c.from_residual.result _ (λ deed spelled.
+    no_tick c.args.cast.now (texts c.args.arguments.now) deed c.in_err-number.ensures.refused spelled)

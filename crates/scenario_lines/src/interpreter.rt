@@ -1,0 +1,234 @@
+//! The lines of `coord reply`, each as one method.
+ghost use Rattle.std.specs.Prelude.{◌≡◌, [], ◌∷◌, ◌++◌, map, codes, IfErr, IfOk, OnOk, OnErr};
+ghost use Rattle.coord_node.specs.Coordinator.{Done};
+ghost use Rattle.scenario_lines.specs.Lines.{fed};
+ghost use Rattle.scenario_lines.specs.Printing.{line_of};
+ghost use Rattle.scenario_lines.specs.Requests.{text_of};
+ghost use Rattle.scenario_lines.specs.Commands.{DoesReplyLine, IsReplyLine};
+ghost use Rattle.scenario_lines.specs.Runs.{PrintsNothing};
+
+use crate::driver::LineWorker;
+use crate::explain::Explains;
+use crate::fault::LineFault;
+use crate::output::Output;
+use crate::page::Page;
+use crate::stamps::Stamps;
+use crate::topics::image_of;
+use crate::{frame, reasons, words};
+use coord_node::{Answered, Node};
+use group_types::{Moment, Stamp};
+use std::alloc::{AllocError, Global};
+use std::collections::hash_map::RandomState;
+
+/// What is printed for a frame that is not answered.
+const CLOSE: &str = "close";
+
+/// A node, and what the lines so far have set.
+#[derive(Drop)]
+pub struct Interpreter {
+    alloc: Global,
+    node: Node,
+    now: Moment,
+    stamps: Stamps,
+}
+
+impl Interpreter {
+    ghost use Rattle.std.specs.Prelude.{◌+◌, ◌-◌, ◌^◌, min, None, IfErr, IsErr};
+    ghost use Rattle.hex.specs.Hex.{decode_of};
+    ghost use Rattle.scenario_lines.specs.Stamps.{stamp_of};
+    ghost use Rattle.scenario_lines.specs.Requests.{PrintsAnswer};
+    ghost use Rattle.scenario_lines.specs.Printing.{AnswersBytes};
+    ghost use Rattle.scenario_lines.specs.Commands.{DoesCommand, IsCommand, new_interpreter};
+    ghost use Rattle.scenario_lines.specs.Runs.{Prints};
+
+    /// The salt of the node's ids.
+    const SALT: u64 = 0;
+
+    /// A node with no groups and no topics, at the moment 0. Takes no memory.
+    pub fn new(alloc: Global, hasher: RandomState) -> Interpreter
+        ensures { result ≡ new_interpreter alloc }
+    {
+        Interpreter {
+            alloc,
+            node: Node::new(alloc, Self::SALT, hasher),
+            now: Moment::of_millis(0),
+            stamps: Stamps::new(),
+        }
+    }
+
+    /// Does the command of this name.
+    fn command(
+        &mut self,
+        name: &str,
+        arguments: &[&str],
+        output: &mut Output,
+    ) -> Result<(), LineFault>
+        ensures printed { OnOk result (Prints (DoesCommand (name.now ∷ map (λ word. word.now) arguments.now) self.old self.new) output.old output.new) }
+        ensures refused { result ≡ Err LineFault.BadLine → ¬ IsCommand (name.now ∷ map (λ word. word.now) arguments.now) }
+        ensures err { OnErr result (output.new ≡ output.old) }
+    {
+        match name {
+            "image" => self.image(arguments),
+            "now" => self.now(arguments),
+            "stamp" => self.stamp(arguments),
+            "req" => self.request_line(arguments, output),
+            "tick" => self.tick(arguments, output),
+            _ => Err(LineFault::BadLine),
+        }
+    }
+
+    /// `image [NAME UUID COUNT]...` sets the image.
+    fn image(&mut self, arguments: &[&str]) -> Result<(), LineFault>
+        ensures done { OnOk result (DoesCommand (codes "image" ∷ map (λ word. word.now) arguments.now) self.old self.new []) }
+        ensures refused { result ≡ Err LineFault.BadLine → ¬ IsCommand (codes "image" ∷ map (λ word. word.now) arguments.now) }
+    {
+        let image = image_of(self.alloc, arguments)?;
+        self.node.set_image(image);
+        Ok(())
+    }
+
+    /// `now MS` sets the moment.
+    fn now(&mut self, arguments: &[&str]) -> Result<(), LineFault>
+        ensures done { OnOk result (DoesCommand (codes "now" ∷ map (λ word. word.now) arguments.now) self.old self.new []) }
+        ensures refused { OnErr result (¬ IsCommand (codes "now" ∷ map (λ word. word.now) arguments.now)) }
+        ensures fault { IfErr result (λ fault. fault ≡ LineFault.BadLine) }
+    {
+        let [millis] = arguments else {
+            return Err(LineFault::BadLine);
+        };
+        let millis = words::number_of(millis).ok_or(LineFault::BadLine)?;
+        self.now = Moment::of_millis(millis);
+        Ok(())
+    }
+
+    /// `stamp C F` gives the next request its stamp.
+    fn stamp(&mut self, arguments: &[&str]) -> Result<(), LineFault>
+        ensures done { OnOk result (DoesCommand (codes "stamp" ∷ map (λ word. word.now) arguments.now) self.old self.new []) }
+        ensures refused { OnErr result (¬ IsCommand (codes "stamp" ∷ map (λ word. word.now) arguments.now)) }
+        ensures fault { IfErr result (λ fault. fault ≡ LineFault.BadLine) }
+    {
+        let [connection, frame] = arguments else {
+            return Err(LineFault::BadLine);
+        };
+        let connection = words::number_of(connection).ok_or(LineFault::BadLine)?;
+        let frame = words::number_of(frame).ok_or(LineFault::BadLine)?;
+        self.stamps.give(Stamp { connection, frame });
+        Ok(())
+    }
+
+    /// `req HEX` answers a frame.
+    fn request_line(&mut self, arguments: &[&str], output: &mut Output) -> Result<(), LineFault>
+        ensures printed { OnOk result (Prints (DoesCommand (codes "req" ∷ map (λ word. word.now) arguments.now) self.old self.new) output.old output.new) }
+        ensures refused { result ≡ Err LineFault.BadLine → ¬ IsCommand (codes "req" ∷ map (λ word. word.now) arguments.now) }
+        ensures err { OnErr result (output.new ≡ output.old) }
+    {
+        let [frame] = arguments else {
+            return Err(LineFault::BadLine);
+        };
+        self.request(frame, output)
+    }
+
+    /// `tick` removes the members whose deadline has come at the moment, and prints how many. Where memory is short for the text,
+    /// they are removed.
+    fn tick(&mut self, arguments: &[&str], output: &mut Output) -> Result<(), LineFault>
+        ensures printed { OnOk result (Prints (DoesCommand (codes "tick" ∷ map (λ word. word.now) arguments.now) self.old self.new) output.old output.new) }
+        ensures refused { result ≡ Err LineFault.BadLine → ¬ IsCommand (codes "tick" ∷ map (λ word. word.now) arguments.now) }
+        ensures err { OnErr result (output.new ≡ output.old) }
+    {
+        if !arguments.is_empty() {
+            return Err(LineFault::BadLine);
+        }
+        let removed = self.node.tick(self.now);
+        print_removed(self.alloc, removed, output)?;
+        Ok(())
+    }
+
+    /// `req HEX` prints the frame of the reply, or `close`.
+    fn request(&mut self, frame: &str, output: &mut Output) -> Result<(), LineFault>
+        ensures printed { OnOk result (PrintsAnswer self.old.node frame.now
+            (stamp_of self.old.stamps.given self.new.stamps.requests) self.old.now self.new.node output.old output.new) }
+        ensures counted { OnOk result (self.new.stamps
+            ≡ record { given = None; requests = min (self.old.stamps.requests + 1) (2 ^ 64 - 1) }) }
+        ensures err { OnErr result (output.new ≡ output.old) }
+        ensures refused { result ≡ Err LineFault.BadLine → IsErr (decode_of frame.now) }
+        ensures kept { self.new ≡ record self.old { node = self.new.node; stamps = self.new.stamps } }
+    {
+        let frame = words::bytes_of(self.alloc, frame)?;
+        let stamp = self.stamps.next_stamp();
+        let mut reply = Vec::new(self.alloc);
+        let answered = self.answer(frame.as_slice(), stamp, &mut reply)?;
+        print(self.alloc, answered, reply.as_slice(), output)
+    }
+
+    /// Answers the bytes of a frame, and appends the reply. Other bytes than a frame close.
+    fn answer(
+        &mut self,
+        frame: &[u8],
+        stamp: Stamp,
+        reply: &mut Vec<u8>,
+    ) -> Result<Answered, AllocError>
+        ensures answered { IfOk result (λ kind. AnswersBytes self.old.node frame.now stamp self.old.now kind self.new.node
+            reply.old.items reply.new.items) }
+        ensures kept { self.new ≡ record self.old { node = self.new.node } }
+    {
+        match frame::body_of(frame) {
+            Some(body) => self.node.answer(self.alloc, body, stamp, self.now, reply),
+            None => Ok(Answered::Closes),
+        }
+    }
+}
+
+impl LineWorker for Interpreter {
+    ghost does = { DoesReplyLine };
+
+    ghost takes = { λ _. IsReplyLine };
+
+    ghost closes = { PrintsNothing };
+
+    fn line(&mut self, line: &[u8], output: &mut Output) -> Result<(), LineFault> {
+        let words = words::words_of(self.alloc, line)?;
+        let Some((name, arguments)) = words.split_first() else {
+            return Err(LineFault::BadLine);
+        };
+        self.command(name, arguments, output)
+    }
+
+    /// Nothing stands behind the last line.
+    fn end(&mut self, _output: &mut Output) -> Result<(), AllocError> {
+        Ok(())
+    }
+}
+
+impl Explains for Interpreter {
+    fn reason(&self, line: &[u8]) -> Result<String, AllocError> {
+        reasons::of_reply_line(self.alloc, line, self.stamps.coming())
+    }
+}
+
+/// Prints what became of a frame: the reply in hex, or `close`.
+fn print(
+    alloc: Global,
+    answered: Answered,
+    reply: &[u8],
+    output: &mut Output,
+) -> Result<(), LineFault>
+    ensures ok { OnOk result (output.new ≡ output.old ++ line_of answered reply.now ++ 10 ∷ []) }
+    ensures err { OnErr result (output.new ≡ output.old) }
+    ensures fault { IfErr result (λ fault. fault ≡ LineFault.NoMemory) }
+{
+    match answered {
+        Answered::Replied => output.line(hex::encode(alloc, reply)?.as_str())?,
+        Answered::Closes => output.line(CLOSE)?,
+    }
+    Ok(())
+}
+
+/// Prints how many members a tick removed.
+fn print_removed(alloc: Global, removed: usize, output: &mut Output) -> Result<(), AllocError>
+    ensures ok { OnOk result (output.new ≡ output.old ++ fed (text_of (Done removed))) }
+    ensures err { OnErr result (output.new ≡ output.old) }
+{
+    let mut page = Page::new(alloc);
+    page.number("removed", removed)?;
+    output.text(page.as_str())
+}

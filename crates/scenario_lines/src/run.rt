@@ -1,0 +1,28 @@
+//! The subcommand `coord run`.
+ghost use Rattle.scenario_lines.specs.Plays.{DoesScriptLine, IsScriptLine, PrintsStandings, new_play};
+ghost use Rattle.scenario_lines.specs.Runs.{RunsScript};
+
+use crate::driver;
+use crate::player::Player;
+use std::alloc::Global;
+use std::collections::hash_map::RandomState;
+use std::io::{Read, Write};
+
+/// Plays the script of the reader: its `client` lines first, then its acts in order, each in one world of one coordinator, its
+/// clients and all messages between them. What each act shows is printed, or why it is refused, and at the end where every
+/// client stands. The world's salt is 0, and its clock starts at 0.
+///
+/// Gives the program's status, as [`driver::run`] does.
+pub fn run_lines<R: Read, W: Write, E: Write>(
+    alloc: Global,
+    hasher: RandomState,
+    reader: &mut R,
+    writer: &mut W,
+    faults: &mut E,
+) -> u8
+    ensures { RunsScript DoesScriptLine IsScriptLine PrintsStandings new_play (R.remaining reader.old)
+        (W.contents writer.old, W.contents writer.new) (E.contents faults.old, E.contents faults.new) result }
+{
+    let mut player = Player::new(alloc, hasher);
+    driver::run(alloc, &mut player, reader, writer, faults)
+}

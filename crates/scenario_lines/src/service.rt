@@ -1,0 +1,175 @@
+//! What `coord serve` is asked for.
+ghost use Rattle.std.specs.Prelude.{◌≡◌, ◌≤◌, ◌<◌, ◌^◌, ◌-◌, IfOk};
+
+use crate::command_line::{CommandLineFault, escaped};
+use crate::fault::LineFault;
+use crate::topics::topic_of;
+use clap::{Arg, ArgAction, ArgMatches, Command};
+use std::alloc::{AllocError, Global};
+use topic_meta::{Image, TopicEntry};
+
+/// The greatest port.
+const GREATEST_PORT: u64 = 65_535;
+
+/// The most workers.
+const MOST_WORKERS: u64 = 64;
+
+/// The most shards.
+const MOST_SHARDS: u64 = 64;
+
+/// The most connections that a server may be asked to wait for.
+const MOST_CONNECTIONS: u64 = 1_000_000;
+
+/// The port, and how many shards there are, where the words don't say.
+const USUAL_PORT: u64 = 9_092;
+
+const USUAL_SHARDS: u64 = 8;
+
+/// As many connections as never come: the server doesn't end.
+pub const WITHOUT_END: u64 = u64::MAX;
+
+/// What `coord serve` is asked for.
+#[derive(Drop)]
+pub struct Service {
+    pub port: u16,
+    /// How many workers serve the connections.
+    pub workers: usize,
+    /// How many shards have the groups.
+    pub shards: usize,
+    /// After how many connections the server ends, or [`WITHOUT_END`].
+    pub connections: u64,
+    /// The topics.
+    pub image: Image,
+    pub ghost port_is: { (1 ≤ port) × (port ≤ 65535) },
+    pub ghost workers_are: { (1 ≤ workers) × (workers ≤ 64) },
+    pub ghost shards_are: { (1 ≤ shards) × (shards ≤ 64) },
+    pub ghost connections_are: { (1 ≤ connections) × (connections < 2 ^ 64 - 1 → connections ≤ 1000000) },
+}
+
+/// The subcommand `serve`, with its words.
+pub fn command<'a>(alloc: Global) -> Result<Command<'a>, AllocError> {
+    let workers = "How many workers serve, 1 to 64 [default: the processors]";
+    let shards = "How many shards have the groups, 1 to 64 [default: 8]";
+    let connections =
+        "After how many connections the server ends, 1 to 1000000 [default: without end]";
+    Command::new(alloc, "serve")
+        .about("Serves connections on 127.0.0.1 until so many have ended")
+        .arg(number(alloc, "port", "P", "The port, 1 to 65535 [default: 9092]"))?
+        .arg(number(alloc, "workers", "W", workers))?
+        .arg(number(alloc, "shards", "S", shards))?
+        .arg(number(alloc, "connections", "C", connections))?
+        .arg(topics(alloc))
+}
+
+/// A word that may be given, as `--NAME VALUE`.
+fn number<'a>(alloc: Global, name: &'a str, value: &'a str, about: &'a str) -> Arg<'a> {
+    Arg::new(alloc, name)
+        .long(name)
+        .value_name(value)
+        .help(about)
+        .action(ArgAction::Set)
+}
+
+/// The words of topics.
+fn topics<'a>(alloc: Global) -> Arg<'a> {
+    Arg::new(alloc, "topics")
+        .value_name("TOPIC")
+        .help("A topic, as NAME:UUID:COUNT")
+        .action(ArgAction::Append)
+        .num_args(0..)
+}
+
+/// What the words of the subcommand ask for. Where they don't say how many workers serve, there are as many as processors.
+///
+/// Faults: a number outside its range, a word that is no topic, topics that make no image; want of memory.
+pub fn service_of(
+    alloc: Global,
+    matches: &ArgMatches<'_>,
+    processors: usize,
+) -> Result<Service, CommandLineFault> {
+    let port = number_of(matches, "port", GREATEST_PORT, USUAL_PORT)?;
+    let workers = number_of(matches, "workers", MOST_WORKERS, usual_workers(processors))?;
+    let shards = number_of(matches, "shards", MOST_SHARDS, USUAL_SHARDS)?;
+    let connections = connections_of(matches)?;
+    let image = image_of(alloc, matches.get_strs("topics").unwrap_or(&[]))?;
+    Ok(Service {
+        port: port as u16,
+        workers: workers as usize,
+        shards: shards as usize,
+        connections,
+        image,
+    })
+}
+
+/// How many workers serve with so many processors.
+fn usual_workers(processors: usize) -> u64
+    ensures { (1 ≤ result) × (result ≤ MOST_WORKERS) }
+{
+    (processors as u64).clamp(1, MOST_WORKERS)
+}
+
+/// After how many connections the server ends.
+fn connections_of(matches: &ArgMatches<'_>) -> Result<u64, CommandLineFault>
+    ensures { IfOk result (λ number. (1 ≤ number) × (number < 2 ^ 64 - 1 → number ≤ 1000000)) }
+{
+    if !matches.contains_id("connections") {
+        return Ok(WITHOUT_END);
+    }
+    number_of(matches, "connections", MOST_CONNECTIONS, 1)
+}
+
+/// The number that is given for a word, 1 to the greatest, or the usual one where none is given.
+fn number_of(
+    matches: &ArgMatches<'_>,
+    name: &'static str,
+    most: u64,
+    usual: u64,
+) -> Result<u64, CommandLineFault>
+    requires { (1 ≤ usual) × (usual ≤ most) }
+    ensures { IfOk result (λ number. (1 ≤ number) × (number ≤ most)) }
+{
+    if !matches.contains_id(name) {
+        return Ok(usual);
+    }
+    let number = matches.get_one::<u64>(name).unwrap_or(0);
+    if number < 1 || most < number {
+        return Err(CommandLineFault::OutOfRange(name, most));
+    }
+    Ok(number)
+}
+
+/// The image of the topics that words name.
+fn image_of(alloc: Global, words: &[&str]) -> Result<Image, CommandLineFault> {
+    let mut list = Vec::new(alloc);
+    for word in words {
+        list.push(topic_of_word(alloc, word)?)?;
+    }
+    Ok(Image::of(alloc, list)?)
+}
+
+/// The topic of a word: its name, its id and how many partitions it has, cut at the first colon and the last. Its parts are what words
+/// of an `image` line may be.
+fn topic_of_word(alloc: Global, word: &str) -> Result<TopicEntry, CommandLineFault> {
+    let Some((name, rest)) = word.split_once(':') else {
+        return Err(no_topic(alloc, word));
+    };
+    let Some((id, count)) = rest.rsplit_once(':') else {
+        return Err(no_topic(alloc, word));
+    };
+    if name.is_empty() || word.contains(' ') || word.contains('\n') {
+        return Err(no_topic(alloc, word));
+    }
+    match topic_of(alloc, &[name, id, count]) {
+        Ok(entry) => Ok(entry),
+        Err(LineFault::NoMemory) => Err(CommandLineFault::NoMemory),
+        Err(LineFault::BadLine) => Err(no_topic(alloc, word)),
+    }
+}
+
+/// That a word is no topic, with the word.
+fn no_topic(alloc: Global, word: &str) -> CommandLineFault {
+    match escaped(alloc, word) {
+        Ok(word) => CommandLineFault::NoTopic(word),
+        Err(_) => CommandLineFault::NoMemory,
+    }
+}
