@@ -3,12 +3,13 @@
 from __future__ import annotations
 
 import asyncio
+import functools
 import importlib.util
 import pathlib
 import time
 from typing import Any, Optional
 
-from broker.link import Coordinator, CoordinatorClosed, Link
+from broker.link import Connection, Coordinator, CoordinatorClosed, Link
 from broker.starter import Ended
 from broker.topics import Topics
 
@@ -38,10 +39,13 @@ class Embedded(Coordinator):
     def __str__(self) -> str:
         return "embedded"
 
-    async def open(self) -> Optional[Link]:
+    async def connect(self) -> Optional[Connection]:
         self.is_there = True
         self.opened += 1
-        return EmbeddedLink(self, self.opened)
+        return functools.partial(self._linked, self.opened)
+
+    async def _linked(self, number: int) -> Link:
+        return EmbeddedLink(self, number)
 
     async def ticks(self) -> None:
         """Tells the time for ever."""
@@ -64,7 +68,7 @@ class EmbeddedLink(Link):
             raise CoordinatorClosed("the coordinator closed the connection instead of an answer")
         return reply[SIZE:]
 
-    async def close(self) -> None:
+    def close(self) -> None:
         self.arriving.cancel()
 
 
