@@ -12,7 +12,7 @@
  *   - No call comes from a signal handler, or from the forked child of a program with threads.
  *   - Text is bytes without a zero at the end.
  *
- * A call that returns MIGWELUN_NO_MEMORY has changed nothing, and may be made again.
+ * A call that returns MIGWELUN_NO_MEMORY has changed nothing, and may be made again. Below, results stand without their prefix.
  */
 #ifndef MIGWELUN_H
 #define MIGWELUN_H
@@ -59,27 +59,29 @@ typedef struct {
  */
 int32_t migwelun_make(migwelun_slot *slot, uint64_t salt, const uint8_t keys[16]);
 
-/* Frees the coordinator, with the replies that were not taken and the topics that were not set. The slot is empty then, and may be
- * used again. Does nothing in an empty slot. */
+/*
+ * Frees the coordinator, with the replies that were not taken and the topics that were not set. The slot is empty then, and may be
+ * used again. Does nothing in an empty slot.
+ */
 void migwelun_drop(migwelun_slot *slot);
 
 /*
  * Answers the body of one frame: `length` bytes, without the four bytes of the size that stand before it on the wire. They are
- * read in the call alone.
+ * read in the call alone. A body is a ConsumerGroupHeartbeat of version 0 or an OffsetCommit of version 9; all else closes.
  *
  * `connection` and `frame` are the frame's stamp: the number of its connection, in the order in which connections were accepted, and
  * the number of the frame on it, in the order in which they came. `moment` is when it came, in milliseconds from any one point of
  * time, by a clock that doesn't go back.
  *
- * Returns DONE, and one frame, with its size, was put behind the replies that wait for migwelun_take; CLOSES, and nothing was, nor has
- * anything changed; NO_MEMORY; or EMPTY.
+ * Returns DONE, and one frame, with its size, was put behind the replies that wait for migwelun_take; CLOSES, and nothing was, nor
+ * has anything changed; NO_MEMORY; or EMPTY.
  */
 int32_t migwelun_answer(migwelun_slot *slot, const uint8_t *body, size_t length, uint64_t connection, uint64_t frame,
                         uint64_t moment);
 
 /*
- * Moves the replies that wait into a buffer of `room` bytes: the frames of all migwelun_answer since the last take, in their order. Where
- * none waits, that is no byte. Writes to `size` how many bytes they are.
+ * Moves the replies that wait into a buffer of `room` bytes: the frames of all migwelun_answer since the last take, in their
+ * order. Where none waits, that is no byte. Writes to `size` how many bytes they are.
  *
  * Returns DONE; SHORT, and neither the buffer nor what waits has changed: take again with room for `size` bytes; or EMPTY, and
  * `size` is as it was.
@@ -87,27 +89,27 @@ int32_t migwelun_answer(migwelun_slot *slot, const uint8_t *body, size_t length,
 int32_t migwelun_take(migwelun_slot *slot, uint8_t *to, size_t room, size_t *size);
 
 /*
- * Tells the moment: members whose session is over, or who were to give up a partition by now, are removed. Call it twice a second or so.
- * Writes to `removed` how many members that were.
+ * Tells the moment: members whose session is over, or who were to give up a partition by now, are removed. Call it twice a second
+ * or so. Writes to `removed` how many members that were.
  *
  * Returns DONE; or EMPTY, and `removed` is as it was. It takes no memory.
  */
 int32_t migwelun_tick(migwelun_slot *slot, uint64_t moment, size_t *removed);
 
 /*
- * Adds a topic to those that migwelun_set_topics will set: its name, a text of `length` bytes; its id; and its number of partitions. Name and id are
- * copied. What makes no sense as a topic is told by migwelun_set_topics.
+ * Adds a topic to those that migwelun_set_topics will set: its name, a text of `length` bytes; its id; and its number of
+ * partitions. Name and id are copied. What is wrong with a topic is told by migwelun_set_topics.
  *
  * Returns DONE, NOT_TEXT, NO_MEMORY or EMPTY. Unless it is DONE, the topic was not added.
  */
 int32_t migwelun_add_topic(migwelun_slot *slot, const uint8_t *name, size_t length, const uint8_t id[16], int32_t partitions);
 
 /*
- * Sets the topics of the cluster: those that were added since the last call of this, and no others, so add all of them each time. Groups
- * meet them at their members' next heartbeats.
+ * Sets the topics of the cluster: those that were added since the last call of this, and no others, so add all of them each time.
+ * Groups meet them at their members' next heartbeats.
  *
- * Returns DONE; a fault of 1 to 4, and the topics of the cluster are as they were; NO_MEMORY, and they are, too; or EMPTY. The topics that were
- * added are gone then, but after NO_MEMORY they stay, and the call may be made again.
+ * Returns DONE; a fault of 1 to 4, and the topics of the cluster are as they were; NO_MEMORY, and they are, too; or EMPTY. The
+ * topics that were added are gone then, but after NO_MEMORY they stay, and the call may be made again.
  */
 int32_t migwelun_set_topics(migwelun_slot *slot);
 

@@ -54,7 +54,8 @@ static void add_topic(const char *word) {
         if (sscanf(at++, "%2hhx", &id[i]) != 1) at = NULL;
     }
     if (at == NULL || at[1] != ':') die("a topic is NAME:UUID:COUNT");
-    if (migwelun_add_topic(&coordinator, (const uint8_t *)word, (size_t)(colon - word), id, atoi(at + 2))) die("a topic is refused");
+    size_t length = (size_t)(colon - word);
+    if (migwelun_add_topic(&coordinator, (const uint8_t *)word, length, id, atoi(at + 2))) die("a topic is refused");
 }
 
 static void listen_at(uint16_t port) {
@@ -140,7 +141,7 @@ int main(int words, char **word) {
     size_t removed;
     if (words < 3) die("usage: broker PORT NAME:UUID:COUNT ..");
     signal(SIGPIPE, SIG_IGN);
-    if (getrandom(&salt, sizeof salt, 0) != sizeof salt || getrandom(keys, sizeof keys, 0) != sizeof keys) die("no random bytes");
+    if (getrandom(&salt, sizeof salt, 0) < 0 || getrandom(keys, sizeof keys, 0) < 0) die("no random bytes");
     if (migwelun_make(&coordinator, salt, keys)) die("out of memory");
     for (int i = 2; i < words; i++) add_topic(word[i]);
     if (migwelun_set_topics(&coordinator)) die("the topics are refused");

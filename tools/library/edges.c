@@ -24,9 +24,11 @@ static const uint8_t KEYS[16] = {7}, ID[16] = {0x11}, OTHER[16] = {0x22};
 /* A join of group "g" that subscribes "t": ConsumerGroupHeartbeat version 0, correlation id 7, no client id, member epoch 0. */
 static const uint8_t JOIN[] = {0, 68, 0, 0, 0, 0, 0, 7, 0xff, 0xff, 0, 2, 'g', 1, 0, 0, 0, 0, 0, 0, 0, 0, 0xea, 0x60, 2, 2, 't', 0, 1, 0};
 /* The same of a static member: the instance "i", and the member's id "m". */
-static const uint8_t STATIC_JOIN[] = {0, 68, 0, 0, 0, 0, 0, 7, 0xff, 0xff, 0, 2, 'g', 2, 'm', 0, 0, 0, 0, 2, 'i', 0, 0, 0, 0xea, 0x60, 2, 2, 't', 0, 1, 0};
+static const uint8_t STATIC_JOIN[] = {0, 68, 0, 0, 0, 0, 0, 7, 0xff, 0xff, 0, 2, 'g', 2, 'm', 0, 0, 0, 0,
+                                      2, 'i', 0, 0, 0, 0xea, 0x60, 2, 2, 't', 0, 1, 0};
 /* It goes away for a while: member epoch -2. */
-static const uint8_t AWAY[] = {0, 68, 0, 0, 0, 0, 0, 7, 0xff, 0xff, 0, 2, 'g', 2, 'm', 0xff, 0xff, 0xff, 0xfe, 2, 'i', 0, 0xff, 0xff, 0xff, 0xff, 0, 0, 0, 0};
+static const uint8_t AWAY[] = {0, 68, 0, 0, 0, 0, 0, 7, 0xff, 0xff, 0, 2, 'g', 2, 'm', 0xff, 0xff, 0xff, 0xfe,
+                               2, 'i', 0, 0xff, 0xff, 0xff, 0xff, 0, 0, 0, 0};
 static const char FIRST_ID[] = "00000000-0000-0000-0000-000000000001";
 
 static int32_t add(migwelun_slot *slot, const char *name, const uint8_t *id, int32_t partitions) {

@@ -67,6 +67,12 @@ static int again(int32_t code) {
     return 1;
 }
 
+/* After a call that takes no memory, before which `begin` was called. */
+static void took_none(void) {
+    if (refuses && left == NEVER) fail(1, "memory is taken");
+    left = NEVER;
+}
+
 /* The next word of the line, or NULL. */
 static char *word(char **line) {
     return *line ? strsep(line, " ") : NULL;
@@ -121,16 +127,18 @@ static void image(char *line) {
 
 static void tick(void) {
     size_t removed;
-    left = refuses ? 0 : NEVER;
+    begin();
     if (migwelun_tick(&slot, now, &removed)) fail(1, "a tick is refused");
-    left = NEVER;
+    took_none();
     printf("removed %zu\n", removed);
 }
 
 /* Takes what waits, with more room where that is asked for. */
 static size_t take(void) {
     size_t size;
+    begin();
     int32_t code = migwelun_take(&slot, replies, room, &size);
+    took_none();
     if (code == MIGWELUN_SHORT) {
         if (size <= room) fail(1, "there was room");
         room = size;
