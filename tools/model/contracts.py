@@ -8,7 +8,9 @@ from model.definitions import WORD, names_in
 EXPORT = re.compile(r"^pub use ([\w:]+)(?:::\{([^}]*)\})?;", re.M)
 ITEM = re.compile(r"^pub (?:fn|struct|enum|trait) (\w+)", re.M)
 OWNER = re.compile(r"^(?:pub )?(?:unsafe )?(impl|trait)\b(.*)")
-FUNCTION = re.compile(r"( *)(pub )?(?:const )?fn (\w+)")
+FUNCTION = re.compile(r"( *)(pub )?(?:const )?(?:extern \"C\" )?fn (\w+)")
+# What a static library gives to C.
+FOR_C = re.compile(r"^pub extern \"C\" fn (\w+)", re.M)
 # (How a model is stored says nothing of what it means.)
 CLAUSE = re.compile(r" +(?:requires|ensures|ghost (?!use |coded))")
 
@@ -19,7 +21,7 @@ def exported(root_file):
         files = root_file.parent.glob("**/*.rt")
         return {it for file in files for it in ITEM.findall(file.read_text(encoding="utf-8"))}
     text = root_file.read_text(encoding="utf-8")
-    found = set(re.findall(r"^pub mod (\w+);", text, re.M))
+    found = {*re.findall(r"^pub mod (\w+);", text, re.M), *FOR_C.findall(text)}
     for path, names in EXPORT.findall(text):
         found |= {it.strip() for it in names.split(",")} if names else {path.rpartition("::")[2]}
     return found
@@ -29,7 +31,13 @@ def clauses_in(path, public):
     """The text of the clauses of a file's public items."""
     lines = path.read_text(encoding="utf-8").split("\n")
     owner_is_public, in_trait, is_open, kept = False, False, False, []
+    depth = 0
     for line in lines:
+        if depth > 0:
+            # a clause of several lines goes on
+            kept.append(line)
+            depth += line.count("{") - line.count("}")
+            continue
         owner = OWNER.match(line)
         if owner:
             words = set(re.findall(r"\w+", owner[2].partition(" where ")[0]))
@@ -41,6 +49,7 @@ def clauses_in(path, public):
             is_open = (owner_is_public and (function[2] or in_trait)) if is_method else function[3] in public
         if CLAUSE.match(line) and (is_open or owner_is_public and line.lstrip().startswith("ghost")):
             kept.append(line)
+            depth = line.count("{") - line.count("}")
     return lines, kept
 
 

@@ -6,7 +6,7 @@
     cluster                           the brokers, and which of them coordinates a group
     apis                              a module for each API that is answered
     heartbeats, commits               the messages that the coordinator answers, as far as they are read here
-    link, relay                       a connection to the coordinator, and a client's
+    link, relay, embedded             a connection to the coordinator, a client's, and a coordinator in this process
     acceptor, streams                 the taking of connections in order, and bounds on how long streams may take
     groups, watch, words, metrics     what the frames tell of the groups, in words and numbers
     status                            the page, and the same as JSON and for Prometheus

@@ -8,12 +8,13 @@ import os
 import resource
 import signal
 import sys
-from typing import Any, Callable, Coroutine, List
+from typing import Callable, List
 
 from broker import starter
-from broker.acceptor import listen, port_of
+from broker.acceptor import Work, listen, port_of
 from broker.cluster import Cluster, Node
-from broker.command_line import Options, Place, parse
+from broker.command_line import EMBEDDED, Options, Place, parse
+from broker.embedded import Embedded
 from broker.link import Coordinator
 from broker.log import Log
 from broker.offsets import Offsets
@@ -73,15 +74,15 @@ async def run(options: Options, tell: Callable[[str], None]) -> None:
         ports = [options.port and options.port + number for number in range(len(options.places))]
         listeners = [stack.enter_context(listen(HOST, port)) for port in ports]
         status = None if options.status is None else stack.enter_context(listen(HOST, options.status))
-        started: List[starter.Started] = []
+        beside: List[Callable[[], Work]] = []
         nodes = []
         for number, (place, listener) in enumerate(zip(options.places, listeners)):
-            coordinator = await coordinator_at(place, options, started, stack)
+            coordinator = await coordinator_at(place, options, beside, stack)
             nodes.append(Node(number, HOST, port_of(listener), coordinator))
         log, watch = Log(options.rate, options.records), Watch(options.topics, tell)
         cluster = Cluster(nodes, options.topics, log, Offsets())
         works = [serve_node(cluster, node, watch, listener) for node, listener in zip(nodes, listeners)]
-        works += [watch.run(), *(each.ended() for each in started)]
+        works += [watch.run(), *(each() for each in beside)]
         for node in nodes:
             tell(f"listening {HOST}:{node.port}  coordinator {node.coordinator}")
         if status is not None:
@@ -91,18 +92,23 @@ async def run(options: Options, tell: Callable[[str], None]) -> None:
 
 
 async def coordinator_at(
-    place: Place, options: Options, started: List[starter.Started], stack: contextlib.AsyncExitStack
+    place: Place, options: Options, beside: List[Callable[[], Work]], stack: contextlib.AsyncExitStack
 ) -> Coordinator:
-    """The coordinator at a place, which is started where that is wanted, and ended with the stack."""
-    if place is not None:
+    """The coordinator at a place. Where it is started it is ended with the stack; what has to run beside it comes to that list."""
+    if place == EMBEDDED:
+        embedded = Embedded(options.library, options.topics)
+        stack.callback(embedded.inside.close)
+        beside.append(embedded.ticks)
+        return embedded
+    if isinstance(place, tuple):
         return Coordinator(*place)
     program = await starter.start(options.program, options.topics)
     stack.push_async_callback(program.end)
-    started.append(program)
+    beside.append(program.ended)
     return program.coordinator
 
 
-async def until_one_ends(works: List[Coroutine[Any, Any, None]]) -> None:
+async def until_one_ends(works: List[Work]) -> None:
     tasks = [asyncio.ensure_future(work) for work in works]
     try:
         done, _ = await asyncio.wait(tasks, return_when=asyncio.FIRST_COMPLETED)

@@ -7,15 +7,16 @@ import dataclasses
 import math
 import pathlib
 import re
-from typing import List, NoReturn, Optional, Sequence, Tuple
+from typing import List, NoReturn, Optional, Sequence, Tuple, Union
 
 from broker.topics import Topic, Topics, read
 
-LAUNCHER = pathlib.Path(__file__).resolve().parents[3] / "coord"
+TOP = pathlib.Path(__file__).resolve().parents[3]
+LAUNCHER, LIBRARY = TOP / "coord", TOP / "crates/coord_c/out/libmigwelun.so"
 MOST_RECORDS_A_SECOND = 10_000
-START = None
-# A coordinator's host and port, or one that is to be started.
-Place = Optional[Tuple[str, int]]
+START, EMBEDDED = None, "embedded"
+# A coordinator's host and port, or one that is to be started, or one in this process.
+Place = Union[None, str, Tuple[str, int]]
 
 
 @dataclasses.dataclass(frozen=True)
@@ -24,6 +25,7 @@ class Options:
 
     places: Sequence[Place]
     program: str
+    library: str
     port: int
     status: Optional[int]
     rate: float
@@ -49,6 +51,10 @@ def parse(words: List[str]) -> Options:
         "--start", dest="places", action="append_const", const=START, help="starts `coord serve` itself; may be repeated as well"
     )
     parser.add_argument(
+        "--embedded", dest="places", action="append_const", const=EMBEDDED, help="has a coordinator in this process; may be repeated as well"
+    )
+    parser.add_argument("--library", default=str(LIBRARY), metavar="PATH", help="the library that --embedded loads, as tools/build-library makes it")
+    parser.add_argument(
         "--program", default=str(LAUNCHER), metavar="PATH", help="the program coord that --start starts (the launcher of this repository)"
     )
     parser.add_argument("--port", type=_port, required=True, help="clients' port of 127.0.0.1, the first of as many as brokers; 0 is a free one each")
@@ -58,14 +64,14 @@ def parse(words: List[str]) -> Options:
     parser.add_argument("topics", nargs="+", type=_topic, metavar="NAME:UUID:COUNT", help="a topic: its name, id and number of partitions")
     given = parser.parse_args(words)
     if not given.places:
-        parser.error("wants --coordinator HOST:PORT or --start")
+        parser.error("wants --coordinator HOST:PORT, --start or --embedded")
     if given.port and given.port + len(given.places) - 1 > 65_535:
         parser.error(f"--port {given.port} leaves no ports for {len(given.places)} brokers")
     try:
         topics = Topics(given.topics)
     except ValueError as why:
         parser.error(str(why))
-    return Options(given.places, given.program, given.port, given.status, given.rate, given.records, topics)
+    return Options(given.places, given.program, given.library, given.port, given.status, given.rate, given.records, topics)
 
 
 def _place(word: str) -> Place:

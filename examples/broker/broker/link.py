@@ -3,8 +3,9 @@
 from __future__ import annotations
 
 import asyncio
+import functools
 import socket
-from typing import Optional
+from typing import Awaitable, Callable, Optional
 
 from broker.frames import BadFrame, framed, read_body
 from broker.streams import within
@@ -13,6 +14,8 @@ from broker.words import say
 OPEN_SECONDS = 5
 ANSWER_SECONDS = 60
 LEAST_REPLY = 4
+# A connection that was opened: its link is made where it is served.
+Connection = Callable[[], Awaitable["Link"]]
 
 
 class CoordinatorClosed(Exception):
@@ -30,7 +33,7 @@ class Coordinator:
     def __str__(self) -> str:
         return f"{self.host}:{self.port}"
 
-    async def connect(self) -> Optional[socket.socket]:
+    async def connect(self) -> Optional[Connection]:
         """A new connection, or None where the coordinator can't be reached."""
         connection = socket.socket()
         connection.setblocking(False)
@@ -43,7 +46,7 @@ class Coordinator:
         if self.is_there is False:
             say(f"the coordinator {self} is there again")
         self.is_there = True
-        return connection
+        return functools.partial(linked, connection)
 
     def _was_not_there(self, why: str) -> None:
         if self.is_there is not False:
@@ -51,12 +54,16 @@ class Coordinator:
         self.is_there = False
 
 
+async def linked(connection: socket.socket) -> Link:
+    return Link(*await asyncio.open_connection(sock=connection))
+
+
 class Link:
     """A connection to a coordinator. It always reads, so that it learns of its end; `arriving` is the next frame's body."""
 
     def __init__(self, reader: asyncio.StreamReader, writer: asyncio.StreamWriter) -> None:
         self._reader, self._writer = reader, writer
-        self.arriving = asyncio.ensure_future(self._read())
+        self.arriving: asyncio.Future[Optional[bytes]] = asyncio.ensure_future(self._read())
 
     async def _read(self) -> Optional[bytes]:
         try:

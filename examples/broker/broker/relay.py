@@ -17,7 +17,7 @@ from broker.call import Call
 from broker.cluster import Cluster, Node
 from broker.fields import Unreadable
 from broker.frames import BadFrame, framed, read_body, read_request
-from broker.link import CoordinatorClosed, Link
+from broker.link import Connection, CoordinatorClosed, Link
 from broker.streams import close, within
 from broker.watch import Watch
 from broker.words import say
@@ -45,9 +45,9 @@ async def serve_node(cluster: Cluster, node: Node, watch: Watch, listener: socke
     await accept(listener, MOST_CONNECTIONS, prepare)
 
 
-async def relay(cluster: Cluster, node: Node, watch: Watch, client: socket.socket, coordinator: socket.socket, address: Address) -> None:
+async def relay(cluster: Cluster, node: Node, watch: Watch, client: socket.socket, coordinator: Connection, address: Address) -> None:
     """Serves a client until either side closes. Says why, unless it was the client."""
-    link = Link(*await asyncio.open_connection(sock=coordinator))
+    link = await coordinator()
     reader, writer = await asyncio.open_connection(sock=client)
     node.connections += 1
     try:

@@ -1,4 +1,5 @@
-"""The program as it is run, with the coordinator itself behind it where BROKER_TEST_PROGRAM names the built program coord."""
+"""The program as it is run, with the coordinator itself behind it where BROKER_TEST_PROGRAM names the built program coord, and inside it
+where BROKER_TEST_LIBRARY names libmigwelun.so."""
 
 from __future__ import annotations
 
@@ -24,6 +25,8 @@ PROGRAM = os.environ.get("BROKER_TEST_PROGRAM", "")
 COORDINATORS = 3
 GROUPS = [f"group-{number}" for number in range(9)]
 needs_program = unittest.skipUnless(PROGRAM, "it needs the built program coord")
+LIBRARY = os.environ.get("BROKER_TEST_LIBRARY", "")
+needs_library = unittest.skipUnless(LIBRARY, "it needs the built library, which tools/check-library gives it")
 
 # What the front end prints of the two members of examples/client.py, in group G.
 OF_TWO_MEMBERS = [
@@ -40,7 +43,7 @@ OF_TWO_MEMBERS = [
 REFUSED = [
     (["--start", "t:11:2", "--port", "0"], "argument NAME:UUID:COUNT: 't:11:2' wants a UUID behind its first colon"),
     (["--start", "--port", "0"], "the following arguments are required: NAME:UUID:COUNT"),
-    (["--port", "0", f"t:{ORDERS}:2"], "wants --coordinator HOST:PORT or --start"),
+    (["--port", "0", f"t:{ORDERS}:2"], "wants --coordinator HOST:PORT, --start or --embedded"),
     (["--start", f"t:{ORDERS}:2"], "the following arguments are required: --port"),
     (["--start", "--port", "0", f"t:{ORDERS}:0"], "wants a number of partitions from 1 to 100000 at its end"),
     (["--start", "--port", "0", f"a b:{ORDERS}:1"], "wants a name of 1 to 249 letters"),
@@ -139,17 +142,25 @@ class Program(unittest.TestCase):
     def test_a_program_that_can_not_be_started_and_a_port_that_is_taken_are_said(self) -> None:
         with socket.create_server((HOST, 0)) as taken:
             rows = [
-                (["--program", "/nowhere", "--port", "0"], "/nowhere can't be started"),
-                (["--port", str(taken.getsockname()[1])], "Address already in use"),
+                (["--start", "--program", "/nowhere", "--port", "0"], "/nowhere can't be started"),
+                (["--start", "--port", str(taken.getsockname()[1])], "Address already in use"),
+                (["--embedded", "--library", "/nowhere", "--port", "0"], "tools/build-library makes it"),
             ]
             for words, why in rows:
-                command = [sys.executable, "-B", "-m", "broker", "--start", *words, f"t:{ORDERS}:2"]
+                command = [sys.executable, "-B", "-m", "broker", *words, f"t:{ORDERS}:2"]
                 ran = subprocess.run(command, cwd=FOLDER, capture_output=True, text=True, timeout=SECONDS, check=False)
                 self.assertEqual((ran.returncode, ran.stdout, ran.stderr.count("\n"), why in ran.stderr), (1, "", 1, True), ran.stderr)
 
     @needs_program
     def test_two_members_of_another_hand(self) -> None:
-        with broker("--start", "--program", PROGRAM, f"t:{ORDERS}:2") as it:
+        self.see_two_members("--start", "--program", PROGRAM)
+
+    @needs_library
+    def test_two_members_of_another_hand_embedded(self) -> None:
+        self.see_two_members("--embedded", "--library", LIBRARY)
+
+    def see_two_members(self, *words: str) -> None:
+        with broker(*words, f"t:{ORDERS}:2") as it:
             ran = subprocess.run([sys.executable, CLIENT, f"{HOST}:{it.ports[0]}"], capture_output=True, text=True, timeout=SECONDS, check=True)
             known, metrics = json.loads(it.get("groups")), it.get("metrics").splitlines()
             group = known["groups"][0]

@@ -1,0 +1,47 @@
+//! A member comes and goes. The bytes are KIP-848's, by the Kafka protocol guide.
+
+use migwelun::{Answer, Coordinator, Error, Stamp, Topic};
+
+const FIRST: &str = "00000000-0000-0000-0000-000000000001";
+const T: Topic<'_> = Topic { name: "t", id: [0x11; 16], partitions: 2 };
+
+/// A join of group g that subscribes t.
+const JOIN: [u8; 30] = [
+    0, 68, 0, 0, 0, 0, 0, 7, 0xff, 0xff, 0, 2, b'g', 1, 0, 0, 0, 0, 0, 0, 0, 0, 0xea, 0x60, 2, 2, b't', 0, 1, 0,
+];
+
+/// Its reply: partitions 0 and 1 at member epoch 1.
+fn reply() -> Vec<u8> {
+    let head = [0, 0, 0, 0x57, 0, 0, 0, 7, 0, 0, 0, 0, 0, 0, 0, 0, 37];
+    let tail = [0, 0, 0, 1, 0, 0, 0x13, 0x88, 1, 2];
+    let parts = [3, 0, 0, 0, 0, 0, 0, 0, 1, 0, 0, 0];
+    [&head[..], FIRST.as_bytes(), &tail[..], &T.id[..], &parts[..]].concat()
+}
+
+#[test]
+fn a_member_comes_and_goes() -> Result<(), Error> {
+    let mut it = Coordinator::new(0, &[7; 16])?;
+    it.set_topics(&[T])?;
+    let at = |frame| Stamp { connection: 1, frame };
+    assert_eq!(it.answer(&JOIN, at(1), 0)?, Answer::Reply(reply()));
+    assert_eq!((it.epochs("g", FIRST), it.epochs("g", "n")), (Some((1, 0)), None));
+    assert_eq!(it.answer(&JOIN[1..], at(2), 0)?, Answer::Close);
+    let mut it = std::thread::spawn(move || (it.tick(44_999), it.tick(45_000), it)).join().unwrap();
+    assert_eq!((it.0, it.1, it.2.epochs("g", FIRST), it.2.remembers("g", FIRST)), (0, 1, None, true));
+    Ok(())
+}
+
+#[test]
+fn topics_have_faults() -> Result<(), Error> {
+    let mut it = Coordinator::new(0, &[7; 16])?;
+    let faults = [
+        (vec![T, Topic { id: [0x22; 16], ..T }], Error::DuplicateName),
+        (vec![T, Topic { name: "u", ..T }], Error::DuplicateId),
+        (vec![Topic { partitions: 1_000_001, ..T }], Error::TooMany),
+        (vec![Topic { partitions: 0, ..T }], Error::BadCount),
+    ];
+    for (topics, fault) in faults {
+        assert_eq!(it.set_topics(&topics), Err(fault));
+    }
+    it.set_topics(&[])
+}

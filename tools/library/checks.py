@@ -1,0 +1,166 @@
+"""What is checked of the C library. A check gives its name, and why it fails: nothing where it passes."""
+
+import concurrent.futures
+import os
+import pathlib
+import shutil
+import subprocess
+import sys
+from typing import Iterator, List, Optional, Sequence, Tuple
+
+from clients import conversation, replay
+from gate import commands
+
+Check = Tuple[str, str]
+# Before the reason why a check was not run.
+NOT_RUN = "\0"
+AT_ONCE = 4
+SECONDS, BUILD_SECONDS = 300, 1_500
+SCRIPTS, REFUSED_SCRIPTS, WATCHED_SCRIPTS = 2_000, 100, 4
+WATCH = ("valgrind", "-q", "--error-exitcode=99", "--leak-check=full", "--errors-for-leak-kinds=all")
+TOPIC = "t:11111111-1111-1111-1111-111111111111:2"
+COMPILE = ("cc", "-std=c11", "-O2", "-Wall", "-Wextra", "-Werror")
+
+
+class Library:
+    """The library, and the programs over it."""
+
+    def __init__(self, top: pathlib.Path, folder: pathlib.Path, archive: pathlib.Path) -> None:
+        self.top, self.folder, self.archive = top, folder, archive
+        self.shared = archive.with_suffix(".so")
+
+    def compiled(self, source: str, *words: str) -> pathlib.Path:
+        """The program of a source."""
+        made = self.folder / pathlib.Path(source).stem
+        ran = run([*COMPILE, "-I", str(self.top / "include"), "-o", str(made), str(self.top / source), str(self.archive), *words])
+        if ran:
+            raise Failed(ran)
+        return made
+
+
+class Failed(Exception):
+    """Why a check can't go on."""
+
+
+def run(words: Sequence[str], folder: Optional[pathlib.Path] = None, given: bytes = b"", limit: float = SECONDS) -> str:
+    """Runs a program, and says what it said where its status isn't 0."""
+    ran = commands.run([*words], folder and str(folder), given, limit)
+    return "\n".join([*ran.lines()[-20:], f"{words[0]} ended with status {ran.status}"]) if ran.status else ""
+
+
+def all_checks(top: pathlib.Path, folder: pathlib.Path, archive: Optional[pathlib.Path]) -> Iterator[Check]:
+    if shutil.which("cc") is None:
+        yield "the C library", f"{NOT_RUN}there is no cc"
+        return
+    if archive is None:
+        why = run([str(top / "tools/build-library"), str(folder)], limit=BUILD_SECONDS)
+        yield "tools/build-library", why
+        if why:
+            return
+        archive = folder / "libmigwelun.a"
+    library = Library(top, folder, archive)
+    for some in (of_c, of_examples):
+        try:
+            yield from some(library)
+        except Failed as why:
+            yield some.__name__, str(why)
+
+
+# ---- programs in C
+
+
+def of_c(library: Library) -> Iterator[Check]:
+    edges = library.compiled("tools/library/edges.c")
+    reply = library.compiled("tools/library/reply.c", "-Wl,--wrap=malloc,--wrap=realloc")
+    yield "edges", run([str(edges)])
+    yield from conversations(library.top, [str(reply)])
+    yield from cases(library.top, reply)
+    yield from random_scripts(library.top, [str(reply)], SCRIPTS)
+    refusing = library.folder / "refusing"
+    refusing.write_text(f'#!/bin/sh\nexec "{reply}" --refuse 2>/dev/null\n')
+    refusing.chmod(0o755)
+    yield "allocations are refused", refusals(library.top, reply)
+    yield from random_scripts(library.top, [str(refusing)], REFUSED_SCRIPTS)
+    yield from watched(library, edges, reply)
+
+
+def conversations(top: pathlib.Path, command: List[str]) -> Iterator[Check]:
+    for path in sorted((top / "cases/conversations").glob("*.txt")):
+        try:
+            replay.play_coordinator(conversation.read(path), command)
+            yield path.stem, ""
+        except (replay.Differs, OSError, ValueError) as why:
+            yield path.stem, str(why)
+
+
+def cases(top: pathlib.Path, reply: pathlib.Path) -> Iterator[Check]:
+    """The cases of `coord reply` whose lines can all be read."""
+    for path in sorted((top / "cases/reply").glob("*.in")):
+        if not path.with_suffix(".err").is_file():
+            ran = commands.run([str(reply)], given=path.read_bytes(), limit=SECONDS)
+            is_same = ran.status == 0 and ran.output == path.with_suffix(".out").read_bytes()
+            yield f"cases/reply/{path.name}", "" if is_same else f"status {ran.status}, and the output differs"
+
+
+def random_scripts(top: pathlib.Path, command: List[str], count: int) -> Iterator[Check]:
+    """Random scripts, in as many parts as there are processors for, each from a seed of its own."""
+    part = [str(top / "tools/reply-lines"), "check", "--scripts", str(count // AT_ONCE), "--seed"]
+    with concurrent.futures.ThreadPoolExecutor(AT_ONCE) as pool:
+        tried = pool.map(lambda seed: run([*part, str(seed), *command]), range(1, AT_ONCE + 1))
+    for number, why in enumerate(tried, 1):
+        yield f"{count // AT_ONCE} scripts of seed {number} through {os.path.basename(command[0])}", why
+
+
+def refusals(top: pathlib.Path, reply: pathlib.Path) -> str:
+    """A rebalance in which allocations were refused."""
+    ran = commands.run([str(reply), "--refuse"], given=(top / "examples/reply/rebalance.txt").read_bytes(), merged=False)
+    wanted = (top / "examples/reply/rebalance.out").read_bytes()
+    if ran.status or ran.output != wanted:
+        return f"status {ran.status}, and the output differs: {ran.errors.decode()}"
+    return "" if int(ran.errors.split()[0]) > 0 else "no allocation was refused"
+
+
+def watched(library: Library, edges: pathlib.Path, reply: pathlib.Path) -> Iterator[Check]:
+    """The same under valgrind: no bad access, and all memory is freed."""
+    if shutil.which(WATCH[0]) is None:
+        yield "no leak and no bad access", f"{NOT_RUN}there is no valgrind"
+        return
+    yield "edges under valgrind", run([*WATCH, str(edges)])
+    script = library.folder / "watched"
+    script.write_text(f'#!/bin/sh\nexec {" ".join(WATCH)} "{reply}"\n')
+    script.chmod(0o755)
+    yield from random_scripts(library.top, [str(script)], WATCHED_SCRIPTS)
+    lines = (library.top / "examples/reply/rebalance.txt").read_bytes()
+    yield "refusals under valgrind", run([*WATCH, str(reply), "--refuse"], given=lines)
+
+
+# ---- the examples
+
+
+def of_examples(library: Library) -> Iterator[Check]:
+    embed, broker = library.top / "examples/embed", library.top / "examples/broker"
+    yield "examples/embed/broker.c", serves(library.top, library.compiled("examples/embed/broker.c", "-D_GNU_SOURCE"))
+    python = [sys.executable, "-B", "-m", "unittest"]
+    os.environ["MIGWELUN_LIBRARY"] = os.environ["BROKER_TEST_LIBRARY"] = str(library.shared)
+    yield "examples/embed/python", run([*python, "test_migwelun"], embed / "python")
+    yield "examples/broker --embedded", run([*python, "tests.test_program.Program.test_two_members_of_another_hand_embedded"], broker)
+    if shutil.which("cargo") is None:
+        yield "examples/embed/rust", f"{NOT_RUN}there is no cargo"
+        return
+    os.environ["MIGWELUN_LIBRARY"], os.environ["CARGO_TARGET_DIR"] = str(library.archive.parent), str(library.folder / "target")
+    shutil.copytree(embed / "rust", library.folder / "rust", ignore=shutil.ignore_patterns("target"))
+    yield "examples/embed/rust", run(["cargo", "test", "--offline"], library.folder / "rust")
+
+
+def serves(top: pathlib.Path, program: pathlib.Path) -> str:
+    """The server takes the two members of examples/client.py through a rebalance."""
+    process = subprocess.Popen([program, "0", TOPIC], stdout=subprocess.PIPE, text=True)
+    try:
+        assert process.stdout is not None
+        port = process.stdout.readline().split()[1]
+        ran = commands.run([sys.executable, str(top / "examples/client.py"), f"127.0.0.1:{port}"], limit=SECONDS)
+    finally:
+        process.kill()
+        process.wait()
+    is_right = ran.status == 0 and ran.lines()[-1].startswith("first leaves")
+    return "" if is_right else "\n".join(ran.lines())
