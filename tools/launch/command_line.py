@@ -73,8 +73,9 @@ class Subcommand:
     def option(self, name: str) -> Optional[Option]:
         return next((it for it in self.options if it.name == name), None)
 
-    def usage(self, used: str = "") -> str:
-        options = [used] if used else ["[OPTIONS]"] * bool(self.options)
+    def usage(self, used: str = "", has_topics: bool = False) -> str:
+        """How it is used: with the options that were, where some were or a topic came before."""
+        options = [used] if used else ["[OPTIONS]"] * bool(self.options and not has_topics)
         return " ".join(["Usage: coord", self.name, *options, *["[TOPIC]..."] * self.takes_topics])
 
 
@@ -162,7 +163,7 @@ def check_subcommand(subcommand: Subcommand, words: List[str]) -> None:
             topics += words
             break
         if word.startswith("--"):
-            take_option(subcommand, word[2:], words, found)
+            take_option(subcommand, word[2:], words, found, bool(topics))
         elif word.startswith("-") and word != "-":
             raise bad_option(word, subcommand)
         else:
@@ -178,24 +179,25 @@ def check_subcommand(subcommand: Subcommand, words: List[str]) -> None:
     check_topics(topics)
 
 
-def take_option(subcommand: Subcommand, text: str, words: List[str], found: Dict[str, str]) -> None:
+def take_option(subcommand: Subcommand, text: str, words: List[str], found: Dict[str, str], has_topics: bool) -> None:
     """Takes one option with its value, which stands behind an equal sign or is the next word."""
     name, equals, value = text.partition("=")
     option = subcommand.option(name)
+    used = [it.shown() for it in map(subcommand.option, found) if it]
     if option is None:
-        raise bad_option(f"--{text}", subcommand)
+        raise bad_option(f"--{text}", subcommand, used=used, has_topics=has_topics)
     if option.value and not equals:
-        value = value_of(subcommand, option, words)
+        value = value_of(subcommand, option, words, used, has_topics)
     elif equals and not option.value:
         raise needless_value(value, option.shown(), subcommand)
     # The program looks at a value when it comes to the next word, and an unknown option there is told first.
     is_late = option.value and not equals and words and is_unknown(subcommand, words[0])
     if is_late and (name in found or option.choices and value not in option.choices):
-        raise bad_option(words[0], subcommand)
-    if option.choices and value not in option.choices:
-        raise no_choice(option, value)
+        raise bad_option(words[0], subcommand, used=used, has_topics=has_topics)
     if name in found:
         raise error(f"the argument '{option.shown()}' cannot be used multiple times", subcommand.usage())
+    if option.choices and value not in option.choices:
+        raise no_choice(option, value)
     found[name] = value
 
 
@@ -207,10 +209,10 @@ def is_unknown(subcommand: Subcommand, word: str) -> bool:
     return word.startswith("-") and not is_known
 
 
-def value_of(subcommand: Subcommand, option: Option, words: List[str]) -> str:
+def value_of(subcommand: Subcommand, option: Option, words: List[str], used: List[str], has_topics: bool) -> str:
     """Takes the word behind an option as its value."""
     if words and is_unknown(subcommand, words[0]):
-        raise bad_option(words[0], subcommand)
+        raise bad_option(words[0], subcommand, used=used, has_topics=has_topics)
     if not words or words[0].startswith("-") and words[0] != "-":
         raise lacks_value(option)
     return words.pop(0)
@@ -299,7 +301,13 @@ def unknown_subcommand(word: str) -> Answered:
     return error(f"unrecognized subcommand '{word}'{tip}", usage())
 
 
-def bad_option(word: str, subcommand: Optional[Subcommand], rest: Sequence[str] = ()) -> Answered:
+def bad_option(
+    word: str,
+    subcommand: Optional[Subcommand],
+    rest: Sequence[str] = (),
+    used: Sequence[str] = (),
+    has_topics: bool = False,
+) -> Answered:
     """That there is no such option; with one that is spelled much like it, where there is one. Help is no fault of the words."""
     name, equals, value = word.partition("=")
     shown = name if word.startswith("--") else word[:2]
@@ -316,7 +324,10 @@ def bad_option(word: str, subcommand: Optional[Subcommand], rest: Sequence[str] 
         tip = "".join(f"\n\n  tip: '{it.name} {similar_option(name[2:], it).partition(' ')[0]}' exists" for it in named[:1])
     elif subcommand is not None and subcommand.takes_topics:
         tip = f"\n\n  tip: to pass '{shown}' as a value, use '-- {shown}'"
-    return error(f"unexpected argument '{shown}' found{tip}", usage_of(subcommand, similar))
+    if subcommand is None or not word.startswith("--"):
+        return error(f"unexpected argument '{shown}' found{tip}", usage_of(subcommand, similar))
+    named_options = " ".join(dict.fromkeys([*used, *[similar] * bool(similar)]))
+    return error(f"unexpected argument '{shown}' found{tip}", subcommand.usage(named_options, has_topics))
 
 
 def similar_option(name: str, subcommand: Optional[Subcommand]) -> str:
