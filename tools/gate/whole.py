@@ -131,7 +131,12 @@ class Gate:
             names = []
             self.say(f"no further edit is tried, since {LAST_BEGIN} minutes are over")
         until = self.clock.seconds() / 60 + minutes()
+        failed, faults = self.failed, [*self.faults]
         self.try_edits("further edits", edits.FURTHER_FOLDER, names, known, until)
+        # (Which of them are tried hangs on the time and the commit, so they fail nothing here.)
+        for fault in self.faults[len(faults) :]:
+            self.say(f"not refused: {fault}")
+        self.failed, self.faults = failed, faults
 
     def try_edits(self, what, folder, names, known, until):
         """Tries the edits of one kind of these crates, those that weren't tried before, in an order that changes from commit to commit."""
