@@ -37,7 +37,7 @@ class Tale:
 
     def sent(self, event: events.Sent) -> str:
         owned = "" if event.owned is None else f": owns {self.topics.text(event.owned)}"
-        return f"{self.name(event.client)}: request {event.request}, {KINDS[event.kind]}{owned}"
+        return f"{self.name(event.client)}: request #{event.request}, {KINDS[event.kind]}{owned}"
 
     def delivered(self, event: events.Delivered) -> str:
         reply, name = event.reply, self.name(event.client)
@@ -157,7 +157,7 @@ def numbers(story: Story, script: list[str]) -> Iterator[str]:
 
 def number_text(event: events.Event, story: Story) -> str:
     if isinstance(event, events.Sent):
-        return f"request {event.request}"
+        return f"request #{event.request}"
     if isinstance(event, events.Delivered):
         return f"reply {event.reply.number} to {story.people[event.client].name}" if event.reply else "no reply"
     if isinstance(event, events.Committed):
