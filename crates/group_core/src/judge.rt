@@ -1,12 +1,13 @@
 //! The checks of a heartbeat that look at a group's records (KIP-848, "ConsumerGroupHeartbeat API").
-ghost use Rattle.std.specs.Prelude.{◌≡◌, ◌||◌, ◌≤ℤ◌, ℕ, pos, None, Some, IsTrue, []};
+ghost use Rattle.std.specs.Prelude.{◌≡◌, ◌||◌, ◌≤ℤ◌, ℕ, pos, None, Some, IsTrue, [], unwrap_or};
 ghost use Rattle.std.specs.FinMap as finite;
 ghost use Rattle.std.specs.List.{flat_map, list_all};
 ghost use Rattle.std.specs.Option.{option_copied, option_map};
 ghost use Rattle.group_types.specs.Request.{Joins, Beats, Leaves, GoesAway, kind_of};
 ghost use Rattle.group_types.specs.Checks.{Accepted, are_granted, is_current, is_fenced, is_late, is_another, is_away, is_of_past, is_overtaken, record_under, sender_of, verdict_on};
+ghost use Rattle.group_types.specs.Sets.{has, nothing};
 ghost use Rattle.group_types.specs.Sound.{IsSound};
-ghost use Rattle.group_reconcile.specs.Holders.{holds, pairs};
+ghost use Rattle.group_reconcile.specs.Holders.{pairs};
 ghost use Rattle.kip_msgs.specs.Topics.{topic_partitions_values};
 ghost use Rattle.kip_msgs.specs.Views.{heartbeat_request_value};
 ghost use Rattle.group_epochs.specs.Request.{heartbeat_of, partitions_of};
@@ -21,7 +22,7 @@ use crate::verdict::Verdict;
 use group_epochs::Record;
 use group_reconcile::Grants;
 use group_types::limits::MOST_MEMBERS;
-use group_types::{Code, Epoch, Partition, Stamp};
+use group_types::{Code, Epoch, PartSet, Partition, Stamp};
 use kip_msgs::{Array, HeartbeatRequest, TopicPartitions};
 
 /// What the checks of a heartbeat come to.
@@ -203,36 +204,44 @@ fn is_fenced(grants: &Grants, record: &Record, request: &HeartbeatRequest<'_>) -
     }
 }
 
-/// Whether partitions are reported, and each is granted to the member.
+/// Whether partitions are reported, and each is granted to the member, which is looked up once.
 fn are_granted(grants: &Grants, member: &str, owned: &Option<Array<TopicPartitions<'_>>>) -> bool
     ensures { result ≡ are_granted (pairs grants.now) member.now (option_map (λ list. flat_map partitions_of (topic_partitions_values list)) owned.now) }
 {
     match owned {
-        Some(list) => all_granted(grants, member, list.as_slice()),
+        Some(list) => are_among(grants.held(member), list.as_slice()),
         None => false,
     }
 }
 
-/// Whether each partition of the entries is granted to the member.
-fn all_granted(grants: &Grants, member: &str, entries: &[TopicPartitions<'_>]) -> bool
-    ensures { result ≡ list_all (λ e. list_all (λ i. holds grants.now member.now (record { topic = e.topic_id; index = i })) e.partitions) entries.now }
+/// Whether each partition of the entries is in the set; none is where there is no set.
+fn are_among(set: Option<&PartSet>, entries: &[TopicPartitions<'_>]) -> bool
+    ensures { result ≡ list_all (λ e. list_all (λ i. has (unwrap_or (option_copied set.entry) nothing) (record { topic = e.topic_id; index = i })) e.partitions) entries.now }
 {
-    entries
-        .iter()
-        .all(|entry| is_granted(grants, member, entry))
+    entries.iter().all(|entry| is_among(set, entry))
 }
 
-/// Whether each partition of the entry is granted to the member.
-fn is_granted(grants: &Grants, member: &str, entry: &TopicPartitions<'_>) -> bool
-    ensures { result ≡ list_all (λ i. holds grants.now member.now (record { topic = entry.now.topic_id; index = i })) entry.now.partitions }
+/// Whether each partition of the entry is in the set; none is where there is no set.
+fn is_among(set: Option<&PartSet>, entry: &TopicPartitions<'_>) -> bool
+    ensures { result ≡ list_all (λ i. has (unwrap_or (option_copied set.entry) nothing) (record { topic = entry.now.topic_id; index = i })) entry.now.partitions }
 {
     entry.partitions.as_slice().iter().all(|index| {
-        grants.holds(
-            member,
+        is_in(
+            set,
             &Partition {
                 topic: entry.topic_id,
                 index: *index,
             },
         )
     })
+}
+
+/// Whether the partition is in the set; none is where there is no set.
+fn is_in(set: Option<&PartSet>, p: &Partition) -> bool
+    ensures { result ≡ has (unwrap_or (option_copied set.entry) nothing) p.now }
+{
+    match set {
+        Some(set) => set.contains(p),
+        None => false,
+    }
 }

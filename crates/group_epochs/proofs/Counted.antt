@@ -1,5 +1,5 @@
 -- What a change of a record does to the counts of names.
-use Rattle.std.proofs.Common.{◌≡◌, ℕ, ◌+◌, ◌-◌, ◌^◌, ◌<◌, ◌≤◌, ◌||◌, ◌&&◌, Bool, true, false, cond, Option, Some, None, List, [], ◌∷◌, map, length, slice_get, String, T, refl, sym, ap, subst, ◌∙◌, arith}
+use Rattle.std.proofs.Common.{◌≡◌, ℕ, ◌+◌, ◌-◌, ◌^◌, ◌<◌, ◌≤◌, ◌||◌, ◌&&◌, Bool, true, false, cond, Option, Some, None, List, [], ◌∷◌, map, is_some, length, slice_get, String, T, refl, sym, ap, subst, ◌∙◌, arith}
 use Rattle.std.specs.Prelude.{IsSome, string_bytes, count_by, nat_lt, unwrap_or}
 use Rattle.std.specs.FinMap as finite
 use Rattle.std.specs.FinMap.{is_sorted}
@@ -19,16 +19,17 @@ use Rattle.std.proofs.lemmas.Map.Keys.{IsDistinct-tail}
 use Rattle.std.proofs.lemmas.Map.Text.{hash_map_updates_text}
 use Rattle.indexmap.specs.IndexMap.{IndexMap, UpdatesBy, get_by_text}
 use Rattle.group_types.specs.Text.{Text, text_cmp}
-use Rattle.group_types.specs.Sets.{has, in_order, size, with_one}
-use Rattle.group_types.specs.Topics.{Names}
+use Rattle.group_types.specs.Sets.{has, in_order, nothing, size, with_one}
+use Rattle.group_types.specs.Topics.{Names, Topic, Topics, view_of}
 use Rattle.group_types.specs.Group.{Record, Records}
-use Rattle.group_types.specs.Renewal.{is_subscribed}
+use Rattle.group_types.specs.Renewal.{is_subscribed, view_for}
 use Rattle.group_types.proofs.BoolLemmas.{or_none, or_turn}
 use Rattle.group_types.proofs.Entries.{first_part, second_part}
 use Rattle.group_types.proofs.Lookups.{not_none, Tie, ties, differs, tie, some_is, text_ties}
-use Rattle.group_types.proofs.Orders.{text_cmp_total}
-use Rattle.group_types.proofs.SetLemmas.{has-in_order, has-with_one}
-use Rattle.group_epochs.specs.Counts.{AreCounts, AreSome, count_of, once, own_share, subscribers, times, with_counted}
+use Rattle.group_types.proofs.Orders.{text_cmp_total, text_cmp-IsAntisymmetric}
+use Rattle.topic_meta.proofs.Found.{get-view_of}
+use Rattle.group_types.proofs.SetLemmas.{has-in_order, has-nothing, has-with_one}
+use Rattle.group_epochs.specs.Counts.{AreAsked, AreCounts, AreSome, count_of, is_asked, once, own_share, subscribers, times, with_asked, with_counted}
 use Rattle.group_epochs.proofs.Others.{absent_later, insert_moves, insert_over, len-records_in, no_entries}
 use Rattle.group_epochs.specs.Past.{PastState}
 use Rattle.group_epochs.specs.Table.{IsTable, Rewrites, records_in, rows_at, with_row}
@@ -285,6 +286,10 @@ nonzero_any q (r ∷ rs) =
     by true rest = sym (some_counted (count_by (λ r. has r.names q) rs))
     by false rest = rest ∙ ap (nat_lt 0) (none_counted (count_by (λ r. has r.names q) rs))
 
+has-with_one_if : (share : Bool) (names : Names) (name q : Text) → has (cond share (with_one names name) names) q ≡ (has names q || (share && eq_by_cmp text_cmp q name))
+has-with_one_if true names name q = has-with_one text_cmp_total names name q ∙ or_turn (eq_by_cmp text_cmp q name) (has names q)
+has-with_one_if false names name q = sym (or_none (has names q))
+
 module _ {Y : Type 0} where
   pub has-with_counted : (former : Option Record) (names : Names) (rows : List (String Y × ℕ)) (q : Text) → IsDistinct string_eq (keys_of rows)
       → has (with_counted former names rows) q ≡ (has names q || nat_lt (own_share former q) (unwrap_or (lookup (λ k. bytes_eq q (string_bytes k)) rows) 0))
@@ -293,10 +298,6 @@ module _ {Y : Type 0} where
       has-with_counted former (cond (nat_lt (own_share former (string_bytes row.0)) row.1) (with_one names (string_bytes row.0)) names) rows q (IsDistinct-tail string_eq row.0 (keys_of rows) apart)
       ∙ by (tie q (string_bytes row.0))
     where
-      with_name : (share : Bool) → has (cond share (with_one names (string_bytes row.0)) names) q ≡ (has names q || (share && eq_by_cmp text_cmp q (string_bytes row.0)))
-      with_name true = has-with_one text_cmp_total names (string_bytes row.0) q ∙ or_turn (eq_by_cmp text_cmp q (string_bytes row.0)) (has names q)
-      with_name false = sym (or_none (has names q))
-
       and_true : (b : Bool) → (b && true) ≡ b
       and_true true = refl
       and_true false = refl
@@ -310,23 +311,62 @@ module _ {Y : Type 0} where
       by (ties same) =
           let here : eq_by_cmp text_cmp q (string_bytes row.0) ≡ true = ap (λ t. eq_by_cmp text_cmp t (string_bytes row.0)) same ∙ text_ties (string_bytes row.0) in
           let none : (lookup (λ k. bytes_eq q (string_bytes k)) rows) ≡ None = ap (λ t. lookup (λ k. bytes_eq t (string_bytes k)) rows) same ∙ absent_later row rows apart in
-          (λ i. with_name (nat_lt (own_share former (string_bytes row.0)) row.1) i || nat_lt (own_share former q) (unwrap_or (none i) 0))
+          (λ i. has-with_one_if (nat_lt (own_share former (string_bytes row.0)) row.1) names (string_bytes row.0) q i || nat_lt (own_share former q) (unwrap_or (none i) 0))
           ∙ (λ i. (has names q || (nat_lt (own_share former (sym same i)) row.1 && here i)) || never_less (own_share former q) i)
           ∙ or_none (has names q || (nat_lt (own_share former q) row.1 && true))
           ∙ ap (λ b. has names q || b) (and_true (nat_lt (own_share former q) row.1))
           ∙ (λ i. has names q || nat_lt (own_share former q) (unwrap_or (cond ((sym here ∙ tied_bytes q (string_bytes row.0)) i) (Some row.1) (lookup (λ k. bytes_eq q (string_bytes k)) rows)) 0))
       by (differs other so) =
-          (λ i. with_name (nat_lt (own_share former (string_bytes row.0)) row.1) i || nat_lt (own_share former q) (unwrap_or (lookup (λ k. bytes_eq q (string_bytes k)) rows) 0))
+          (λ i. has-with_one_if (nat_lt (own_share former (string_bytes row.0)) row.1) names (string_bytes row.0) q i || nat_lt (own_share former q) (unwrap_or (lookup (λ k. bytes_eq q (string_bytes k)) rows) 0))
           ∙ (λ i. (has names q || ((ap (λ b. nat_lt (own_share former (string_bytes row.0)) row.1 && b) so ∙ and_false (nat_lt (own_share former (string_bytes row.0)) row.1)) i)) || nat_lt (own_share former q) (unwrap_or (lookup (λ k. bytes_eq q (string_bytes k)) rows) 0))
           ∙ ap (λ b. b || nat_lt (own_share former q) (unwrap_or (lookup (λ k. bytes_eq q (string_bytes k)) rows) 0)) (or_none (has names q))
           ∙ (λ i. has names q || nat_lt (own_share former q) (unwrap_or (cond ((sym so ∙ tied_bytes q (string_bytes row.0)) i) (Some row.1) (lookup (λ k. bytes_eq q (string_bytes k)) rows)) 0))
 
-  -- the names of a record and those that others subscribe are those that are subscribed with it
-  pub counted_with : {S : Type 0} (records : Records) (counts : IndexMap (String Y) ℕ S) (id : Text) (r : Record) (q : Text) → AreCounts records counts → IsDistinct string_eq (keys_of counts.entries)
-      → has (with_counted (finite.get records id) r.names counts.entries) q ≡ is_subscribed (finite.insert records id r) q
-  counted_with records counts id r q are apart =
-      has-with_counted (finite.get records id) r.names counts.entries q apart
-      ∙ ap (λ n. has r.names q || nat_lt (own_share (finite.get records id) q) n) (are q ∙ subscribers_without records id q)
+  -- what is asked for is in the set, or is asked for and stands in the list
+  has-with_asked : {S : Type 0} (former : Option Record) (names : Names) (counts : IndexMap (String Y) ℕ S) (found : Names) (ns : List Text) (q : Text)
+      → has (with_asked former names counts found ns) q ≡ (has found q || (list_any (eq_by_cmp text_cmp q) ns && is_asked former names counts q))
+  has-with_asked former names counts found [] q = sym (or_none (has found q))
+  has-with_asked former names counts found (n ∷ ns) q =
+      has-with_asked former names counts (cond (is_asked former names counts n) (with_one found n) found) ns q
+      ∙ ap (λ b. b || (list_any (eq_by_cmp text_cmp q) ns && is_asked former names counts q)) (has-with_one_if (is_asked former names counts n) found n q)
+      ∙ by (tie q n)
+    where
+      in_turn : (h a e y : Bool) → ((h || (a && e)) || (y && a)) ≡ (h || ((e || y) && a))
+      in_turn true a e y = refl
+      in_turn false true true y = refl
+      in_turn false true false y = refl
+      in_turn false false true true = refl
+      in_turn false false true false = refl
+      in_turn false false false true = refl
+      in_turn false false false false = refl
+
+      apart_in_turn : (h b y a : Bool) → ((h || (b && false)) || (y && a)) ≡ (h || ((false || y) && a))
+      apart_in_turn true b y a = refl
+      apart_in_turn false true y a = refl
+      apart_in_turn false false y a = refl
+
+      by : Tie q n → ((has found q || (is_asked former names counts n && eq_by_cmp text_cmp q n)) || (list_any (eq_by_cmp text_cmp q) ns && is_asked former names counts q))
+          ≡ (has found q || (list_any (eq_by_cmp text_cmp q) (n ∷ ns) && is_asked former names counts q))
+      by (ties same) =
+          (λ i. (has found q || (is_asked former names counts (sym same i) && eq_by_cmp text_cmp q n)) || (list_any (eq_by_cmp text_cmp q) ns && is_asked former names counts q))
+          ∙ in_turn (has found q) (is_asked former names counts q) (eq_by_cmp text_cmp q n) (list_any (eq_by_cmp text_cmp q) ns)
+      by (differs other so) =
+          (λ i. (has found q || (is_asked former names counts n && so i)) || (list_any (eq_by_cmp text_cmp q) ns && is_asked former names counts q))
+          ∙ apart_in_turn (has found q) (is_asked former names counts n) (list_any (eq_by_cmp text_cmp q) ns) (is_asked former names counts q)
+          ∙ (λ i. has found q || ((sym so i || list_any (eq_by_cmp text_cmp q) ns) && is_asked former names counts q))
+
+  -- what a walk over the image's topics finds is what is asked for of it
+  pub found-AreAsked : {S : Type 0} (image : Topics) (former : Option Record) (names : Names) (counts : IndexMap (String Y) ℕ S)
+      → AreAsked image former names counts (with_asked former names counts nothing (finite.keys image))
+  found-AreAsked image former names counts q there =
+      has-with_asked former names counts nothing (finite.keys image) q
+      ∙ (λ i. has-nothing text_cmp q i || ((sym (finite.contains_key-keys image q) ∙ there) i && is_asked former names counts q))
+
+  -- what is asked for of an image with a member's record is what is subscribed then
+  pub asked_with : {S : Type 0} (records : Records) (counts : IndexMap (String Y) ℕ S) (id : Text) (r : Record) (q : Text) → AreCounts records counts
+      → is_asked (finite.get records id) r.names counts q ≡ is_subscribed (finite.insert records id r) q
+  asked_with records counts id r q are =
+      ap (λ n. has r.names q || nat_lt (own_share (finite.get records id) q) n) (are q ∙ subscribers_without records id q)
       ∙ ap (λ b. has r.names q || b) (more_than (own_share (finite.get records id) q) (subscribers (finite.remove records id) q))
       ∙ by (has r.names q)
       ∙ ap (nat_lt 0) (sym (subscribers_with records id r q))
@@ -338,3 +378,19 @@ module _ {Y : Type 0} where
       by : (b : Bool) → (b || nat_lt 0 (subscribers (finite.remove records id) q)) ≡ nat_lt 0 (one_if b + subscribers (finite.remove records id) q)
       by true = sym (some_counted (subscribers (finite.remove records id) q))
       by false = ap (nat_lt 0) (none_counted (subscribers (finite.remove records id) q))
+
+  -- and so the view of what is asked for is that of what is subscribed
+  pub view-asked : {S : Type 0} (image : Topics) (records : Records) (counts : IndexMap (String Y) ℕ S) (id : Text) (r : Record) (asked : Names) → AreCounts records counts
+      → AreAsked image (finite.get records id) r.names counts asked → view_of image asked ≡ view_for image (finite.insert records id r)
+  view-asked image records counts id r asked are so =
+      finite.same_map text_cmp_total text_cmp-IsAntisymmetric _ _ (λ q.
+      get-view_of image asked q
+      ∙ by (finite.get image q) (has asked q) (is_subscribed (finite.insert records id r) q) (λ there. so q there ∙ asked_with records counts id r q are)
+      ∙ sym (finite.get-retain_keys image (is_subscribed (finite.insert records id r)) q (λ x tie. ap (is_subscribed (finite.insert records id r)) (sym (text_cmp-IsAntisymmetric q x tie)))))
+    where
+      by : (o : Option Topic) (a b : Bool) → (is_some o ≡ true → a ≡ b) → cond a o None ≡ cond b o None
+      by (Some t) a b same = ap (λ b. cond b (Some t) None) (same refl)
+      by None true true same = refl
+      by None true false same = refl
+      by None false true same = refl
+      by None false false same = refl

@@ -1,11 +1,11 @@
 -- How many members subscribe each name.
-use Rattle.std.specs.Prelude.{◌≡◌, ℕ, ◌<◌, nat_lt, if◌then◌else◌, List, [], ◌∷◌, Option, Some, None, String, string_bytes, count_by, unwrap_or}
+use Rattle.std.specs.Prelude.{◌≡◌, ℕ, Bool, true, ◌||◌, ◌<◌, nat_lt, if◌then◌else◌, List, [], ◌∷◌, Option, Some, None, String, string_bytes, count_by, unwrap_or}
 use Rattle.std.specs.FinMap as finite
 use Rattle.std.specs.Ordering.{eq_by_cmp}
 use Rattle.indexmap.specs.IndexMap.{IndexMap, get_by_text}
 use Rattle.group_types.specs.Text.{Text, text_cmp}
 use Rattle.group_types.specs.Sets.{has, with_one}
-use Rattle.group_types.specs.Topics.{Names}
+use Rattle.group_types.specs.Topics.{Names, Topics}
 use Rattle.group_types.specs.Group.{Record, Records}
 
 -- how many members subscribe the name
@@ -35,6 +35,21 @@ module _ {Y : Type 0} where
   with_counted former names [] = names
   with_counted former names (row ∷ rows) =
       with_counted former (if nat_lt (own_share former (string_bytes row.0)) row.1 then with_one names (string_bytes row.0) else names) rows
+
+  -- whether a name is among the names, or is counted for others than the record
+  abbrev pub is_asked : {S : Type 0} → Option Record → Names → IndexMap (String Y) ℕ S → Text → Bool
+  is_asked former names counts name = has names name || nat_lt (own_share former name) (count_of counts name)
+
+  -- the set, and of a list of names those that are asked for
+  abbrev pub with_asked : {S : Type 0} → Option Record → Names → IndexMap (String Y) ℕ S → Names → List Text → Names
+  with_asked former names counts found [] = found
+  with_asked former names counts found (name ∷ rest) =
+      with_asked former names counts (if is_asked former names counts name then with_one found name else found) rest
+
+  -- the set has of the image's topics those that are asked for
+  abbrev pub AreAsked : {S : Type 0} → Topics → Option Record → Names → IndexMap (String Y) ℕ S → Names → Type 0
+  AreAsked image former names counts asked =
+      (name : Text) → finite.contains_key image name ≡ true → has asked name ≡ is_asked former names counts name
 
 -- no name is counted that nobody subscribes
 abbrev pub AreSome : {Y S : Type 0} → IndexMap (String Y) ℕ S → Type 0

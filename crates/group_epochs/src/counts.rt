@@ -1,12 +1,14 @@
 //! How many members subscribe each name.
 
-ghost use Rattle.std.specs.Prelude.{◌≡◌, ℕ, ◌+◌, ◌-◌, ◌<◌, ◌≤◌, ◌^◌, OnOk, Some, IsSome, [], ◌∷◌, map, string_bytes, vec_len};
+ghost use Rattle.std.specs.Prelude.{◌≡◌, ℕ, ◌+◌, ◌-◌, ◌<◌, ◌≤◌, ◌^◌, OnOk, Some, IsSome, [], ◌∷◌, map, string_bytes, vec_len, IfOk};
 ghost use Rattle.std.specs.Option.{option_copied};
 ghost use Rattle.std.specs.Str.{bytes_eq};
 ghost use Rattle.std.specs.String.{string_eq};
 ghost use Rattle.indexmap.specs.IndexMap.{IsUnique, UpdatesBy, get_by_text, spare};
+ghost use Rattle.std.specs.FinMap as finite;
+ghost use Rattle.group_types.specs.Sets.{nothing};
 ghost use Rattle.group_types.specs.Text.{Text};
-ghost use Rattle.group_epochs.specs.Counts.{AreSome, count_of, once, own_share, times, with_counted};
+ghost use Rattle.group_epochs.specs.Counts.{AreAsked, AreSome, count_of, is_asked, once, own_share, times, with_asked, with_counted};
 
 use crate::names::add_name;
 use crate::record::Record;
@@ -14,6 +16,7 @@ use group_types::NameSet;
 use indexmap::IndexMap;
 use std::alloc::{AllocError, Global};
 use std::collections::hash_map::RandomState;
+use topic_meta::Image;
 
 /// The counts by their names.
 pub type Counts = IndexMap<String, usize, RandomState>;
@@ -41,9 +44,54 @@ pub fn count_down(counts: &mut Counts, names: &NameSet)
     }
 }
 
+/// What is asked for of an image: the names, and those that are counted for others than the member with this record, if any. Where
+/// the image has fewer topics than these are, they are only those that it has. Fails where memory is short.
+pub fn asked_of(
+    alloc: Global,
+    image: &Image,
+    names: &NameSet,
+    counts: &Counts,
+    former: Option<&Record>,
+) -> Result<NameSet, AllocError>
+    ensures { IfOk result (AreAsked image.now (option_copied former.entry) names.now counts.now) }
+{
+    if image.len() < names.len() || image.len() < counts.len() {
+        return found_of(alloc, image, names, counts, former);
+    }
+    let mut asked = names.copy(alloc)?;
+    add_counted(alloc, &mut asked, counts, former)?;
+    Ok(asked)
+}
+
+/// What is asked for of an image, by a walk over its topics.
+fn found_of(
+    alloc: Global,
+    image: &Image,
+    names: &NameSet,
+    counts: &Counts,
+    former: Option<&Record>,
+) -> Result<NameSet, AllocError>
+    ensures { IfOk result (λ found. found ≡ with_asked (option_copied former.entry) names.now counts.now nothing (finite.keys image.now)) }
+{
+    let mut found = NameSet::new(alloc);
+    for name in image.names() {
+        if is_asked(name.as_str(), names, counts, former) {
+            found.insert(alloc, name.as_str())?;
+        }
+    }
+    Ok(found)
+}
+
+/// Whether a name is among the names, or is counted for others than the member with this record, if any.
+fn is_asked(name: &str, names: &NameSet, counts: &Counts, former: Option<&Record>) -> bool
+    ensures { result ≡ is_asked (option_copied former.entry) names.now counts.now name.now }
+{
+    names.contains(name) || own_share(former, name) < count_of(counts, name)
+}
+
 /// Adds the names that are counted for others than the member with this record, if any. Where memory is short, some of them may be
 /// in already.
-pub fn add_counted(
+fn add_counted(
     alloc: Global,
     names: &mut NameSet,
     counts: &Counts,

@@ -13,7 +13,7 @@ ghost use Rattle.group_types.specs.Leave.{away};
 ghost use Rattle.group_types.specs.Renewal.{AreMembers, view_for};
 ghost use Rattle.group_epochs.specs.Records.{CanJoin, CanReplace, IsInstanceFreeFor, IsMarkedBeat, IsMember, KeepsNames, beaten, members_in};
 
-use crate::counts::{Counts, add_counted, count_down, count_up};
+use crate::counts::{Counts, asked_of, count_down, count_up};
 use crate::deadlines::{earlier, first_of_all};
 use crate::entry::{Entry, Table};
 use crate::names::NewNames;
@@ -175,8 +175,8 @@ impl Records {
         Ok(Subs::in_order(members))
     }
 
-    /// The image's topics that some member subscribes, with this record for the id in place of the one that is kept, if any.
-    /// Fails where memory is short.
+    /// The image's topics that some member subscribes, with this record for the id in place of the one that is kept, if any. The time
+    /// grows with the members' names or with the image, whichever are fewer. Fails where memory is short.
     pub fn view_with(
         &self,
         alloc: Global,
@@ -186,9 +186,9 @@ impl Records {
     ) -> Result<View, AllocError>
         ensures { IfOk result (λ view. view ≡ view_for image.now (finite.insert self.now.records id.now «record».now)) }
     {
-        let mut names = record.names().copy(alloc)?;
-        add_counted(alloc, &mut names, &self.counts, self.get(id))?;
-        image.view(alloc, &names)
+        let former = self.get(id);
+        let asked = asked_of(alloc, image, record.names(), &self.counts, former)?;
+        image.view(alloc, &asked)
     }
 
     /// Makes room for one member more with this record, and what the records need of its id and its names. Where memory is short,

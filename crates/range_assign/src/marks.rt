@@ -10,9 +10,40 @@ use topic_meta::ViewTopic;
 
 /// For each of the topics whether its name is among the names. The topics are in the order of their names, as in a view.
 ///
-/// The names are gone over once, and a topic's place is looked for behind that of the topic found before it: so the time
-/// grows with the names, and for the topics it hardly grows.
+/// The names are gone over once; where the topics are far fewer than they are, each topic is looked up instead.
 pub fn marks_of(
+    alloc: Global,
+    topics: &[ViewTopic],
+    names: &NameSet,
+) -> Result<Vec<bool>, AllocError>
+    requires { NamesRise topics.now }
+    ensures { IfOk result (λ marks. marks.items ≡ marks_in topics.now names.now) }
+{
+    if topics.len() < names.len() / 16 {
+        marks_by_topics(alloc, topics, names)
+    } else {
+        marks_by_names(alloc, topics, names)
+    }
+}
+
+/// For each of the topics whether its name is among the names, by a look-up of each topic.
+fn marks_by_topics(
+    alloc: Global,
+    topics: &[ViewTopic],
+    names: &NameSet,
+) -> Result<Vec<bool>, AllocError>
+    ensures { IfOk result (λ marks. marks.items ≡ marks_in topics.now names.now) }
+{
+    let mut marks = Vec::with_capacity(alloc, topics.len())?;
+    for topic in topics {
+        marks.push(names.contains(topic.name.as_str()))?;
+    }
+    Ok(marks)
+}
+
+/// For each of the topics whether its name is among the names, by a walk over the names: a topic's place is looked for behind that
+/// of the topic found before it, so the time grows with the names, and for the topics it hardly grows.
+fn marks_by_names(
     alloc: Global,
     topics: &[ViewTopic],
     names: &NameSet,

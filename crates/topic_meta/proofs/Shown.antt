@@ -78,6 +78,10 @@ pub entries-topics_in : (es : List (String Global × StoredTopic)) → IsStrictl
 entries-topics_in es ordered =
     ap entries (topics_in-shown es ordered) ∙ entries-shown (pairs_in es) (rising_of_ordered es ordered)
 
+pub keys-pairs_in : (es : List (String Global × StoredTopic)) → map (λ (e : Text × Topic). e.0) (pairs_in es) ≡ map string_bytes (keys_of es)
+keys-pairs_in [] = refl
+keys-pairs_in (e ∷ es) = ap (λ ks. string_bytes e.0 ∷ ks) (keys-pairs_in es)
+
 -- a map with no entry is the empty one
 pub is_empty-says : (topics : Topics) (n : ℕ) → n ≡ finite.len topics → Decides (n == 0) (topics ≡ finite.empty)
 is_empty-says topics n is =

@@ -1,7 +1,9 @@
 //! An image of the cluster's topics.
 
-ghost use Rattle.std.specs.Prelude.{◌≡◌, ◌⊎◌, ◌≤◌, ◌↔◌, length, option_map, pos, Some, None, IfOk, IfErr, IsTrue, true};
+ghost use Rattle.std.specs.Prelude.{◌≡◌, ◌⊎◌, ◌≤◌, ◌↔◌, length, map, option_map, pos, string_bytes, String, Some, None, IfOk, IfErr, IsTrue, true};
+ghost use Rattle.std.specs.declared.alloc.Global.{Global as Heap};
 ghost use Rattle.std.specs.FinMap as finite;
+ghost use Rattle.std.specs.Map.Iter.{ShowsInOrder, deref};
 ghost use Rattle.group_types.specs.Topics.{view_of};
 ghost use Rattle.topic_meta.specs.Images.{topics_of, entries_of, first_fault, is_too_many, partitions_in};
 ghost use Rattle.topic_meta.specs.Facts.{AreImageTopics};
@@ -16,6 +18,7 @@ use group_types::NameSet;
 use group_types::limits::{MOST_PARTITIONS, MOST_TOPICS};
 use std::alloc::{AllocError, Global};
 use std::collections::BTreeMap;
+use std::collections::btree_map::Keys;
 use std::marker::Model;
 use uuid::Uuid;
 
@@ -91,6 +94,14 @@ impl Image {
             }
         }
         Ok(View::in_order(topics))
+    }
+
+    /// The names of the topics, rising. Takes no memory.
+    pub fn names(&self) -> Keys<'_, String, StoredTopic>
+        ensures rest { map string_bytes result ≡ finite.keys self.now }
+        ensures runs { ShowsInOrder (deref {X = String Heap}) }
+    {
+        self.topics.keys()
     }
 
     /// The id and the number of partitions of the topic with this name, where the image has it. Takes no memory.

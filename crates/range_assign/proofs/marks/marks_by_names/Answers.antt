@@ -4,7 +4,7 @@ use Rattle.group_types.specs.Text.{Text}
 use Rattle.group_types.proofs.NameLemmas.{texts_of}
 use Rattle.range_assign.specs.Marks.{IsNamedAt}
 use Rattle.range_assign.proofs.Marked.{AreMarked, AreMarked-all, AreMarked-at, AreMarked-none, AreMarked-skip}
-use Rattle.range_assign.proofs.marks.marks_of.Goals as goal
+use Rattle.range_assign.proofs.marks.marks_by_names.Goals as goal
 
 pub loop-name-init : goal.loop-name-init
 loop-name-init c =
