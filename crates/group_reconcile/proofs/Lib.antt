@@ -11,3 +11,4 @@ pub mod Leaving
 pub mod Offering
 pub mod Settles
 pub mod Shown
+pub mod Stays

@@ -1,6 +1,6 @@
 //! Who may read which partition.
 
-ghost use Rattle.std.specs.Prelude.{◌≡◌, IfOk, OnErr, OnOk, is_none, unwrap_or};
+ghost use Rattle.std.specs.Prelude.{◌≡◌, IfOk, IsTrue, OnErr, OnOk, is_none, unwrap_or};
 ghost use Rattle.std.specs.Option.{option_copied, option_map};
 ghost use Rattle.std.specs.FinMap as finite;
 ghost use Rattle.group_types.specs.Sets.{common, in_order, nothing};
@@ -111,11 +111,28 @@ impl Grants {
         ensures since { OnOk result (IsSince self.old self.new member.now target.now.epoch) }
         ensures err { OnErr result (self.new ≡ self.old) }
     {
-        if !self.may_settle(member.as_str(), target, owned) {
+        let id = member.as_str();
+        if self.is_settled(id, target) {
+            return Ok(Verdict::Moves);
+        }
+        if !self.may_settle(id, target, owned) {
             return Ok(Verdict::StillHolds);
         }
         self.settle_on(alloc, member, target)?;
         Ok(Verdict::Moves)
+    }
+
+    /// Whether the member holds its whole target and nothing else: nothing comes of an offer then. Takes no memory.
+    fn is_settled(&self, member: &str, target: &Wanted<'_>) -> bool
+        ensures { IsTrue result → held (pairs self.now) member.now ≡ target.now.partitions }
+    {
+        let Some(parts) = self.held(member) else {
+            return false;
+        };
+        match target.set() {
+            Some(set) => parts.equals(set),
+            None => false,
+        }
     }
 
     /// Whether a member that reports what it owns, or nothing, may go on to its target.
@@ -165,6 +182,9 @@ impl Grants {
         ensures { let may = may_settle (pairs self.now) member.now target.now.partitions (option_copied owned.entry) in
             IfOk result (λ set. set ≡ common (held (grants_after may (pairs self.now) member.now target.now.partitions) member.now) target.now.partitions) }
     {
+        if self.is_settled(member, target) {
+            return target.copy_set(alloc);
+        }
         if self.may_settle(member, target, owned) {
             next_of(&self.table, alloc, self.members.find(member), target)
         } else {
