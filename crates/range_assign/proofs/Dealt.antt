@@ -1,18 +1,20 @@
 -- The shares of the members under range, one after another.
-use Rattle.std.proofs.Common.{◌≡◌, ◌≢◌, ℕ, zero, suc, ◌<◌, ◌≤◌, ◌+◌, true, false, cond, List, [], ◌∷◌, ◌++◌, length, take, drop, get_or, pos, refl, sym, ap, subst, ◌∙◌, arith, Some, None, string_bytes, length-append, append_assoc, replicate}
+use Rattle.std.proofs.Common.{◌≡◌, ◌≢◌, ℕ, zero, suc, ◌<◌, ◌≤◌, ◌+◌, Bool, true, false, cond, not, map, List, [], ◌∷◌, ◌++◌, length, take, drop, get_or, pos, refl, sym, ap, subst, ◌∙◌, arith, Some, None, string_bytes, length-append, append_assoc, replicate}
 use Rattle.std.specs.Cmp.{Equal-is}
 use Rattle.std.specs.FinMap as finite
 use Rattle.std.specs.FinMap.{entries, find, get}
-use Rattle.std.specs.List.{AllPairs, Contains, slice_get}
+use Rattle.std.specs.List.{AllPairs, Contains, filter, slice_get}
 use Rattle.std.specs.Option.{option_map}
 use Rattle.std.specs.Ordering.{eq_by_cmp}
-use Rattle.std.proofs.lemmas.List.{append-nil, drop_all, take_all}
+use Rattle.std.proofs.lemmas.Bool.Decides.{Decides-eqb}
+use Rattle.std.proofs.lemmas.List.{append-nil, drop_all, nil_from_length, take_all}
+use Rattle.std.proofs.lemmas.List.Kept.{AllPairs-filter}
 use Rattle.std.proofs.lemmas.List.Elements.{Contains-get_or}
 use Rattle.std.proofs.lemmas.Option.{slice_get-map, get_or_from_slice_get, same_Some, slice_get_within, slice_get-get_or}
 use Rattle.group_types.specs.declared.partition.Partition.{Partition}
 use Rattle.group_types.specs.Text.{Text, text_cmp}
 use Rattle.group_types.specs.Topics.{Topic, Topics}
-use Rattle.group_types.specs.Sets.{common, has, nothing}
+use Rattle.group_types.specs.Sets.{common, has, in_order, is_nothing, nothing, size}
 use Rattle.group_types.specs.Owners.{IsRange, IsRangeOwner, range_place}
 use Rattle.group_types.proofs.Orders.{partition_cmp-IsAntisymmetric, partition_cmp_total, text_cmp-IsAntisymmetric}
 use Rattle.group_types.proofs.SetLemmas.{common-nothing}
@@ -22,8 +24,8 @@ use Rattle.topic_meta.specs.declared.view_topic.ViewTopic.{ViewTopic}
 use Rattle.topic_meta.specs.Facts.{AreImageTopics}
 use Rattle.topic_meta.specs.Views.{all_named, named}
 use Rattle.topic_meta.proofs.Places.{get-topic_at, topic_at-ids_apart}
-use Rattle.range_assign.specs.Shares.{AreShares, spread_of}
-use Rattle.range_assign.specs.Turns.{IsDealt, IsGiven, IsInTurn, counts_of}
+use Rattle.range_assign.specs.Shares.{AreShares, owned_in, spread_of}
+use Rattle.range_assign.specs.Turns.{AddsDealt, IsDealt, IsGiven, IsInTurn, counts_of, with_dealt}
 use Rattle.range_assign.proofs.Spreads.{IsShare-of, get-spread_of, owner_in-has}
 use Rattle.range_assign.proofs.Turns.{before_all, subscribers_of-next, subscribers_of-whole}
 
@@ -261,6 +263,64 @@ module _ (topics : List ViewTopic) (subs : List Subscriber) where
       at_end [] (suc at) other is before last = cc
       at_end (x ∷ xs) zero other is before last = before is
       at_end (x ∷ xs) (suc at) other is before last = at_end xs at other is before (λ same. last (ap suc same))
+
+-- ---- the shares that have a partition
+
+-- the shares that have a partition
+abbrev pub full : List (Text × Partitions) → List (Text × Partitions)
+full shares = filter (λ s. not (is_nothing s.1)) shares
+
+pub full-more : (shares : List (Text × Partitions)) (share : Text × Partitions) → with_dealt (full shares) share ≡ full (shares ++ share ∷ [])
+full-more [] share = by (is_nothing share.1)
+  where
+    by : (b : Bool) → cond b [] (share ∷ []) ≡ cond (not b) (share ∷ []) []
+    by true = refl
+    by false = refl
+full-more (s ∷ ss) share = by (is_nothing share.1) (is_nothing s.1) (full-more ss share)
+  where
+    by : (b c : Bool) → cond b (full ss) (full ss ++ share ∷ []) ≡ full (ss ++ share ∷ [])
+        → cond b (cond (not c) (s ∷ full ss) (full ss)) (cond (not c) (s ∷ full ss) (full ss) ++ share ∷ []) ≡ cond (not c) (s ∷ full (ss ++ share ∷ [])) (full (ss ++ share ∷ []))
+    by true true rest = rest
+    by true false rest = ap (λ list. s ∷ list) rest
+    by false true rest = rest
+    by false false rest = ap (λ list. s ∷ list) rest
+
+owned_in-full : (shares : List (Text × Partitions)) → owned_in (full shares) ≡ owned_in shares
+owned_in-full [] = refl
+owned_in-full (s ∷ ss) = by (is_nothing s.1) refl (owned_in-full ss)
+  where
+    by : (b : Bool) → is_nothing s.1 ≡ b → owned_in (full ss) ≡ owned_in ss → owned_in (cond (not b) (s ∷ full ss) (full ss)) ≡ owned_in (s ∷ ss)
+    by false _ later = ap (λ rest. map (λ p. (p, s.0)) (in_order s.1) ++ rest) later
+    by true none later =
+        let none_there : in_order s.1 ≡ [] = nil_from_length (in_order s.1) ((Decides-eqb (size s.1) 0).0 none) in
+        later ∙ ap (λ ps. map (λ p. (p, s.0)) ps ++ owned_in ss) (sym none_there)
+
+pub spread_of-full : (shares : List (Text × Partitions)) → spread_of (full shares) ≡ spread_of shares
+spread_of-full shares = ap (λ (es : List (Partition × Text)). finite.from_entries es) (owned_in-full shares)
+
+pub AreShares-full : (shares : List (Text × Partitions)) → AreShares shares → AreShares (full shares)
+AreShares-full shares are = record {
+  ids_apart = AllPairs-filter (λ s t. s.0 ≢ t.0) (λ s. not (is_nothing s.1)) shares are.ids_apart;
+  sets_apart = AllPairs-filter (λ s t. common s.1 t.1 ≡ nothing) (λ s. not (is_nothing s.1)) shares are.sets_apart;
+}
+
+-- what is true of the topics' places and of the shares that have a partition, once the first n members have theirs
+pub record IsDealingFull (topics : List ViewTopic) (subs : List Subscriber) (n : ℕ) (places : List ℕ) (shares : List (Text × Partitions)) : Type 0 where
+  pub all : List (Text × Partitions)
+  pub dealing : IsDealing topics subs n places all
+  pub are_full : shares ≡ full all
+
+module _ (topics : List ViewTopic) (subs : List Subscriber) where
+  pub IsDealingFull-none : (places : List ℕ) (shares : List (Text × Partitions)) → places ≡ replicate (length topics) 0 → shares ≡ [] → IsDealingFull topics subs 0 places shares
+  IsDealingFull-none places shares zeros none = record { all = []; dealing = IsDealing-none topics subs places [] zeros refl; are_full = none }
+
+  pub IsDealingFull-more : (n : ℕ) (places new : List ℕ) (shares more : List (Text × Partitions)) → IsDealingFull topics subs n places shares
+      → new ≡ counts_of topics (take (n + 1) subs) → AddsDealt topics subs n shares more → IsDealingFull topics subs (n + 1) new more
+  IsDealingFull-more n places new shares more full_so_far moved (share, is_dealt, is) = record {
+    all = full_so_far.all ++ share ∷ [];
+    dealing = IsDealing-more topics subs n places new full_so_far.all share full_so_far.dealing moved is_dealt;
+    are_full = is ∙ ap (λ list. with_dealt list share) full_so_far.are_full ∙ full-more full_so_far.all share;
+  }
 
 -- a slice that was written in place of all elements of a `Vec`
 pub written_over : (n : ℕ) (new old : List ℕ) → n ≡ length old → length new ≡ length old → take n (new ++ drop (length new) old) ≡ new

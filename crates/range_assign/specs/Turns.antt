@@ -1,7 +1,7 @@
 -- Range, topic by topic and member by member: a member's turn at a topic comes after those of the subscribers before it.
-use Rattle.std.specs.Prelude.{◌≡◌, ◌⊎◌, ◌<◌, ◌≤◌, ◌↔◌, ℕ, pos, List, length, map, take, Some, IsTrue, slice_get, string_bytes}
+use Rattle.std.specs.Prelude.{◌≡◌, ◌⊎◌, ◌<◌, ◌≤◌, ◌↔◌, ℕ, pos, if◌then◌else◌, List, [], ◌∷◌, ◌++◌, length, map, take, Some, IsTrue, slice_get, string_bytes}
 use Rattle.group_types.specs.declared.partition.Partition.{Partition}
-use Rattle.group_types.specs.Sets.{has}
+use Rattle.group_types.specs.Sets.{has, is_nothing}
 use Rattle.group_types.specs.Text.{Text}
 use Rattle.group_types.specs.Partition.{Partitions}
 use Rattle.group_types.specs.Assignors.{Subscriber, subscribers_of}
@@ -43,3 +43,11 @@ IsRangeShare topics subs at set =
 pub record IsDealt (topics : List ViewTopic) (subs : List Subscriber) (at : ℕ) (share : Text × Partitions) : Type 0 where
   pub same_id : (m : Subscriber) → slice_get subs at ≡ Some m → share.0 ≡ m.id
   pub set : IsRangeShare topics subs at share.1
+
+-- the shares, with one that has a partition at the end
+abbrev pub with_dealt : List (Text × Partitions) → Text × Partitions → List (Text × Partitions)
+with_dealt shares share = if is_nothing share.1 then shares else shares ++ share ∷ []
+
+-- the new shares are the old ones with that of the member at a place, where that has a partition
+abbrev pub AddsDealt : List ViewTopic → List Subscriber → ℕ → List (Text × Partitions) → List (Text × Partitions) → Type 0
+AddsDealt topics subs at old new = (share : Text × Partitions) × IsDealt topics subs at share × (new ≡ with_dealt old share)

@@ -6,14 +6,14 @@ ghost use Rattle.group_types.specs.Owners.{IsLawful, IsRange, range_place};
 ghost use Rattle.group_types.specs.Sets.{of_list};
 ghost use Rattle.range_assign.specs.Marks.{NamesRise};
 ghost use Rattle.range_assign.specs.Members.{subscribers_in};
-ghost use Rattle.range_assign.specs.Shares.{share_in};
-ghost use Rattle.range_assign.specs.Turns.{AddsRun, IsDealt, IsRangeShare, counts_of};
+ghost use Rattle.range_assign.specs.Shares.{shares_in};
+ghost use Rattle.range_assign.specs.Turns.{AddsDealt, AddsRun, IsRangeShare, counts_of, with_dealt};
 
 use crate::assignor::Assignor;
 use crate::marks::marks_of;
 use crate::spread::{Share, Spread};
 use crate::subs::{Subs, Subscriber};
-use group_types::{PartSet, Partition};
+use group_types::{MemberId, PartSet, Partition};
 use std::alloc::{AllocError, Global};
 use topic_meta::{View, ViewTopic};
 use uuid::Uuid;
@@ -38,9 +38,17 @@ impl Assignor for Range {
         let topics = view.topics();
         let counts = subscriber_counts(alloc, topics, members)?;
         let mut places = vec![in alloc; 0; topics.len()]?;
-        let mut shares = Vec::with_capacity(alloc, members.len())?;
+        let mut shares = Vec::new(alloc);
         for at in 0..members.len() {
-            shares.push(share_for(alloc, members, at, topics, &counts, &mut places)?)?;
+            deal(
+                alloc,
+                members,
+                at,
+                topics,
+                &counts,
+                &mut places,
+                &mut shares,
+            )?;
         }
         Ok(Spread::of(shares))
     }
@@ -78,27 +86,46 @@ fn count_marks(counts: &mut Vec<usize>, marks: &[bool], most: usize)
     }
 }
 
-/// The share of the member at a place among the members. The topics' places go on as in [`take_turns`].
-fn share_for(
+/// Adds the share of the member at a place among the members, where that has a partition. The topics' places go on as in
+/// [`take_turns`].
+fn deal(
     alloc: Global,
     members: &[Subscriber<'_>],
     at: usize,
     topics: &[ViewTopic],
     counts: &[usize],
     places: &mut [usize],
-) -> Result<Share, AllocError>
+    shares: &mut Vec<Share>,
+) -> Result<(), AllocError>
     requires within { at < length members.now }
     requires rise { NamesRise topics.now }
     requires few { All (λ t. t.count ≤ 2 ^ 31) topics.now }
     requires counted { counts.now ≡ counts_of topics.now (subscribers_in members.now) }
     requires placed { places.old ≡ counts_of topics.now (take at (subscribers_in members.now)) }
     ensures moved { OnOk result (places.new ≡ counts_of topics.now (take (at + 1) (subscribers_in members.now))) }
-    ensures share { IfOk result (λ share. IsDealt topics.now (subscribers_in members.now) at (share_in share)) }
+    ensures share { OnOk result (AddsDealt topics.now (subscribers_in members.now) at (shares_in shares.old.items) (shares_in shares.new.items)) }
 {
     let member = &members[at];
     let set = take_turns(alloc, members, at, topics, counts, places)?;
-    let id = member.id.copy(alloc)?;
-    Ok(Share { id, set })
+    add_share(alloc, shares, member.id, set)?;
+    Ok(())
+}
+
+/// Adds a member's share, where it has a partition. Where memory is short, the shares stay as they were.
+fn add_share(
+    alloc: Global,
+    shares: &mut Vec<Share>,
+    id: &MemberId,
+    set: PartSet,
+) -> Result<(), AllocError>
+    ensures { OnOk result (shares_in shares.new.items ≡ with_dealt (shares_in shares.old.items) (id.now, set)) }
+{
+    if set.is_empty() {
+        return Ok(());
+    }
+    let id = id.copy(alloc)?;
+    shares.push(Share { id, set })?;
+    Ok(())
 }
 
 /// The partitions of the member at a place among the members. The topics' places are those of the next subscribers, and

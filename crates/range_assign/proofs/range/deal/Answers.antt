@@ -3,7 +3,8 @@ use Rattle.std.specs.List.{slice_get}
 use Rattle.std.specs.Option.{option_map}
 use Rattle.std.proofs.lemmas.Option.{same_Some, slice_get-map, slice_get_read}
 use Rattle.range_assign.specs.Members.{subscriber_of, subscribers_in}
-use Rattle.range_assign.proofs.range.share_for.Goals as goal
+use Rattle.range_assign.specs.Turns.{IsDealt}
+use Rattle.range_assign.proofs.range.deal.Goals as goal
 
 pub returns-clause-share : goal.returns-clause-share
 returns-clause-share c =
@@ -11,7 +12,8 @@ returns-clause-share c =
     let m = subscriber_of c.index-members-at.result in
     let here : slice_get subs c.args.at ≡ Some m =
     slice_get-map subscriber_of c.args.members.now c.args.at ∙ ap (option_map subscriber_of) (slice_get_read c.args.members.now _ c.args.at c.index-members-at.result refl c.requires.within c.index-members-at.is) in
-    record {
-      same_id = λ n there. c.in_ok-id.ensures ∙ ap (λ s. s.id) (same_Some m n (sym here ∙ there));
+    let dealt : IsDealt c.args.topics.now subs c.args.at (m.id, c.in_ok-set.set) = record {
+      same_id = λ n there. ap (λ s. s.id) (same_Some m n (sym here ∙ there));
       set = c.in_ok-set.ensures.share;
-    }
+    } in
+    ((m.id, c.in_ok-set.set), dealt, c.in_ok-add_share.ensures)
