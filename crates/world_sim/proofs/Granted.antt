@@ -1,5 +1,5 @@
 -- Where every group has the grants that it had, no commit has anything to be cut.
-use Rattle.std.proofs.Common.{◌≡◌, ℕ, suc, ◌+◌, Bool, true, false, cond, ◌&&◌, List, [], ◌∷◌, length, map, sum_by, Option, Some, None, IsTrue, inl, inr, refl, sym, ap, ap₂, subst, ◌∙◌, arith}
+use Rattle.std.proofs.Common.{◌≡◌, ℕ, suc, ◌+◌, Bool, true, false, cond, List, [], ◌∷◌, length, map, sum_by, Option, Some, None, IsTrue, inl, inr, refl, sym, ap, ap₂, subst, ◌∙◌, arith}
 use Rattle.std.proofs.lemmas.List.Sums.{sum_by-cons}
 use Rattle.std.specs.Option.{option_map}
 use Rattle.std.specs.Ordering.{eq_by_cmp}
@@ -10,16 +10,14 @@ use Rattle.kip_msgs.specs.Laws.{OneRequestABody}
 use Rattle.group_types.specs.declared.partition.Partition.{Partition}
 use Rattle.group_types.specs.declared.stamp.Stamp.{Stamp}
 use Rattle.group_types.specs.Text.{Text, text_cmp}
-use Rattle.group_types.specs.Sets.{common, has}
-use Rattle.group_types.specs.Partition.{Partitions, partition_cmp}
+use Rattle.group_types.specs.Sets.{has}
+use Rattle.group_types.specs.Partition.{Partitions}
 use Rattle.group_types.specs.Group.{Grants, Group, Record, new_group}
 use Rattle.group_types.specs.Tick.{at_moment, due, expired, removed_by_tick, ticked}
 use Rattle.group_types.specs.Commit as group
 use Rattle.group_types.specs.Commit.{CommitReply}
 use Rattle.group_types.proofs.GrantLemmas.{has-held}
 use Rattle.group_types.proofs.Lookups.{Tie, ties, differs, tie, not_none, some_is}
-use Rattle.group_types.proofs.Orders.{partition_cmp_total, partition_cmp-IsAntisymmetric}
-use Rattle.group_types.proofs.SetLemmas.{has-common, same_set}
 use Rattle.group_epochs.specs.Request.{commit_of}
 use Rattle.coord_node.specs.Coordinator.{Coordinator, Answer, Replied, Closes, Done, Image, Tick}
 use Rattle.coord_node.specs.Steps.{CommitAt, FrameStepBy, RequestStep, Step, all_ticked, removed_from_all, with_group}
@@ -27,6 +25,7 @@ use Rattle.member_core.specs.Asking.{header_of}
 use Rattle.member_core.specs.Committing.{commit_value}
 use Rattle.world_sim.specs.World.{World, Commit, cut, granted}
 use Rattle.world_sim.specs.Invariant.{Committed, Keeps, group_at}
+use Rattle.world_sim.proofs.Cutting.{common_within}
 use Rattle.world_sim.proofs.Lists.{In, from_in}
 use Rattle.world_sim.proofs.Groups.{after_tick, get_ticked, granted_at, group_is, group_none, put_here, put_other}
 
@@ -35,13 +34,6 @@ abbrev pub SameGrants : Coordinator → Coordinator → Type 0
 SameGrants c new = (name : Text) → (group_at new name).grants ≡ (group_at c name).grants
 
 -- ---- nothing to be cut
-
-common_within : (s t : Partitions) → ((p : Partition) → IsTrue (has s p) → IsTrue (has t p)) → common s t ≡ s
-common_within s t within = same_set partition_cmp_total partition_cmp-IsAntisymmetric _ _ (λ p. has-common partition_cmp_total s t p ∙ by (has s p) (has t p) (within p))
-  where
-    by : (a b : Bool) → (IsTrue a → IsTrue b) → (a && b) ≡ a
-    by true b so = so refl
-    by false b so = refl
 
 map_itself : {X : Type 0} (f : X → X) (xs : List X) → ((x : X) → In xs x → f x ≡ x) → map f xs ≡ xs
 map_itself f [] same = refl
@@ -55,10 +47,10 @@ uncut w keeps c same = map_itself (cut c) w.commits (λ k there. one k (keeps.co
         ap (λ (s : Partitions). record k { since = s })
         (common_within k.since (granted c k.group k.id)
         (λ p has_p.
-            ap (λ (s : Partitions). has s p) (granted_at c k.group k.id)
-            ∙ has-held (group_at c k.group).grants k.id p
-            ∙ ap (λ (grants : Grants). has grants (k.id, p)) (same k.group)
-            ∙ committed.keeps.within p has_p))
+        ap (λ (s : Partitions). has s p) (granted_at c k.group k.id)
+        ∙ has-held (group_at c k.group).grants k.id p
+        ∙ ap (λ (grants : Grants). has grants (k.id, p)) (same k.group)
+        ∙ committed.keeps.within p has_p))
 
 -- ---- an image
 

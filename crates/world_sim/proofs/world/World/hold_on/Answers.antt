@@ -31,13 +31,13 @@ returns-clause-all c =
     subst (λ (w : World). HoldsOn IsExclusive w) c.self.view_is
     (holds_on IsExclusive
     (λ salt clients acts outcomes w run.
-        record {
-          apart = c.members_hold_apart.ensures.apart salt clients acts outcomes w run;
-          granted = c.members_hold_apart.ensures.granted salt clients acts outcomes w run;
-          shown = c.replies_show_what_is_granted.ensures salt clients acts outcomes w run;
-          commits = c.commits_are_taken_while_held.ensures.taken salt clients acts outcomes w run;
-          since = c.commits_are_taken_while_held.ensures.since salt clients acts outcomes w run;
-          brought = c.commits_are_taken_while_held.ensures.brought salt clients acts outcomes w run;
-          lawful = c.targets_are_renewed_lawfully.ensures salt clients acts outcomes w run;
-        })
+    record {
+      apart = c.members_hold_apart.ensures.apart salt clients acts outcomes w run;
+      granted = c.members_hold_apart.ensures.granted salt clients acts outcomes w run;
+      shown = c.replies_show_what_is_granted.ensures salt clients acts outcomes w run;
+      commits = c.commits_are_taken_while_held.ensures.taken salt clients acts outcomes w run;
+      since = c.commits_are_taken_while_held.ensures.since salt clients acts outcomes w run;
+      brought = c.commits_are_taken_while_held.ensures.brought salt clients acts outcomes w run;
+      lawful = c.targets_are_renewed_lawfully.ensures salt clients acts outcomes w run;
+    })
     _ c.self.invariant)

@@ -35,5 +35,8 @@ returns-clause-steps c =
     let ended = YieldsList-end (YieldsList-from_vec c.args.acts.items gives.0 (gives.1 ∙ c.args.acts.ok.0)) c.loop-act.yielded c.loop-act.act-iterator c.loop-act.yielded_by c.next.result c.next.new.self c.in-None.is c.next.ensures.steps in
     subst (λ (acts : List code.Act). AllActed c.args.self.now (map act_value acts) c.loop-act.answers.items c.loop-act.self) (no_more _ _ _ c.loop-act.invariant.parts ended.1) c.loop-act.invariant.steps
 
+pub returns-in_err-answers-clause-brought_first : goal.returns-in_err-answers-clause-brought_first
+returns-in_err-answers-clause-brought_first c = (c.hold_on.ensures.all [] [] c.args.self.now refl).brought
+
 pub returns-clause-brought_first : goal.returns-clause-brought_first
 returns-clause-brought_first c = (c.hold_on.ensures.all [] [] c.args.self.now refl).brought
