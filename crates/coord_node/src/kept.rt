@@ -128,6 +128,6 @@ fn known_after(outcome: &Outcome<'_>, before: Option<u64>, generation: Option<u6
                 generation
             }
         }
-        Outcome::Closes => before,
+        Outcome::Overtaken => before,
     }
 }

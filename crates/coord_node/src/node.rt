@@ -329,6 +329,6 @@ fn send(alloc: Global, correlation: i32, outcome: Outcome<'_>, out: &mut Vec<u8>
             heartbeat_frame::put(alloc, out, correlation, reply);
             Answered::Replied
         }
-        Outcome::Closes => Answered::Closes,
+        Outcome::Overtaken => Answered::Closes,
     }
 }

@@ -23,6 +23,6 @@ pub(crate) fn succeeds(outcome: &Outcome<'_>) -> bool
 {
     match outcome {
         Outcome::Replied(reply) => is_success(reply.code),
-        Outcome::Closes => false,
+        Outcome::Overtaken => false,
     }
 }

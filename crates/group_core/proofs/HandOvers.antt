@@ -1,5 +1,5 @@
 -- What storing a record leaves, and what an heir's taking it leaves to others.
-use Rattle.std.proofs.Common.{◌≡◌, ◌≢◌, ℕ, ◌≤◌, Bool, true, false, cond, not, ◌&&◌, ◌||◌, List, [], ◌∷◌, map, Option, Some, None, is_some, IsTrue, refl, sym, ap, subst, ◌∙◌, true≢false}
+use Rattle.std.proofs.Common.{◌≡◌, ◌≢◌, ℕ, ◌≤◌, Bool, true, false, cond, not, ◌&&◌, ◌||◌, List, [], ◌∷◌, map, Option, Some, None, is_some, refl, sym, ap, ◌∙◌, true≢false}
 use Rattle.std.specs.declared.cmp.Ordering.TheVariants.{Less, Equal, Greater}
 use Rattle.std.specs.List.{list_any}
 use Rattle.std.specs.Option.{IfSome, option_map, option_map_or}
@@ -11,24 +11,23 @@ use Rattle.std.proofs.lemmas.Slice.Eq.{bytes_eq-Decides}
 use Rattle.group_types.specs.declared.partition.Partition.{Partition}
 use Rattle.group_types.specs.Text.{Text, text_cmp}
 use Rattle.group_types.specs.Sets.{has}
-use Rattle.group_types.specs.Partition.{partition_cmp}
 use Rattle.group_types.specs.Topics.{Topics}
-use Rattle.group_types.specs.Owners.{Spread, owns, renamed, renamed_id}
-use Rattle.group_types.specs.Group.{Grants, Group, Past, Record, Records, held, wanted}
+use Rattle.group_types.specs.Owners.{Spread, renamed, renamed_id}
+use Rattle.group_types.specs.Group.{Grants, Group, Record, Records, held, wanted}
 use Rattle.group_types.specs.Members.{past_stamp}
 use Rattle.group_types.specs.Settle.{granting, grants_of_others}
 use Rattle.group_types.specs.Renewal.{is_subscribed, view_for}
-use Rattle.group_types.specs.HeartbeatStep.{Heir, handed_over, heir_or}
+use Rattle.group_types.specs.HeartbeatStep.{Heir, heir_or}
 use Rattle.group_types.specs.Sound.{IsSound}
-use Rattle.group_types.proofs.BoolLemmas.{or_group}
 use Rattle.group_types.proofs.GrantLemmas.{has-granting, has-held, has-others}
-use Rattle.group_types.proofs.Lookups.{Tie, ties, differs, tie, not_none, text_ties, get-insert_other, none_without, removed_is_none}
+use Rattle.group_types.proofs.Lookups.{Tie, ties, differs, tie, not_none, get-insert_other, none_without, removed_is_none}
 use Rattle.group_types.proofs.Orders.{partition_cmp_total, partition_cmp-IsAntisymmetric, text_cmp_total, text_cmp-IsAntisymmetric}
 use Rattle.group_types.proofs.PastLemmas.{not_past}
 use Rattle.group_types.proofs.SetLemmas.{same_set}
 use Rattle.group_types.proofs.SpreadLemmas.{get-renamed, has-share_of}
 use Rattle.group_epochs.specs.Records.{Marks}
-use Rattle.group_core.specs.Stages.{IsHeirOf, heir_of, stored_in}
+use Rattle.group_epochs.specs.Drafts.{IsHeirOf}
+use Rattle.group_core.specs.Stages.{heir_of, stored_in}
 use Rattle.group_core.specs.Steady.{AreMarked, IsSteady}
 
 pub apart_of : (n m : Text) → n ≢ m → eq_by_cmp text_cmp n m ≡ false

@@ -4,7 +4,7 @@ use Rattle.std.specs.FinMap as finite
 use Rattle.std.specs.Option.{IfSome}
 use Rattle.group_types.specs.declared.partition.Partition.{Partition}
 use Rattle.group_types.specs.Text.{Text}
-use Rattle.group_types.specs.Sets.{nothing, has}
+use Rattle.group_types.specs.Sets.{nothing}
 use Rattle.group_types.specs.Partition.{partition_cmp, Partitions}
 use Rattle.group_types.specs.Owners.{Spread}
 use Rattle.group_types.specs.Group.{Grants, Group, Record, Records, held}
@@ -14,7 +14,8 @@ use Rattle.group_types.proofs.GrantLemmas.{has-held}
 use Rattle.group_types.proofs.Lookups.{Tie, ties, differs, tie, get-insert_other}
 use Rattle.group_types.proofs.Orders.{partition_cmp_total, partition_cmp-IsAntisymmetric}
 use Rattle.group_types.proofs.SetLemmas.{has-nothing, same_set}
-use Rattle.group_core.specs.Stages.{HasNothing, IsHeirOf}
+use Rattle.group_epochs.specs.Drafts.{IsHeirOf}
+use Rattle.group_core.specs.Stages.{HasNothing}
 use Rattle.group_core.proofs.HandOvers.{heir_differs}
 use Rattle.group_core.proofs.Marking.{held_others}
 

@@ -1,11 +1,18 @@
 -- What an offer and a reply leave of a record.
-use Rattle.std.proofs.Common.{◌≡◌, ℕ, ◌==◌, Bool, true, false, cond, Option, Some, None, refl}
+use Rattle.std.proofs.Common.{◌≡◌, ◌≤◌, ◌∙◌, ℕ, ◌==◌, Bool, true, false, cond, Option, Some, None, refl, sym, subst}
 use Rattle.group_types.specs.declared.epoch.Epoch.{Epoch}
 use Rattle.group_types.specs.declared.epoch.Epoch.TheVariants.{At, Away}
 use Rattle.group_types.specs.Partition.{Partitions}
-use Rattle.group_types.specs.Group.{Record}
+use Rattle.group_types.specs.Text.{Text}
+use Rattle.group_types.specs.Sets.{size}
+use Rattle.group_types.specs.Topics.{Names}
+use Rattle.group_types.specs.Group.{Record, Records}
 use Rattle.group_types.specs.Settle.{arrived, asked, settled_record}
 use Rattle.group_types.specs.HeartbeatStep.{sent_after}
+use Rattle.group_epochs.specs.declared.draft.Place.{Place}
+use Rattle.group_epochs.specs.declared.draft.Place.TheVariants.{New, Kept, Handed}
+use Rattle.group_epochs.specs.Drafts.{CanStore}
+use Rattle.group_epochs.specs.Records.{IsInstanceFreeFor, RecordsState}
 
 -- a field that has nothing to do with epochs and the release deadline
 module _ {X : Type 0} (field : Record → X)
@@ -42,3 +49,22 @@ sent_instance r (Some set) = refl
 pub sent_names : (r : Record) (sent : Option Partitions) → (sent_after r sent).names ≡ r.names
 sent_names r None = refl
 sent_names r (Some set) = refl
+
+-- ---- a record that is settled and sent is stored as it would have been before
+
+same_names : (s : RecordsState) (m : Text) (r after : Record) (p : Place) → after.names ≡ r.names → CanStore s m r p → CanStore s m after p
+same_names s m r after (New n) same can = (can.0, can.1, can.2, record { room = can.3.room; names = (can.3.names.0 ∙ sym same, subst (λ (ns : Names). size ns ≤ s.names_room) (sym same) can.3.names.1) })
+same_names s m r after (Kept None) same can = (can.0, λ t is. can.1 t is ∙ sym same)
+same_names s m r after (Kept (Some names)) same can = (can.0, (can.1.0 ∙ sym same, subst (λ (ns : Names). size ns ≤ s.names_room) (sym same) can.1.1))
+same_names s m r after (Handed n) same can = (can.0, record { room = can.1.room; names = (can.1.names.0 ∙ sym same, subst (λ (ns : Names). size ns ≤ s.names_room) (sym same) can.1.names.1) })
+
+module _ (moves : Bool) (r : Record) (t now : ℕ) (sent : Option Partitions) where
+  abbrev After : Record
+  After = sent_after (settled_record moves r t now) sent
+
+  pub can_store_after : (s : RecordsState) (m : Text) (p : Place) → CanStore s m r p → CanStore s m After p
+  can_store_after s m p can = same_names s m r After p (sent_names (settled_record moves r t now) sent ∙ settled_names moves r t now) can
+
+  pub free_after : (records : Records) (m : Text) → IsInstanceFreeFor records m r → IsInstanceFreeFor records m After
+  free_after records m free = λ n i is there.
+      free n i (sym (sent_instance (settled_record moves r t now) sent ∙ settled_instance moves r t now) ∙ is) there

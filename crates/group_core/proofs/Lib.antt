@@ -12,16 +12,15 @@ pub mod Renewing
 pub mod HandOvers
 pub mod Idle
 pub mod Settling
-pub mod Sharing
 pub mod SoleMember
 pub mod Answered
 pub mod ListingLemmas
 pub mod GrowthLemmas
-pub mod Senders
 pub mod Granted
 pub mod Verdicts
 pub mod Kept
 pub mod Results
+pub mod Responses
 pub mod TakenIn
 pub mod SteadyBeats
 pub mod Marking

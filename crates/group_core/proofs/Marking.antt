@@ -1,13 +1,12 @@
 -- What keeps the marks of steady members true.
 use Rattle.std.proofs.Common.{◌≡◌, ◌≢◌, ℕ, ◌≤◌, Bool, true, false, cond, not, ◌&&◌, ◌||◌, Option, Some, None, MatchOption, unwrap_or, refl, sym, ap, ◌∙◌, arith, max}
-use Rattle.std.specs.Ordering.{eq_by_cmp}
 use Rattle.std.specs.Option.{option_map_or}
 use Rattle.std.specs.Str.{bytes_eq}
 use Rattle.std.specs.FinMap as finite
 use Rattle.std.proofs.lemmas.Slice.Eq.{bytes_eq-Decides}
 use Rattle.group_types.specs.declared.epoch.Epoch.TheVariants.{At}
 use Rattle.group_types.specs.declared.stamp.Stamp.{Stamp}
-use Rattle.group_types.specs.Text.{Text, text_cmp}
+use Rattle.group_types.specs.Text.{Text}
 use Rattle.group_types.specs.Sets.{has}
 use Rattle.group_types.specs.Partition.{Partitions}
 use Rattle.group_types.specs.Topics.{Topics}
@@ -20,7 +19,7 @@ use Rattle.group_types.specs.HeartbeatStep.{sent_after}
 use Rattle.group_types.specs.Sound.{IsSound}
 use Rattle.std.specs.Option.{IfSome}
 use Rattle.group_types.proofs.GrantLemmas.{has-held, has-moved, has-others}
-use Rattle.group_types.proofs.Lookups.{Tie, ties, differs, tie, not_none, get-insert_other, found_without}
+use Rattle.group_types.proofs.Lookups.{not_none, get-insert_other, found_without}
 use Rattle.group_types.proofs.Orders.{partition_cmp_total, partition_cmp-IsAntisymmetric, text_cmp_total}
 use Rattle.group_types.proofs.SetLemmas.{same_set}
 use Rattle.group_types.proofs.SpreadLemmas.{has-share_of}
@@ -29,9 +28,10 @@ use Rattle.group_reconcile.specs.Holders.{pairs}
 use Rattle.group_epochs.specs.Records.{Marks}
 use Rattle.group_core.specs.declared.state.State.{State}
 use Rattle.group_core.specs.declared.draft.Draft.{Draft as Drafted}
-use Rattle.group_core.specs.declared.renewal.Renewal.{Renewal}
+use Rattle.group_core.specs.declared.change.Renewal.{Renewal}
 use Rattle.group_core.specs.GroupView.{group_of}
-use Rattle.group_core.specs.Stages.{IsHeirOf, IsRenewalOf, carried, epoch_if, grants_then, group_then, heir_in, moves, part_of, record_then, records_with, target_then}
+use Rattle.group_epochs.specs.Drafts.{IsHeirOf}
+use Rattle.group_core.specs.Stages.{IsRenewalOf, carried, epoch_if, grants_then, group_then, heir_id, heir_in, moves, part_of, record_then, records_with, target_then}
 use Rattle.group_core.specs.Steady.{AreMarked, IsSteady}
 use Rattle.group_core.proofs.HandOvers.{apart_of, heir_is_absent, marked_beside}
 
@@ -133,20 +133,20 @@ marked_away g marks are m r stamp moment = λ n e is.
 -- ---- a join or a beat
 
 module _ (s : State) (sound : IsSound (group_of s)) (marks : AreMarked (group_of s) s.records.marks)
-    (d : Drafted) (heir : IfSome d.heir (IsHeirOf s.records.records d.id)) (now : ℕ) (image : Topics) (r : Renewal) (is : IsRenewalOf s d image r) (owned sent : Option Partitions) where
+    (d : Drafted) (heir : IfSome (heir_id d) (IsHeirOf s.records.records d.member.id)) (now : ℕ) (image : Topics) (r : Renewal) (is : IsRenewalOf s d image r) (owned sent : Option Partitions) where
   -- all but the record
   abbrev Granted : Group
   Granted = record (carried s d now r) { grants = grants_then s d r owned }
 
   -- where the target stays, another member is as steady as it was
-  other_steady : target_then s r ≡ s.target → (n : Text) → n ≢ d.id → IsSteady (group_of s) n → IsSteady Granted n
+  other_steady : target_then s r ≡ s.target → (n : Text) → n ≢ d.member.id → IsSteady (group_of s) n → IsSteady Granted n
   other_steady stays n other steady =
       record {
         kept = steady.kept;
         is_kept = steady.is_kept;
         arrived = steady.arrived ∙ ap (λ (t : TargetState). At t.epoch) (sym stays);
         unasked = steady.unasked;
-        holds = held_others (moves s d r owned) (pairs s.grants) d.id n (part_of s d r) other ∙ steady.holds ∙ ap (λ (t : TargetState). wanted t.owners n) (sym stays);
+        holds = held_others (moves s d r owned) (pairs s.grants) d.member.id n (part_of s d r) other ∙ steady.holds ∙ ap (λ (t : TargetState). wanted t.owners n) (sym stays);
         sent = steady.sent ∙ ap (λ (t : TargetState). Some (wanted t.owners n)) (sym stays);
       }
 
@@ -157,16 +157,16 @@ module _ (s : State) (sound : IsSound (group_of s)) (marks : AreMarked (group_of
       by true at = let most : s.target.epoch ≤ s.epoch = sound.target_epoch in omega (arith, most, at)
       by false at = let most : s.target.epoch ≤ s.epoch = sound.target_epoch in omega (arith, most, at)
 
-  pub marked_then : (new : Marks) → ((n : Text) (e : ℕ) → finite.get new n ≡ Some e → (finite.get s.records.marks n ≡ Some e) × (n ≡ d.id → finite.get s.records.records d.id ≡ None))
+  pub marked_then : (new : Marks) → ((n : Text) (e : ℕ) → finite.get new n ≡ Some e → (finite.get s.records.marks n ≡ Some e) × (n ≡ d.member.id → finite.get s.records.records d.member.id ≡ None))
       → AreMarked (group_then s d now r owned sent) new
   marked_then new keeps =
-      marked_beside Granted d.id (sent_after (record_then s d r owned now) sent) (heir_in s d) (heir_is_absent s.records.records d.id (finite.get s.records.records d.id) d.heir heir) new
+      marked_beside Granted d.member.id (sent_after (record_then s d r owned now) sent) (heir_in s d) (heir_is_absent s.records.records d.member.id (finite.get s.records.records d.member.id) (heir_id d) heir) new
       (λ n e there. by n e (keeps n e there) r.target refl is.target)
     where
-      by : (n : Text) (e : ℕ) → (finite.get s.records.marks n ≡ Some e) × (n ≡ d.id → finite.get s.records.records d.id ≡ None)
+      by : (n : Text) (e : ℕ) → (finite.get s.records.marks n ≡ Some e) × (n ≡ d.member.id → finite.get s.records.records d.member.id ≡ None)
           → (o : Option TargetState) → r.target ≡ o
           → MatchOption o (r.epoch ≡ s.target.epoch) (λ (t : TargetState). (¬ (r.epoch ≡ s.target.epoch)) × (t.epoch ≡ r.epoch) × IsTarget (records_with s d) r.view s.target.owners t.owners)
-          → (e ≤ (target_then s r).epoch) × (e ≡ (target_then s r).epoch → (n ≢ d.id) × IsSteady Granted n)
+          → (e ≤ (target_then s r).epoch) × (e ≡ (target_then s r).epoch → (n ≢ d.member.id) × IsSteady Granted n)
       by n e (was, fresh) None none same =
           let stays : target_then s r ≡ s.target = ap (λ o. unwrap_or o s.target) none in
           let before = marks n e was in
@@ -174,7 +174,7 @@ module _ (s : State) (sound : IsSound (group_of s)) (marks : AreMarked (group_of
             let low = before.0 in omega (arith, low, epoch),
             λ so.
                 let steady = before.1 (so ∙ epoch) in
-                let other : n ≢ d.id = λ it. not_none steady.kept (sym (fresh it) ∙ ap (finite.get s.records.records) (sym it) ∙ steady.is_kept) in
+                let other : n ≢ d.member.id = λ it. not_none steady.kept (sym (fresh it) ∙ ap (finite.get s.records.records) (sym it) ∙ steady.is_kept) in
                 (other, other_steady stays n other steady),
           )
       by n e (was, fresh) (Some t) some (apart, at, target) =

@@ -13,7 +13,7 @@ use Rattle.group_types.proofs.TargetOwners.{target_owners}
 use Rattle.group_target.specs.TargetState.{TargetState}
 use Rattle.group_core.specs.declared.state.State.{State}
 use Rattle.group_core.specs.declared.draft.Draft.{Draft as Drafted}
-use Rattle.group_core.specs.declared.renewal.Renewal.{Renewal}
+use Rattle.group_core.specs.declared.change.Renewal.{Renewal}
 use Rattle.group_core.specs.GroupView.{group_of}
 use Rattle.group_core.specs.Stages.{AreOfView, draft_in, epoch_if, renewed_by, target_then}
 
@@ -31,10 +31,10 @@ view_stays (Some before) after stored view is = is.view
 
 module _ (s : State) (d : Drafted) (now : ℕ) (r : Renewal) where
   abbrev Former : Option Record
-  Former = finite.get s.records.records d.id
+  Former = finite.get s.records.records d.member.id
 
   abbrev The : Group
-  The = (draft_in s d now).group
+  The = (draft_in (group_of s) d now).group
 
   abbrev Changed : Group
   Changed = record The { epoch = r.epoch; view = r.view }
@@ -44,9 +44,9 @@ module _ (s : State) (d : Drafted) (now : ℕ) (r : Renewal) where
   IsRenewed renewed =
       MatchOption renewed (r.epoch ≡ s.target.epoch) (λ t. (¬ (r.epoch ≡ s.target.epoch)) × (t.epoch ≡ r.epoch) × IsTarget The.records r.view s.target.owners t.owners)
 
-  changes : (change : Bool) → IsChange change Former d.record s.view r.view → r.epoch ≡ epoch_if change s.epoch → changed_if change The r.view ≡ Changed
+  changes : (change : Bool) → IsChange change Former d.member.record s.view r.view → r.epoch ≡ epoch_if change s.epoch → changed_if change The r.view ≡ Changed
   changes true is rises = λ i. record The { epoch = sym rises i; view = r.view }
-  changes false is stays = λ i. record The { epoch = sym stays i; view = view_stays Former d.record s.view r.view is i }
+  changes false is stays = λ i. record The { epoch = sym stays i; view = view_stays Former d.member.record s.view r.view is i }
 
   abbrev With : Option TargetState → Group
   With renewed =
@@ -63,18 +63,18 @@ module _ (s : State) (d : Drafted) (now : ℕ) (r : Renewal) where
       apart true never = absurd (never refl)
       apart false never = refl
 
-  pub renews : (change : Bool) → IsChange change Former d.record s.view r.view → r.epoch ≡ epoch_if change s.epoch → IsRenewed r.target
+  pub renews : (change : Bool) → IsChange change Former d.member.record s.view r.view → r.epoch ≡ epoch_if change s.epoch → IsRenewed r.target
       → Renews (changed_if change The r.view) (renewed_by s d now r)
   renews change is epoch renewed = subst (λ (g : Group). Renews g (renewed_by s d now r)) (sym (changes change is epoch)) (renewed_with r.target renewed)
 
   -- the target's partitions are of the view
-  pub renewed_of_view : IsSound (group_of s) → (change : Bool) → IsChange change Former d.record s.view r.view → r.epoch ≡ epoch_if change s.epoch → IsRenewed r.target
+  pub renewed_of_view : IsSound (group_of s) → (change : Bool) → IsChange change Former d.member.record s.view r.view → r.epoch ≡ epoch_if change s.epoch → IsRenewed r.target
       → AreOfView (target_then s r).owners r.view
   renewed_of_view sound change is epoch renewed = by r.target renewed
     where
-      stored : (change : Bool) → IsChange change Former d.record s.view r.view → r.epoch ≡ epoch_if change s.epoch → r.epoch ≡ s.target.epoch → AreOfView s.target.owners r.view
+      stored : (change : Bool) → IsChange change Former d.member.record s.view r.view → r.epoch ≡ epoch_if change s.epoch → r.epoch ≡ s.target.epoch → AreOfView s.target.owners r.view
       stored true is rises same = absurd (let most : s.target.epoch ≤ s.epoch = sound.target_epoch in omega (arith, most, rises, same))
-      stored false is stays same = subst (AreOfView s.target.owners) (view_stays Former d.record s.view r.view is) (λ p m owns. sound.owned m p owns)
+      stored false is stays same = subst (AreOfView s.target.owners) (view_stays Former d.member.record s.view r.view is) (λ p m owns. sound.owned m p owns)
 
       by : (o : Option TargetState) → IsRenewed o → AreOfView (unwrap_or o s.target).owners r.view
       by None same = stored change is epoch same
@@ -85,5 +85,5 @@ module _ (s : State) (d : Drafted) (now : ℕ) (r : Renewal) where
   owner_is_member sound renewed p m = by r.target renewed
     where
       by : (o : Option TargetState) → IsRenewed o → finite.get (unwrap_or o s.target).owners p ≡ Some m → IsTrue (finite.contains_key The.records m)
-      by None same owns = still_there s.records.records d.id d.record m (sound.owners m p owns)
+      by None same owns = still_there s.records.records d.member.id d.member.record m (sound.owners m p owns)
       by (Some t) is owns = (target_owners The.records r.view s.target.owners t.owners is.2 p m owns).0

@@ -11,3 +11,8 @@ IfOk-both (Err e) P Q S so p q = p
 pub either_way : {X E : Type 0} (r : Result X E) (P Q R S T : Type 0) → (P → Q → T) → (R → S → T) → OnOk r P → OnOk r Q → OnErr r R → OnErr r S → T
 either_way (Ok x) P Q R S T ok err p q _ _ = ok p q
 either_way (Err e) P Q R S T ok err _ _ r s = err r s
+
+-- what holds in any case
+pub on_err : {X E : Type 0} (r : Result X E) (P : Type 0) → P → OnErr r P
+on_err (Ok x) P p = tt
+on_err (Err e) P p = p

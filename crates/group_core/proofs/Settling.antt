@@ -14,7 +14,8 @@ use Rattle.group_types.proofs.Lookups.{get-inserted}
 use Rattle.group_types.proofs.Orders.{text_cmp_total, text_cmp-IsAntisymmetric}
 use Rattle.group_core.specs.declared.state.State.{State}
 use Rattle.group_core.specs.declared.draft.Draft.{Draft as Drafted}
-use Rattle.group_core.specs.declared.renewal.Renewal.{Renewal}
+use Rattle.group_core.specs.declared.change.Renewal.{Renewal}
+use Rattle.group_core.specs.GroupView.{group_of}
 use Rattle.group_core.specs.Outcome.{IsCurrent}
 use Rattle.group_core.specs.Stages.{carried, draft_in, grants_then, group_then, heir_in, moves, record_then, renewed_by, shown_then, stored_in}
 use Rattle.group_core.proofs.Kept.{settled_names, settled_sent, sent_names}
@@ -28,7 +29,7 @@ module _ (s : State) (d : Drafted) (now : ℕ) (r : Renewal) (q : Heartbeat) whe
   Owned = reported q
 
   abbrev Before : Records
-  Before = finite.insert s.records.records d.id d.record
+  Before = finite.insert s.records.records d.member.id d.member.record
 
   abbrev After : Record
   After = record_then s d r Owned now
@@ -37,45 +38,45 @@ module _ (s : State) (d : Drafted) (now : ℕ) (r : Renewal) (q : Heartbeat) whe
   Renewed = renewed_by s d now r
 
   abbrev Settled : Group
-  Settled = record Renewed { grants = grants_then s d r Owned; records = finite.insert Before d.id After }
+  Settled = record Renewed { grants = grants_then s d r Owned; records = finite.insert Before d.member.id After }
 
-  settles : settled Renewed d.id Owned now ≡ Settled
-  settles = ap (λ o. settled_by (moves s d r Owned) Renewed d.id o now) (get-inserted s.records.records d.id d.record)
+  settles : settled Renewed d.member.id Owned now ≡ Settled
+  settles = ap (λ o. settled_by (moves s d r Owned) Renewed d.member.id o now) (get-inserted s.records.records d.member.id d.member.record)
 
   abbrev Shown : Partitions
   Shown = shown_then s d r Owned
 
   abbrev Assigned : Option Partitions
-  Assigned = assignment_of (is_full q || is_news d.record.sent Shown) Shown
+  Assigned = assignment_of (is_full q || is_news d.member.record.sent Shown) Shown
 
   -- all but the record
   abbrev Granted : Group
   Granted = record (carried s d now r) { grants = grants_then s d r Owned }
 
-  stored : (o : Option Heir) → IfSome o (λ h. past_stamp s.records.past d.id ≡ None) → (last : Record) → stored_in Granted d.id last o ≡ handed_over Settled d.id last o
+  stored : (o : Option Heir) → IfSome o (λ h. past_stamp s.records.past d.member.id ≡ None) → (last : Record) → stored_in Granted d.member.id last o ≡ handed_over Settled d.member.id last o
   stored None fresh last = ap (λ (rs : Records). record Settled { records = rs })
-      (sym (insert-insert text_cmp_total text_cmp-IsAntisymmetric Before d.id After last
-      ∙ insert-insert text_cmp_total text_cmp-IsAntisymmetric s.records.records d.id d.record last))
+      (sym (insert-insert text_cmp_total text_cmp-IsAntisymmetric Before d.member.id After last
+      ∙ insert-insert text_cmp_total text_cmp-IsAntisymmetric s.records.records d.member.id d.member.record last))
   stored (Some h) fresh last =
-      let without : finite.remove Settled.records d.id ≡ finite.remove s.records.records d.id =
-      remove-inserted Before d.id After ∙ remove-inserted s.records.records d.id d.record in
-      λ i. record (handed_over Settled d.id last (Some h)) {
+      let without : finite.remove Settled.records d.member.id ≡ finite.remove s.records.records d.member.id =
+      remove-inserted Before d.member.id After ∙ remove-inserted s.records.records d.member.id d.member.record in
+      λ i. record (handed_over Settled d.member.id last (Some h)) {
         records = finite.insert (sym without i) h.id last;
-        past = remembering (without_past (sym (kept_past s.records.past d.id fresh) i) h.id) d.id h.last;
+        past = remembering (without_past (sym (kept_past s.records.past d.member.id fresh) i) h.id) d.member.id h.last;
       }
 
-  pub settles_and_replies : IfSome (heir_in s d) (λ h. past_stamp s.records.past d.id ≡ None)
-      → SettlesAndReplies Renewed (draft_in s d now) q (Replied (acceptance (heir_or d.id (heir_in s d)) After Assigned)) (group_then s d now r Owned Assigned)
+  pub settles_and_replies : IfSome (heir_in s d) (λ h. past_stamp s.records.past d.member.id ≡ None)
+      → SettlesAndReplies Renewed (draft_in (group_of s) d now) q (Replied (acceptance (heir_or d.member.id (heir_in s d)) After Assigned)) (group_then s d now r Owned Assigned)
   settles_and_replies fresh =
-      let D : Draft = draft_in s d now in
+      let D : Draft = draft_in (group_of s) d now in
       let new : Group = group_then s d now r Owned Assigned in
-      let answer = Replied (acceptance (heir_or d.id (heir_in s d)) After Assigned) in
+      let answer = Replied (acceptance (heir_or d.member.id (heir_in s d)) After Assigned) in
       let replied : RepliesWith Settled D After Assigned answer new = (refl, stored (heir_in s d) fresh (sent_after After Assigned)) in
       let told : RepliesTo Settled D (Some After) (is_full q) answer new =
-      subst (λ o. RepliesWith Settled D After (assignment_of (is_full q || is_news o Shown) Shown) answer new) (sym (settled_sent (moves s d r Owned) d.record _ now)) replied in
-      let looked : RepliesTo Settled D (finite.get Settled.records d.id) (is_full q) answer new =
-      subst (λ o. RepliesTo Settled D o (is_full q) answer new) (sym (get-inserted Before d.id After)) told in
-      subst (λ (g : Group). RepliesTo g D (finite.get g.records d.id) (is_full q) answer new) (sym settles) looked
+      subst (λ o. RepliesWith Settled D After (assignment_of (is_full q || is_news o Shown) Shown) answer new) (sym (settled_sent (moves s d r Owned) d.member.record _ now)) replied in
+      let looked : RepliesTo Settled D (finite.get Settled.records d.member.id) (is_full q) answer new =
+      subst (λ o. RepliesTo Settled D o (is_full q) answer new) (sym (get-inserted Before d.member.id After)) told in
+      subst (λ (g : Group). RepliesTo g D (finite.get g.records d.member.id) (is_full q) answer new) (sym settles) looked
 
   -- the view is that of the image still
   pub current_then : IfSome (heir_in s d) (λ h. finite.get s.records.records h.id ≡ None) → (image : Topics) (owned sent : Option Partitions) → r.view ≡ view_for image Before
@@ -85,9 +86,9 @@ module _ (s : State) (d : Drafted) (now : ℕ) (r : Renewal) (q : Heartbeat) whe
       last : Record
       last = sent_after (record_then s d r owned now) sent
 
-      names : last.names ≡ d.record.names
-      names = sent_names (record_then s d r owned now) sent ∙ settled_names (moves s d r owned) d.record _ now
+      names : last.names ≡ d.member.record.names
+      names = sent_names (record_then s d r owned now) sent ∙ settled_names (moves s d r owned) d.member.record _ now
 
-      by : (o : Option Heir) → IfSome o (λ h. finite.get s.records.records h.id ≡ None) → IsCurrent (stored_in (record (carried s d now r) { grants = grants_then s d r owned }) d.id last o) image
-      by None tt = is ∙ sym (view_for-either image s.records.records d.id last d.record names)
-      by (Some h) none = is ∙ sym (view_for-heir image s.records.records d.id h.id d.record last none names)
+      by : (o : Option Heir) → IfSome o (λ h. finite.get s.records.records h.id ≡ None) → IsCurrent (stored_in (record (carried s d now r) { grants = grants_then s d r owned }) d.member.id last o) image
+      by None tt = is ∙ sym (view_for-either image s.records.records d.member.id last d.member.record names)
+      by (Some h) none = is ∙ sym (view_for-heir image s.records.records d.member.id h.id d.member.record last none names)

@@ -36,7 +36,7 @@ use Rattle.group_core.specs.Checks.{verdict_on_request}
 use Rattle.group_core.specs.Outcome.{IsCurrent}
 use Rattle.group_core.specs.Steady.{AreMarked, IsSteady, IsSteadyBeat, beaten_by}
 use Rattle.group_core.proofs.GrantLemmas.{common-itself}
-use Rattle.group_core.proofs.Senders.{record_under-get}
+use Rattle.group_epochs.proofs.Senders.{record_under-get}
 use Rattle.group_core.proofs.Single.{insert-insert}
 use Rattle.group_core.proofs.Views.{view_for-insert}
 

@@ -1,49 +1,55 @@
 -- A draft is taken in, and whose draft it is.
-use Rattle.std.proofs.Common.{◌≡◌, ◌≢◌, ℕ, suc, [], Option, Some, None, is_some, refl, sym, ap, subst, ◌∙◌}
-use Rattle.std.specs.Option.{IfSome, unwrap_or}
+use Rattle.std.proofs.Common.{arith, ◌≡◌, ◌≤ℤ◌, ℕ, zero, suc, ℤ, pos, negsuc, max, [], ◌∷◌, Option, Some, None, is_some, refl, sym, ap, subst, ◌∙◌, true≢false}
+use Rattle.std.proofs.lemmas.Int.{ints}
+use Rattle.std.specs.Option.{IfSome}
 use Rattle.std.specs.FinMap as finite
 use Rattle.group_types.specs.declared.stamp.Stamp.{Stamp}
 use Rattle.group_types.specs.Topics.{Topics}
-use Rattle.group_types.specs.Request.{Heartbeat, Joins}
+use Rattle.group_types.specs.Request.{Heartbeat, Beats, Joins, kind_of}
 use Rattle.group_types.specs.Group.{Group, Record}
 use Rattle.group_types.specs.Join.{IsNamed, Name, record_of_beat, record_of_join}
 use Rattle.group_types.specs.Renewal.{IsChange, Renews, changed_if, view_for}
-use Rattle.group_types.specs.Checks.{Accepted, Member, Sender, sender_of, verdict_on}
-use Rattle.group_types.specs.HeartbeatStep.{Answer, Draft, ByVerdict, GoesOn, SettlesAndReplies, TakesIn, draft_of, draft_of_beat, draft_of_join}
+use Rattle.group_types.specs.Checks.{Accepted, Member, Sender, record_under, sender_of, verdict_on}
+use Rattle.group_types.specs.HeartbeatStep.{Answer, Arrival, BeatsWith, Draft, ByVerdict, GoesOn, SettlesAndReplies, StepOf, TakesIn, draft_of, draft_of_beat, draft_of_join}
 use Rattle.group_types.specs.Sound.{IsSound}
 use Rattle.group_types.specs.Text.{Text}
 use Rattle.group_types.specs.Members.{HasInstance}
 use Rattle.group_types.proofs.Drafts.{join_is_ready}
-use Rattle.group_types.proofs.Lookups.{Tie, ties, differs, tie, not_none, get-inserted, get-insert_other}
+use Rattle.group_types.proofs.Lookups.{Tie, ties, differs, tie, not_none, some_is, get-inserted, get-insert_other}
 use Rattle.group_types.proofs.Senders.{named_fresh, named_own, other_is, own_is}
 use Rattle.group_epochs.specs.Records.{IsInstanceFreeFor}
 use Rattle.group_core.specs.declared.state.State.{State}
 use Rattle.group_core.specs.declared.draft.Draft.{Draft as Drafted}
-use Rattle.group_core.specs.declared.renewal.Renewal.{Renewal}
+use Rattle.group_core.specs.declared.change.Renewal.{Renewal}
 use Rattle.group_reconcile.specs.Holders.{pairs}
 use Rattle.group_core.specs.GroupView.{group_of}
-use Rattle.group_core.specs.Stages.{AreOfView, HasNothing, IsDraftOfJoin, IsHeirOf, IsRenewalOf, draft_in, heir_of, name_of, records_with, renewed_by, target_then, told_id}
+use Rattle.group_epochs.specs.Drafts.{CanStore, Drafted as DraftedAs, IsHeirOf, IsIdOf, drafted, drafted_in, placed_heir}
+use Rattle.group_epochs.specs.declared.draft.Place.{Place}
+use Rattle.group_epochs.specs.declared.draft.Place.TheVariants.{New, Kept, Handed}
+use Rattle.group_epochs.specs.Records.{RecordsState}
+use Rattle.group_epochs.proofs.Senders.{record_under-get}
+use Rattle.group_core.specs.Stages.{AreOfView, HasNothing, IsDraft, IsRenewalOf, draft_in, heir_id, heir_of, records_with, renewed_by, target_then}
 use Rattle.group_core.proofs.Idle.{has_nothing}
 use Rattle.group_core.proofs.Renewing.{owner_is_member, renewed_of_view, renews}
-use Rattle.group_core.proofs.Verdicts.{joins_accepted}
+use Rattle.group_core.proofs.Verdicts.{beats_accepted, joins_accepted}
 
 module _ (s : State) (d : Drafted) (now : ℕ) (image : Topics) (r : Renewal) (is : IsRenewalOf s d image r) where
   pub owned_of_view : IsSound (group_of s) → AreOfView (target_then s r).owners r.view
   owned_of_view sound = renewed_of_view s d now r sound is.change is.is_change is.epoch is.target
 
   -- an heir owns nothing and holds nothing
-  pub heir_has_nothing : IsSound (group_of s) → IfSome d.heir (IsHeirOf s.records.records d.id) → IfSome d.heir (HasNothing (target_then s r).owners (pairs s.grants))
-  heir_has_nothing sound ok = by d.heir ok
+  pub heir_has_nothing : IsSound (group_of s) → IfSome (heir_id d) (IsHeirOf s.records.records d.member.id) → IfSome (heir_id d) (HasNothing (target_then s r).owners (pairs s.grants))
+  heir_has_nothing sound ok = by (heir_id d) ok
     where
-      by : (heir : Option Text) → IfSome heir (IsHeirOf s.records.records d.id) → IfSome heir (HasNothing (target_then s r).owners (pairs s.grants))
+      by : (heir : Option Text) → IfSome heir (IsHeirOf s.records.records d.member.id) → IfSome heir (HasNothing (target_then s r).owners (pairs s.grants))
       by None tt = tt
-      by (Some h) ok = has_nothing (group_of s) sound d.id d.record h ok (target_then s r).owners (owner_is_member s d now r sound is.target)
+      by (Some h) ok = has_nothing (group_of s) sound d.member.id d.member.record h ok (target_then s r).owners (owner_is_member s d now r sound is.target)
 
   -- a draft that is renewed, settled and replied to is taken in
-  pub takes_in : (q : Heartbeat) (answer : Answer) (new : Group) → SettlesAndReplies (renewed_by s d now r) (draft_in s d now) q answer new
-      → TakesIn (group_of s) (draft_in s d now) q image answer new
+  pub takes_in : (q : Heartbeat) (answer : Answer) (new : Group) → SettlesAndReplies (renewed_by s d now r) (draft_in (group_of s) d now) q answer new
+      → TakesIn (group_of s) (draft_in (group_of s) d now) q image answer new
   takes_in q answer new replies =
-      let D : Draft = draft_in s d now in
+      let D : Draft = draft_in (group_of s) d now in
       let V : Topics = view_for image (records_with s d) in
       let goes : GoesOn (changed_if is.change D.group V) D q answer new =
       record {
@@ -53,90 +59,130 @@ module _ (s : State) (d : Drafted) (now : ℕ) (image : Topics) (r : Renewal) (i
       } in
       record {
         change = is.change;
-        is_change = subst (λ v. IsChange is.change (finite.get s.records.records d.id) d.record s.view v) is.view is.is_change;
+        is_change = subst (λ v. IsChange is.change (finite.get s.records.records d.member.id) d.member.record s.view v) is.view is.is_change;
         step = subst (λ v. ByVerdict v (GoesOn (changed_if is.change D.group V) D q) (group_of s) answer new) (sym is.rises) goes;
       }
 
 -- ---- whose draft it is
 
-module _ (s : State) (d : Drafted) (q : Heartbeat) (stamp : Stamp) (now : ℕ) where
-  abbrev Named : Group
-  Named = record (group_of s) { serial = suc d.ids_made }
+-- who takes over a record for which there is room may do so
+pub heir_in_room : (s : RecordsState) (m : Text) (r : Record) (p : Place) → CanStore s m r p → IfSome (placed_heir p) (IsHeirOf s.records m)
+heir_in_room s m r (New n) can = tt
+heir_in_room s m r (Kept names) can = tt
+heir_in_room s m r (Handed n) can = can.0
 
+-- the draft of a record under an id, in a group
+abbrev placed : Group → ℕ → DraftedAs → Draft
+placed g now x = draft_of g now x.id (finite.get g.records x.id) x.kept (heir_of (finite.get g.records x.id) x.heir)
+
+-- a member that has a record keeps its id, and no id is made
+named_is : (g : Group) (m : Text) (r : Record) (name : Name) → record_under g.records m ≡ Some r → IsNamed g m (Some name) → name ≡ record { id = m; next_serial = g.serial }
+named_is g [] r name own named = absurd (not_none r own)
+named_is g (c ∷ m) r name own named = some_is name (record { id = c ∷ m; next_serial = g.serial }) named
+
+module _ (g : Group) (sound : IsSound g) (q : Heartbeat) (stamp : Stamp) (now : ℕ) (name : Name) (named : IsNamed g q.member (Some name)) where
   abbrev The : Sender
-  The = sender_of s.records.records q
+  The = sender_of g.records q
 
-  abbrev under : Text → Name
-  under m = record { id = m; next_serial = suc d.ids_made }
+  abbrev Named : Group
+  Named = record g { serial = name.next_serial }
 
-  -- a member that takes nobody's place
-  pub draft_alone : (own : Option Record) → The.own ≡ own → (own ≡ None → The.other ≡ None) → IsNamed (group_of s) q.member (Some (under d.id)) → d.heir ≡ None
-      → d.record ≡ record_of_join own q stamp now → IsDraftOfJoin s q stamp now d
-  draft_alone own is alone named heir recorded =
-      let told : d.id ≡ told_id d = ap (λ h. unwrap_or h d.id) (sym heir) in
-      record {
-        named = subst (λ m. IsNamed (group_of s) q.member (Some (under m))) told named;
-        same = by own is alone recorded ∙ (λ i. draft_of_join Named now (told i) The.own The.other q stamp);
-        heir = subst (λ h. IfSome h (IsHeirOf s.records.records d.id)) (sym heir) tt;
-      }
+  -- the id is the sender's
+  pub id_of_sender : IsIdOf g.records q.member name.id
+  id_of_sender = by The.own refl
     where
-      by : (own : Option Record) → The.own ≡ own → (own ≡ None → The.other ≡ None) → d.record ≡ record_of_join own q stamp now
-          → draft_in s d now ≡ draft_of_join Named now d.id The.own The.other q stamp
-      by None none alone recorded =
-          let fresh : finite.get s.records.records d.id ≡ None = (named_fresh (group_of s) q.member (under d.id) named none).0 in
-          (λ i. draft_of Named now d.id (fresh i) (recorded i) (heir_of (fresh i) (heir i)))
-          ∙ (λ i. draft_of_join Named now d.id (sym none i) (sym (alone refl) i) q stamp)
-      by (Some r) own alone recorded =
-          let same : d.id ≡ q.member = named_own (group_of s) q.member (under d.id) r named own in
-          let there : finite.get s.records.records d.id ≡ Some r = ap (finite.get s.records.records) same ∙ own_is s.records.records q.member r own in
-          (λ i. draft_of Named now d.id (there i) (recorded i) (heir_of (there i) (heir i)))
-          ∙ (λ i. draft_of_join Named now d.id (sym own i) The.other q stamp)
+      by : (own : Option Record) → The.own ≡ own → IsIdOf g.records q.member name.id
+      by None none =
+          let fresh = named_fresh g q.member name named none in
+          let absent = sym (record_under-get g.records q.member sound.named) ∙ none in
+          record { own = λ there. absurd (true≢false (sym there ∙ ap is_some absent)); new = λ _. fresh.0; some = fresh.1 }
+      by (Some r) own =
+          let same = named_own g q.member name r named own in
+          let found = own_is g.records q.member r own in
+          record {
+            own = λ _. same;
+            new = λ none. absurd (not_none r (sym none ∙ found));
+            some = λ empty. not_none r (sym sound.named ∙ ap (finite.get g.records) (sym (sym same ∙ empty)) ∙ found);
+          }
 
-  -- a member that takes another one's place
-  pub draft_of_heir : The.own ≡ None → (old : Member) → The.other ≡ Some old → (heir : Text) → IsNamed (group_of s) q.member (Some (under heir)) → d.id ≡ old.id → d.heir ≡ Some heir
-      → d.record ≡ record_of_join (Some old.kept) q stamp now → IsDraftOfJoin s q stamp now d
-  draft_of_heir none old other heir named same is recorded =
-      let told : heir ≡ told_id d = ap (λ h. unwrap_or h d.id) (sym is) in
-      let there : finite.get s.records.records old.id ≡ Some old.kept = (other_is s.records.records q.member q.instance old other).0 in
-      let found : finite.get s.records.records d.id ≡ Some old.kept = ap (finite.get s.records.records) same ∙ there in
-      let fresh = named_fresh (group_of s) q.member (under heir) named none in
-      record {
-        named = subst (λ m. IsNamed (group_of s) q.member (Some (under m))) told named;
-        same = (λ i. draft_of Named now (same i) (found i) (recorded i) (heir_of (found i) (is i)))
-            ∙ (λ i. draft_of_join Named now (told i) (sym none i) (sym other i) q stamp);
-        heir = subst (λ h. IfSome h (IsHeirOf s.records.records d.id)) (sym is) (record { there = ap is_some found; absent = fresh.0; named = fresh.1 });
-      }
+  -- a join's draft
+  placed_join : (own : Option Record) (other : Option Member) → The.own ≡ own → The.other ≡ other
+      → placed Named now (drafted Joins own other name.id q stamp now) ≡ draft_of_join Named now name.id own other q stamp
+  placed_join (Some r) other own _ =
+      let found : finite.get g.records name.id ≡ Some r = ap (finite.get g.records) (named_own g q.member name r named own) ∙ own_is g.records q.member r own in
+      λ i. draft_of Named now name.id (found i) (record_of_join (Some r) q stamp now) (heir_of (found i) None)
+  placed_join None None none _ =
+      let fresh = (named_fresh g q.member name named none).0 in
+      λ i. draft_of Named now name.id (fresh i) (record_of_join None q stamp now) (heir_of (fresh i) None)
+  placed_join None (Some old) none other =
+      let there = (other_is g.records q.member q.instance old other).0 in
+      λ i. draft_of Named now old.id (there i) (record_of_join (Some old.kept) q stamp now) (heir_of (there i) (Some name.id))
 
-  -- an accepted join's draft is sound
-  pub drafted_soundly : IsSound (group_of s) → verdict_on Joins The (group_of s) q stamp ≡ Accepted → IsDraftOfJoin s q stamp now d → IsSound (draft_in s d now).group
-  drafted_soundly sound accepted is =
-      let free = joins_accepted The (group_of s) q stamp accepted in
-      subst (λ (x : Draft). IsSound x.group) (sym is.same)
-      (join_is_ready (group_of s) sound now q stamp (name_of d) is.named The.own refl The.other refl free.0 free.1).sound
+  -- a beat's draft
+  placed_beat : (n : ℕ) (r : Record) (other : Option Member) → The.own ≡ Some r → placed Named now (drafted (Beats n) (Some r) other name.id q stamp now) ≡ draft_of_beat g now r q stamp
+  placed_beat n r other own =
+      let found = own_is g.records q.member r own in
+      ap (λ (x : Name). placed (record g { serial = x.next_serial }) now (record { id = x.id; kept = record_of_beat r q stamp now; heir = None })) (named_is g q.member r name own named)
+      ∙ (λ i. draft_of g now q.member (found i) (record_of_beat r q stamp now) (heir_of (found i) None))
 
-  -- the draft of a beat
-  pub beat_draft : (r : Record) → finite.get s.records.records q.member ≡ Some r → d.id ≡ q.member → d.heir ≡ None → d.ids_made ≡ s.ids_made → d.record ≡ record_of_beat r q stamp now
-      → draft_in s d now ≡ draft_of_beat (group_of s) now r q stamp
-  beat_draft r there same heir serial recorded =
-      let found : finite.get s.records.records d.id ≡ Some r = ap (finite.get s.records.records) same ∙ there in
-      λ i. draft_of (record (group_of s) { serial = suc (serial i) }) now (same i) (found i) (recorded i) (heir_of (found i) (heir i))
+module _ (g : Group) (sound : IsSound g) (a : Arrival) (now : ℕ) (clocked : now ≡ max g.clock a.moment) (d : Drafted) (is : IsDraft g a.heartbeat a.stamp now d) where
+  abbrev Q : Heartbeat
+  Q = a.heartbeat
 
--- in a sound draft the member has an id, and its instance is no other's
-module _ (s : State) (d : Drafted) (now : ℕ) (sound : IsSound (draft_in s d now).group) where
-  pub draft_is_named : d.id ≢ []
-  draft_is_named = λ empty.
-      not_none d.record (sym sound.named ∙ ap (finite.get (records_with s d)) (sym empty) ∙ get-inserted s.records.records d.id d.record)
+  abbrev Of : Sender
+  Of = sender_of g.records Q
 
-  pub draft_is_free : IsInstanceFreeFor s.records.records d.id d.record
-  draft_is_free = λ n i is has. by n i is has (tie n d.id)
+  abbrev IsBy : ℤ → Type 0
+  IsBy epoch = drafted_in d.member ≡ drafted (kind_of epoch) Of.own Of.other is.name.id Q a.stamp now
+
+  here : (epoch : ℤ) → IsBy epoch → draft_in g d now ≡ placed (record g { serial = is.name.next_serial }) now (drafted (kind_of epoch) Of.own Of.other is.name.id Q a.stamp now)
+  here epoch by = λ i. placed (record g { serial = sym is.serial i }) now (by i)
+
+  joins : IsBy (pos 0) → draft_in g d now ≡ draft_of_join (record g { serial = is.name.next_serial }) now is.name.id Of.own Of.other Q a.stamp
+  joins by = here (pos 0) by ∙ placed_join g sound Q a.stamp now is.name is.is_named Of.own Of.other refl refl
+
+  beats : (n : ℕ) → IsBy (pos (suc n)) → (r : Record) → Of.own ≡ Some r → draft_in g d now ≡ draft_of_beat g now r Q a.stamp
+  beats n by r own =
+      here (pos (suc n)) by
+      ∙ ap (λ (o : Option Record). placed (record g { serial = is.name.next_serial }) now (drafted (Beats (suc n)) o Of.other is.name.id Q a.stamp now)) own
+      ∙ placed_beat g sound Q a.stamp now is.name is.is_named (suc n) r Of.other own
+
+  -- what comes of a draft that is taken in is the step of its kind
+  entered_at : (epoch : ℤ) → Q.epoch ≡ epoch → pos 0 ≤ℤ epoch → IsBy epoch → verdict_on (kind_of epoch) Of g Q a.stamp ≡ Accepted
+      → (answer : Answer) (new : Group) → TakesIn g (draft_in g d now) Q a.image answer new → StepOf (kind_of epoch) Of g a answer new
+  entered_at (pos zero) at above by accepted answer new taken =
+      let drafted_is = joins by ∙ ap (λ t. draft_of_join (record g { serial = is.name.next_serial }) t is.name.id Of.own Of.other Q a.stamp) clocked in
+      record { name = Some is.name; is_named = is.is_named; joins = subst (λ (x : Draft). TakesIn g x Q a.image answer new) drafted_is taken }
+  entered_at (pos (suc n)) at above by accepted answer new taken =
+      let own = beats_accepted (suc n) Of.own Of.other g Q a.stamp accepted in
+      let drafted_is = beats n by own.0 own.1 ∙ ap (λ t. draft_of_beat g t own.0 Q a.stamp) clocked in
+      subst (λ (o : Option Record). BeatsWith o g a answer new) (sym own.1) (subst (λ (x : Draft). TakesIn g x Q a.image answer new) drafted_is taken)
+  entered_at (negsuc n) at above by accepted answer new taken = absurd (omega (arith, ints, above))
+
+  pub entered : pos 0 ≤ℤ Q.epoch → verdict_on (kind_of Q.epoch) Of g Q a.stamp ≡ Accepted → (answer : Answer) (new : Group) → TakesIn g (draft_in g d now) Q a.image answer new
+      → StepOf (kind_of Q.epoch) Of g a answer new
+  entered above accepted answer new taken = entered_at Q.epoch refl above is.drafted accepted answer new taken
+
+  -- the instance is no other member's
+  free_at : (epoch : ℤ) → pos 0 ≤ℤ epoch → IsBy epoch → verdict_on (kind_of epoch) Of g Q a.stamp ≡ Accepted → IsInstanceFreeFor g.records d.member.id d.member.record
+  free_at (pos zero) above by accepted =
+      let free = joins_accepted Of g Q a.stamp accepted in
+      draft_is_free (subst (λ (x : Draft). IsSound x.group) (sym (joins by)) (join_is_ready g sound now Q a.stamp is.name is.is_named Of.own refl Of.other refl free.0 free.1).sound)
     where
-      by : (n i : Text) → d.record.instance ≡ Some i → HasInstance s.records.records n i → Tie n d.id → n ≡ d.id
-      by n i is has (ties same) = same
-      by n i is has (differs other apart) =
-          sound.instances n d.id has.kept d.record i (get-insert_other s.records.records d.id d.record n apart ∙ has.is_kept) (get-inserted s.records.records d.id d.record) has.same is
+      draft_is_free : IsSound (draft_in g d now).group → IsInstanceFreeFor g.records d.member.id d.member.record
+      draft_is_free after = λ n i of has. among n i of has (tie n d.member.id)
+        where
+          among : (n i : Text) → d.member.record.instance ≡ Some i → HasInstance g.records n i → Tie n d.member.id → n ≡ d.member.id
+          among n i of has (ties same) = same
+          among n i of has (differs other apart) =
+              after.instances n d.member.id has.kept d.member.record i (get-insert_other g.records d.member.id d.member.record n apart ∙ has.is_kept) (get-inserted g.records d.member.id d.member.record) has.same of
+  free_at (pos (suc n)) above by accepted =
+      let own = beats_accepted (suc n) Of.own Of.other g Q a.stamp accepted in
+      let made = by ∙ ap (λ (o : Option Record). drafted (Beats (suc n)) o Of.other is.name.id Q a.stamp now) own.1 in
+      let same : d.member.id ≡ Q.member = ap (λ (x : DraftedAs). x.id) made ∙ named_own g Q.member is.name own.0 is.is_named own.1 in
+      let found : finite.get g.records d.member.id ≡ Some own.0 = ap (finite.get g.records) same ∙ own_is g.records Q.member own.0 own.1 in
+      λ m i of has. sound.instances m d.member.id has.kept own.0 i has.is_kept found has.same (sym (ap (λ (x : DraftedAs). x.kept.instance) made) ∙ of)
+  free_at (negsuc n) above by accepted = absurd (omega (arith, ints, above))
 
--- a beat keeps its member's instance, which is no other's
-pub beat_is_free : (s : State) → IsSound (group_of s) → (d : Drafted) (r : Record) (q : Heartbeat) (stamp : Stamp) (now : ℕ) → finite.get s.records.records d.id ≡ Some r → d.record ≡ record_of_beat r q stamp now
-    → IsInstanceFreeFor s.records.records d.id d.record
-beat_is_free s sound d r q stamp now there recorded = λ n i is has.
-    sound.instances n d.id has.kept r i has.is_kept there has.same (sym (ap (λ (x : Record). x.instance) recorded) ∙ is)
+  pub free : pos 0 ≤ℤ Q.epoch → verdict_on (kind_of Q.epoch) Of g Q a.stamp ≡ Accepted → IsInstanceFreeFor g.records d.member.id d.member.record
+  free above accepted = free_at Q.epoch above is.drafted accepted

@@ -1,14 +1,17 @@
 -- The checks on the request alone come first, and what they let through meets the others.
-use Rattle.std.proofs.Common.{◌≡◌, ◌≢◌, ℕ, zero, suc, not, nat_le, is_none, Option, Some, None, sym, ℤ, pos, negsuc, Bool, true, false, cond, ◌&&◌, ◌||◌, List, [], ◌∷◌, refl, ap, ◌∙◌, int_le}
+use Rattle.std.proofs.Common.{◌≡◌, ◌≢◌, ℕ, zero, suc, is_none, Err, subst, true≢false, Option, Some, None, sym, ℤ, pos, negsuc, Bool, true, false, cond, ◌&&◌, ◌||◌, List, [], ◌∷◌, refl, ap, ◌∙◌, int_le}
 use Rattle.std.specs.FinMap as finite
 use Rattle.group_types.specs.declared.code.Code.{Code}
 use Rattle.group_types.specs.declared.code.Code.TheVariants as codes
 use Rattle.group_types.specs.declared.stamp.Stamp.{Stamp}
-use Rattle.group_types.specs.Limits.{MOST_MEMBERS}
 use Rattle.group_types.specs.Request.{Heartbeat, Kind, Joins, Beats, Leaves, GoesAway, IsNone, kind_of, is_empty, is_invalid, is_invalid_as, is_unknown, is_unsupported}
 use Rattle.group_types.specs.Group.{Group, Record}
-use Rattle.group_types.specs.Checks.{Check, Member, Verdict, Accepted, Refused, Overtaken, Sender, checks_of, first_of, is_another, is_away, is_of_past, is_overtaken, is_too_many, is_unreleased, verdict_on}
-use Rattle.group_core.specs.Checks.{verdict_on_place, verdict_on_request}
+use Rattle.group_types.specs.Checks.{Check, Member, Verdict, Accepted, Refused, Overtaken, Sender, are_granted, checks_of, first_of, is_fenced, is_of_past, is_overtaken, is_too_many, is_unreleased, verdict_on}
+use Rattle.group_types.specs.Members.{members_of}
+use Rattle.group_epochs.specs.declared.refusal.Refusal.{Refusal}
+use Rattle.group_epochs.specs.declared.refusal.Refusal.TheVariants as refusals
+use Rattle.group_epochs.specs.Checks.{verdict_of, verdict_on_join, verdict_on_member, verdict_on_own}
+use Rattle.group_core.specs.Checks.{and_then, verdict_on_epoch, verdict_on_request}
 
 -- ---- refused by the request
 
@@ -53,36 +56,67 @@ passes true b is = absurd (cc)
 passes false true is = absurd (cc)
 passes false false is = (refl, refl)
 
-pub join_checks : (q : Heartbeat) → verdict_on_request q ≡ Accepted → (sender : Sender) (g : Group) (stamp : Stamp)
-    → verdict_on Joins sender g q stamp ≡ cond (is_overtaken stamp sender.own || is_of_past g.past q.member stamp) Overtaken (verdict_on_place sender (finite.len g.records))
-join_checks q valid sender g stamp =
+and_accepted : (v : Verdict) → v ≡ and_then v Accepted
+and_accepted Accepted = refl
+and_accepted (Refused code) = refl
+and_accepted Overtaken = refl
+
+own_then : (a b : Bool) (later : Verdict)
+    → cond a (Refused codes.UnknownMemberId) (cond b Overtaken later) ≡ and_then (cond a (Refused codes.UnknownMemberId) (cond b Overtaken Accepted)) later
+own_then true b later = refl
+own_then false true later = refl
+own_then false false later = refl
+
+-- those on the records, and then that of the member epoch
+pub verdict_by : (epoch : ℤ) (q : Heartbeat) → q.epoch ≡ epoch → verdict_on_request q ≡ Accepted → (sender : Sender) (g : Group) (stamp : Stamp)
+    → verdict_on (kind_of epoch) sender g q stamp ≡ and_then (verdict_on_member (kind_of epoch) sender (members_of g) q stamp) (verdict_on_epoch (kind_of epoch) sender g.grants q)
+verdict_by (pos zero) q at valid sender g stamp =
     let by = passes (is_invalid q) (is_unsupported q) valid in
-    λ i. first_of
+    (λ i. first_of
     ((by.0 i, Refused codes.InvalidRequest)
     ∷ (by.1 i, Refused codes.UnsupportedAssignor)
     ∷ (is_overtaken stamp sender.own || is_of_past g.past q.member stamp, Overtaken)
     ∷ (is_unreleased sender.own sender.other, Refused codes.UnreleasedInstanceId)
     ∷ (is_too_many sender.own sender.other (finite.len g.records), Refused codes.GroupMaxSizeReached)
-    ∷ [])
+    ∷ []))
+    ∙ and_accepted (verdict_on_join sender (members_of g) q.member stamp)
+verdict_by (pos (suc n)) q at valid sender g stamp =
+    let by = passes (is_invalid q) (is_unsupported q) valid in
+    let fenced : Bool = is_fenced (suc n) sender.own (are_granted g.grants q.member q.owned) in
+    (λ i. first_of
+    ((by.0 i, Refused codes.InvalidRequest)
+    ∷ (by.1 i, Refused codes.UnsupportedAssignor)
+    ∷ (is_none sender.own, Refused codes.UnknownMemberId)
+    ∷ (is_overtaken stamp sender.own, Overtaken)
+    ∷ (fenced, Refused codes.FencedMemberEpoch)
+    ∷ []))
+    ∙ own_then (is_none sender.own) (is_overtaken stamp sender.own) (cond fenced (Refused codes.FencedMemberEpoch) Accepted)
+verdict_by (negsuc zero) q at valid sender g stamp =
+    ap (λ b. cond b (Refused codes.InvalidRequest) (verdict_on_own Leaves sender.own q.instance stamp)) (passes (is_invalid q) (is_unsupported q) valid).0
+    ∙ and_accepted (verdict_on_own Leaves sender.own q.instance stamp)
+verdict_by (negsuc (suc zero)) q at valid sender g stamp =
+    ap (λ b. cond b (Refused codes.InvalidRequest) (verdict_on_own GoesAway sender.own q.instance stamp)) (passes (is_invalid q) (is_unsupported q) valid).0
+    ∙ and_accepted (verdict_on_own GoesAway sender.own q.instance stamp)
+verdict_by (negsuc (suc (suc n))) q at valid sender g stamp =
+    absurd (true≢false (sym (ap (λ e. is_empty q.group || is_invalid_as q (kind_of e)) at ∙ or_true (is_empty q.group)) ∙ (passes (is_invalid q) (is_unsupported q) valid).0))
 
-pub going_checks : (q : Heartbeat) → verdict_on_request q ≡ Accepted → (sender : Sender) (g : Group) (stamp : Stamp)
-    → verdict_on GoesAway sender g q stamp ≡ cond (is_another sender.own q.instance) (Refused codes.UnknownMemberId) (cond (is_overtaken stamp sender.own) Overtaken Accepted)
-going_checks q valid sender g stamp =
-    ap (λ b. cond b (Refused codes.InvalidRequest) (cond (is_another sender.own q.instance) (Refused codes.UnknownMemberId) (cond (is_overtaken stamp sender.own) Overtaken Accepted)))
-    (passes (is_invalid q) (is_unsupported q) valid).0
+-- a refusal stands, whatever comes later
+pub stops : (refusal : Refusal) (v later : Verdict) → verdict_of {X = Unit {0}} (Err refusal) ≡ v → verdict_of {X = Unit {0}} (Err refusal) ≡ and_then v later
+stops (refusals.Refused code) v later is = subst (λ x. Refused code ≡ and_then x later) is refl
+stops refusals.Overtaken v later is = subst (λ x. Overtaken ≡ and_then x later) is refl
 
--- a join beside another member that has its instance
-pub beside_other : (own : Option Record) (other : Member) (members : ℕ)
-    → verdict_on_place (record { own = own; other = Some other }) members ≡ cond (is_none own && is_away other.kept.epoch) Accepted (Refused codes.UnreleasedInstanceId)
-beside_other (Some r) other members = refl
-beside_other None other members =
-    elim (is_away other.kept.epoch) as (λ b. cond (not b) (Refused codes.UnreleasedInstanceId) Accepted ≡ cond b Accepted (Refused codes.UnreleasedInstanceId)) [ true ↦ refl | false ↦ refl ]
+-- ---- an accepted beat
 
--- and where there is no such member
-pub alone : (own : Option Record) (members : ℕ)
-    → verdict_on_place (record { own = own; other = None }) members ≡ cond (is_none own && nat_le MOST_MEMBERS members) (Refused codes.GroupMaxSizeReached) Accepted
-alone (Some r) members = refl
-alone None members = refl
+unknown_stops : (a b : Bool) (rest : Verdict) → cond a (Refused codes.InvalidRequest) (cond b (Refused codes.UnsupportedAssignor) (cond true (Refused codes.UnknownMemberId) rest)) ≡ Accepted → ⊥
+unknown_stops true b rest is = cc
+unknown_stops false true rest is = cc
+unknown_stops false false rest is = cc
+
+-- its member has a record
+pub beats_accepted : (n : ℕ) (own : Option Record) (other : Option Member) (g : Group) (q : Heartbeat) (stamp : Stamp)
+    → verdict_on (Beats n) (record { own = own; other = other }) g q stamp ≡ Accepted → (r : Record) × (own ≡ Some r)
+beats_accepted n None other g q stamp is = absurd (unknown_stops (is_invalid q) (is_unsupported q) Accepted is)
+beats_accepted n (Some r) other g q stamp is = (r, refl)
 
 -- ---- an accepted join
 

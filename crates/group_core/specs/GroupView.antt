@@ -1,5 +1,5 @@
 -- A group's fields as its state.
-use Rattle.std.specs.Prelude.{suc}
+use Rattle.std.specs.Prelude.{◌≡◌, ℕ, suc, List, Result, OnErr}
 use Rattle.group_types.specs.Group.{Group}
 use Rattle.group_types.specs.Sound.{IsSound}
 use Rattle.group_reconcile.specs.Holders.{pairs}
@@ -27,6 +27,12 @@ abbrev pub group_view : Inside → Group
 group_view a = group_of a.state
 
 -- what holds of every group
-pub record IsGroup (a : Inside) : Type 0 where
-  pub sound : IsSound (group_of a.state)
-  pub marked : AreMarked (group_of a.state) a.state.records.marks
+pub record IsGroup (s : State) : Type 0 where
+  pub sound : IsSound (group_of s)
+  pub marked : AreMarked (group_of s) s.records.marks
+
+-- what each stage of a heartbeat keeps: the bytes that are there, that marked members are steady, and the group where memory is short
+pub record Keeps {X E : Type 0} (result : Result X E) (old new : State) (before after : List ℕ) : Type 0 where
+  pub out : after ≡ before
+  pub marks : AreMarked (group_of new) new.records.marks
+  pub err : OnErr result (group_of new ≡ group_of old)

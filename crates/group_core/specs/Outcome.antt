@@ -12,7 +12,7 @@ use Rattle.group_types.specs.Renewal.{view_for}
 use Rattle.group_types.specs.HeartbeatStep as machine
 use Rattle.group_core.specs.declared.outcome.Reply.{Reply}
 use Rattle.group_core.specs.declared.outcome.Outcome.{Outcome}
-use Rattle.group_core.specs.declared.outcome.Outcome.TheVariants.{Replied, Closes}
+use Rattle.group_core.specs.declared.outcome.Outcome.TheVariants.{Replied, Overtaken}
 
 -- a reply, field by field
 abbrev pub reply_of : Reply → machine.Reply
@@ -22,7 +22,7 @@ reply_of r =
 -- a reply, or that the connection is closed
 abbrev pub answer_of : Outcome → machine.Answer
 answer_of (Replied r) = machine.Replied (reply_of r)
-answer_of Closes = machine.Closes
+answer_of Overtaken = machine.Closes
 
 -- KIP-848, "ConsumerGroupHeartbeat API": a reply assigns no more partitions than an image may have
 abbrev pub HasFewPartitions : machine.Answer → Type 0
@@ -54,3 +54,11 @@ IsCurrent g image = g.view ≡ view_for image g.records
 abbrev pub IsCurrentAfter : machine.Answer → Group → Topics → Type 0
 IsCurrentAfter (machine.Replied r) g image = r.code ≡ NoError → pos 0 ≤ℤ r.epoch → IsCurrent g image
 IsCurrentAfter machine.Closes g image = Unit {0}
+
+-- ---- every answer
+
+-- what holds of an answer and the group after it, where there is room for so many bytes more
+pub record IsResponse (answer : machine.Answer) (g : Group) (image : Topics) (free : ℕ) : Type 0 where
+  pub few : HasFewPartitions answer
+  pub current : IsCurrentAfter answer g image
+  pub room : HasRoomFor answer free

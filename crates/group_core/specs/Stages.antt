@@ -1,53 +1,47 @@
 -- The stages of a join or a beat that is accepted: what each makes of the state.
-use Rattle.std.specs.Prelude.{◌≡◌, ◌≢◌, ℕ, suc, Bool, true, false, [], Option, Some, None, MatchOption, IfSome, unwrap_or, option_map, IsTrue}
+use Rattle.std.specs.Prelude.{◌≡◌, ◌≤◌, ◌||◌, ℕ, suc, Bool, true, false, Option, Some, None, MatchOption, IfSome, unwrap_or, option_map}
 use Rattle.std.specs.FinMap as finite
 use Rattle.group_types.specs.declared.partition.Partition.{Partition}
 use Rattle.group_types.specs.Text.{Text}
 use Rattle.group_types.specs.Topics.{Topics}
 use Rattle.group_types.specs.Owners.{Spread}
 use Rattle.group_types.specs.Sound.{IsOfView}
-use Rattle.group_types.specs.Sets.{nothing, common}
+use Rattle.group_types.specs.Sets.{nothing, common, size}
 use Rattle.group_types.specs.Partition.{Partitions}
 use Rattle.group_types.specs.Settle.{grants_after, may_settle, settled_record}
 use Rattle.group_types.specs.Group.{Group, Record, Records, Grants, held, wanted}
 use Rattle.group_target.specs.TargetState.{TargetState}
 use Rattle.group_reconcile.specs.Holders.{pairs}
 use Rattle.group_types.specs.declared.stamp.Stamp.{Stamp}
-use Rattle.group_types.specs.Request.{Heartbeat}
+use Rattle.group_types.specs.Request.{Heartbeat, is_full, kind_of, reported}
 use Rattle.group_types.specs.Members.{members_of, with_members, with_record}
-use Rattle.group_types.specs.HeartbeatStep.{Draft, Heir, draft_of, draft_of_join, handed_over, sent_after, verdict_on_change}
+use Rattle.group_types.specs.HeartbeatStep.{Draft, Heir, draft_of, assignment_of, handed_over, is_news, sent_after, verdict_on_change}
 use Rattle.group_types.specs.declared.code.Code.TheVariants.{CoordinatorNotAvailable}
 use Rattle.group_types.specs.Renewal.{IsChange, IsTarget, view_for}
-use Rattle.group_types.specs.Checks.{Verdict, Accepted, Refused, Overtaken, sender_of}
+use Rattle.group_types.specs.Checks.{Accepted, Refused, sender_of}
 use Rattle.group_types.specs.Join.{IsNamed, Name}
-use Rattle.group_epochs.specs.Records.{CanJoin, CanReplace, IsInstanceFreeFor, IsMember, RecordsState}
-use Rattle.group_core.specs.declared.verdict.Verdict.{Verdict as Judged}
-use Rattle.group_core.specs.declared.verdict.Verdict.TheVariants as judged
+use Rattle.group_epochs.specs.Records.{IsInstanceFreeFor}
+use Rattle.group_epochs.specs.Drafts.{CanStore, drafted, drafted_in, placed_heir}
 use Rattle.group_core.specs.declared.state.State.{State}
 use Rattle.group_core.specs.declared.draft.Draft.{Draft as Drafted}
 use Rattle.group_core.specs.declared.naming.Name.{Name as Given}
-use Rattle.group_core.specs.declared.place.Place.{Place}
-use Rattle.group_core.specs.declared.place.Place.TheVariants.{New, Kept, Handed}
-use Rattle.group_core.specs.declared.renewal.Renewal.{Renewal}
+use Rattle.group_core.specs.declared.change.Renewal.{Renewal}
+use Rattle.group_core.specs.declared.plan.Plan.{Plan}
+use Rattle.group_core.specs.declared.place.Successor.{Successor}
+use Rattle.group_types.specs.Limits.{MOST_PARTITIONS}
 use Rattle.group_core.specs.GroupView.{group_of}
-
--- a verdict of the code as the machine's
-abbrev pub verdict_of : Judged → Verdict
-verdict_of judged.Accepted = Accepted
-verdict_of (judged.Refused code) = Refused code
-verdict_of judged.Overtaken = Overtaken
 
 -- a name of the code as the machine's
 abbrev pub name_in : Option Given → Option Name
 name_in name = option_map (λ n. record { id = n.id; next_serial = suc n.ids_made }) name
 
+-- who takes over a draft's record, if anybody does
+abbrev pub heir_id : Drafted → Option Text
+heir_id d = placed_heir d.member.place
+
 -- the id of the member whose heartbeat it is: the heir's at a take-over
 abbrev pub told_id : Drafted → Text
-told_id d = unwrap_or d.heir d.id
-
--- the name that a draft has
-abbrev pub name_of : Drafted → Name
-name_of d = record { id = told_id d; next_serial = suc d.ids_made }
+told_id d = unwrap_or (heir_id d) d.member.id
 
 -- who takes over a record, with the record's stamp
 abbrev pub heir_of : Option Record → Option Text → Option Heir
@@ -55,30 +49,22 @@ heir_of None heir = None
 heir_of (Some r) heir = option_map (λ m. record { id = m; last = r.stamp }) heir
 
 -- the draft as the machine's, at a moment: where its id has a record it has it in place of that
-abbrev pub draft_in : State → Drafted → ℕ → Draft
-draft_in s d now =
-    let before = finite.get s.records.records d.id in
-    draft_of (record (group_of s) { serial = suc d.ids_made }) now d.id before d.record (heir_of before d.heir)
+abbrev pub draft_in : Group → Drafted → ℕ → Draft
+draft_in g d now =
+    let before = finite.get g.records d.member.id in
+    draft_of (record g { serial = suc d.ids_made }) now d.member.id before d.member.record (heir_of before (heir_id d))
 
--- who takes over a member's record has none, and its id isn't empty
-pub record IsHeirOf (records : Records) (old heir : Text) : Type 0 where
-  pub there : IsTrue (finite.contains_key records old)
-  pub absent : finite.get records heir ≡ None
-  pub named : heir ≢ []
-
--- a draft that can be stored: it has an id, its instance is no other member's, and who takes over may do so
+-- a draft for which there is room, and whose instance is no other member's
 pub record IsFit (s : State) (d : Drafted) : Type 0 where
-  pub named : d.id ≢ []
-  pub instance : IsInstanceFreeFor s.records.records d.id d.record
-  pub heir : IfSome d.heir (IsHeirOf s.records.records d.id)
+  pub room : CanStore s.records d.member.id d.member.record d.member.place
+  pub instance : IsInstanceFreeFor s.records.records d.member.id d.member.record
 
--- the draft of a join, at a moment
-pub record IsDraftOfJoin (s : State) (q : Heartbeat) (stamp : Stamp) (now : ℕ) (d : Drafted) : Type 0 where
-  pub named : IsNamed (group_of s) q.member (Some (name_of d))
-  pub same : draft_in s d now
-      ≡ draft_of_join (record (group_of s) { serial = suc d.ids_made }) now (told_id d)
-      (sender_of s.records.records q).own (sender_of s.records.records q).other q stamp
-  pub heir : IfSome d.heir (IsHeirOf s.records.records d.id)
+-- the draft of a join or a beat, at a moment: it has a name, and the records drafted it under that
+pub record IsDraft (g : Group) (q : Heartbeat) (stamp : Stamp) (now : ℕ) (d : Drafted) : Type 0 where
+  pub name : Name
+  pub is_named : IsNamed g q.member (Some name)
+  pub serial : name.next_serial ≡ suc d.ids_made
+  pub drafted : drafted_in d.member ≡ drafted (kind_of q.epoch) (sender_of g.records q).own (sender_of g.records q).other name.id q stamp now
 
 -- the group epoch after a step that is a change, or is none
 abbrev pub epoch_if : Bool → ℕ → ℕ
@@ -93,7 +79,7 @@ AreOfView owners view = (p : Partition) (m : Text) → finite.get owners p ≡ S
 abbrev pub renewed_by : State → Drafted → ℕ → Renewal → Group
 renewed_by s d now r =
     let target = unwrap_or r.target s.target in
-    record (draft_in s d now).group {
+    record (draft_in (group_of s) d now).group {
       epoch = r.epoch;
       view = r.view;
       target = target.owners;
@@ -104,12 +90,12 @@ renewed_by s d now r =
 
 -- the records with the draft's
 abbrev pub records_with : State → Drafted → Records
-records_with s d = finite.insert s.records.records d.id d.record
+records_with s d = finite.insert s.records.records d.member.id d.member.record
 
 -- the step is a change, or none, and the last check lets it
 pub record IsRenewalOf (s : State) (d : Drafted) (image : Topics) (r : Renewal) : Type 0 where
   pub change : Bool
-  pub is_change : IsChange change (finite.get s.records.records d.id) d.record s.view r.view
+  pub is_change : IsChange change (finite.get s.records.records d.member.id) d.member.record s.view r.view
   pub rises : verdict_on_change change s.epoch ≡ Accepted
   pub epoch : r.epoch ≡ epoch_if change s.epoch
   pub view : r.view ≡ view_for image (records_with s d)
@@ -120,7 +106,7 @@ pub record IsRenewalOf (s : State) (d : Drafted) (image : Topics) (r : Renewal) 
 -- the step is a change, and the last check refuses it
 pub record CannotRise (s : State) (d : Drafted) (image : Topics) : Type 0 where
   pub change : Bool
-  pub is_change : IsChange change (finite.get s.records.records d.id) d.record s.view (view_for image (records_with s d))
+  pub is_change : IsChange change (finite.get s.records.records d.member.id) d.member.record s.view (view_for image (records_with s d))
   pub stuck : verdict_on_change change s.epoch ≡ Refused CoordinatorNotAvailable
 
 -- ---- the settling
@@ -131,25 +117,25 @@ target_then s r = unwrap_or r.target s.target
 
 -- the member's part of it
 abbrev pub part_of : State → Drafted → Renewal → Partitions
-part_of s d r = wanted (target_then s r).owners d.id
+part_of s d r = wanted (target_then s r).owners d.member.id
 
 -- whether the member may move on to it
 abbrev pub moves : State → Drafted → Renewal → Option Partitions → Bool
-moves s d r owned = may_settle (pairs s.grants) d.id (part_of s d r) owned
+moves s d r owned = may_settle (pairs s.grants) d.member.id (part_of s d r) owned
 
 -- the record, where it moves or does not
 abbrev pub record_after : State → Drafted → Renewal → Bool → ℕ → Record
-record_after s d r moves now = settled_record moves d.record (target_then s r).epoch now
+record_after s d r moves now = settled_record moves d.member.record (target_then s r).epoch now
 
 abbrev pub record_then : State → Drafted → Renewal → Option Partitions → ℕ → Record
 record_then s d r owned now = record_after s d r (moves s d r owned) now
 
 abbrev pub grants_then : State → Drafted → Renewal → Option Partitions → Grants
-grants_then s d r owned = grants_after (moves s d r owned) (pairs s.grants) d.id (part_of s d r)
+grants_then s d r owned = grants_after (moves s d r owned) (pairs s.grants) d.member.id (part_of s d r)
 
 -- what the member is shown
 abbrev pub shown_then : State → Drafted → Renewal → Option Partitions → Partitions
-shown_then s d r owned = common (held (grants_then s d r owned) d.id) (part_of s d r)
+shown_then s d r owned = common (held (grants_then s d r owned) d.member.id) (part_of s d r)
 
 -- ---- the end: the record is stored
 
@@ -172,29 +158,32 @@ carried s d now r =
 
 -- the heir of a draft
 abbrev pub heir_in : State → Drafted → Option Heir
-heir_in s d = heir_of (finite.get s.records.records d.id) d.heir
+heir_in s d = heir_of (finite.get s.records.records d.member.id) (heir_id d)
 
 -- the group once the member is settled and was sent a set, or none
 abbrev pub group_then : State → Drafted → ℕ → Renewal → Option Partitions → Option Partitions → Group
 group_then s d now r owned sent =
-    stored_in (record (carried s d now r) { grants = grants_then s d r owned }) d.id (sent_after (record_then s d r owned now) sent) (heir_in s d)
-
--- ---- what storing it needs of memory
-
--- the heir for which there is room, if any
-abbrev pub placed_heir : Place → Option Text
-placed_heir (New n) = None
-placed_heir (Kept names) = None
-placed_heir (Handed h) = Some h.member.id
-
--- a member's record can be stored without memory: as a new one, in place of the former one, or handed over
-abbrev pub CanStore : RecordsState → Text → Record → Place → Type 0
-CanStore s m r (New n) = (n.id ≡ m) × (finite.get s.records m ≡ None) × CanJoin s n r
-CanStore s m r (Kept names) = IsMember s m × CanReplace s m r names
-CanStore s m r (Handed h) =
-    IsHeirOf s.records m h.member.id × CanJoin s h.member r × (h.in_target ≡ h.member.id) × (h.in_grants ≡ h.member.id)
+    stored_in (record (carried s d now r) { grants = grants_then s d r owned }) d.member.id (sent_after (record_then s d r owned now) sent) (heir_in s d)
 
 -- the member owns nothing in the target, and holds nothing
 pub record HasNothing (owners : Spread) (grants : Grants) (m : Text) : Type 0 where
   pub owns : (p : Partition) → ¬ (finite.get owners p ≡ Some m)
   pub holds : held grants m ≡ nothing
+
+-- ---- what is made before it
+
+-- an heir, for the target and the grants
+abbrev pub IsSuccessor : Option Successor → Option Text → Type 0
+IsSuccessor None heir = heir ≡ None
+IsSuccessor (Some s) heir = (heir ≡ Some s.in_target) × (heir ≡ Some s.in_grants)
+
+-- of a draft and its renewal: the id, what is reported, the assignment that is said, if any, and the heir
+pub record IsPlan (s : State) (d : Drafted) (r : Renewal) (q : Heartbeat) (p : Plan) : Type 0 where
+  pub id : p.id ≡ told_id d
+  pub owned : p.owned ≡ reported q
+  pub assignment :
+      let shown = shown_then s d r (reported q) in
+      p.assignment ≡ assignment_of (is_full q || is_news d.member.record.sent shown) shown
+  pub sent : p.sent ≡ p.assignment
+  pub few : IfSome p.assignment (λ set. size set ≤ MOST_PARTITIONS)
+  pub successor : IsSuccessor p.successor (heir_id d)

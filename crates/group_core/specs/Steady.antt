@@ -7,7 +7,7 @@ use Rattle.group_types.specs.Text.{Text}
 use Rattle.group_types.specs.Request.{Heartbeat}
 use Rattle.group_types.specs.Group.{Record, Group, held, wanted}
 use Rattle.group_types.specs.Checks.{Accepted}
-use Rattle.group_epochs.specs.Records.{GivesNothing, Marks, RecordsState, beaten}
+use Rattle.group_epochs.specs.Records.{GivesNothing, Marks, beaten}
 use Rattle.group_core.specs.Checks.{verdict_on_request}
 use Rattle.group_core.specs.declared.state.State.{State}
 
@@ -36,10 +36,6 @@ pub record IsSteadyBeat (s : State) (q : Heartbeat) : Type 0 where
 -- the group after such a beat
 abbrev pub beaten_by : Group → Text → Record → Stamp → ℕ → Group
 beaten_by g m r stamp now = record g { clock = now; records = finite.insert g.records m (beaten r stamp now) }
-
--- every mark was there before, and the member has none where it had a record
-abbrev pub KeepsMarks : RecordsState → RecordsState → Text → Type 0
-KeepsMarks old new m = (n : Text) (e : ℕ) → finite.get new.marks n ≡ Some e → (finite.get old.marks n ≡ Some e) × (n ≡ m → finite.get old.records m ≡ None)
 
 -- the member is at the epoch, and isn't asked to give up anything
 pub record IsSettledAt (r : Record) (epoch : ℕ) : Type 0 where

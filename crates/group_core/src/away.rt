@@ -5,9 +5,10 @@ ghost use Rattle.group_types.specs.Group.{Record};
 ghost use Rattle.group_types.specs.Leave.{gone_away};
 ghost use Rattle.group_types.specs.Request.{GOES_AWAY_AT};
 ghost use Rattle.group_types.specs.HeartbeatStep.{Replied, farewell};
+ghost use Rattle.group_types.specs.Topics.{Topics};
 ghost use Rattle.group_epochs.specs.Records.{IsMember};
-ghost use Rattle.group_core.specs.GroupView.{group_of};
-ghost use Rattle.group_core.specs.Outcome.{answer_of, HasRoomFor};
+ghost use Rattle.group_core.specs.GroupView.{Keeps, group_of};
+ghost use Rattle.group_core.specs.Outcome.{answer_of, IsResponse};
 ghost use Rattle.group_core.specs.Steady.{AreMarked};
 
 use crate::outcome::{Outcome, Reply};
@@ -31,10 +32,8 @@ pub fn go_away<'a>(
     ensures answer { IfOk result (λ outcome. answer_of outcome ≡ Replied (farewell member.now GOES_AWAY_AT)) }
     ensures group { OnOk result ((r : Record) × (finite.get state.old.records.records member.now ≡ Some r)
         × (group_of state.new ≡ gone_away (group_of state.old) member.now r stamp moment)) }
-    ensures room { IfOk result (λ outcome. HasRoomFor (answer_of outcome) (vec_capacity out.new - length out.new.items)) }
-    ensures out { out.new.items ≡ out.old.items }
-    ensures marks { AreMarked (group_of state.new) state.new.records.marks }
-    ensures err { OnErr result (group_of state.new ≡ group_of state.old) }
+    ensures response { (image : Topics) → IfOk result (λ outcome. IsResponse (answer_of outcome) (group_of state.new) image (vec_capacity out.new - length out.new.items)) }
+    ensures keeps { Keeps result state.old state.new out.old.items out.new.items }
 {
     make_room(out, member, &None)?;
     let now = state.clock.later(moment);

@@ -7,12 +7,20 @@ ghost use Rattle.group_types.specs.HeartbeatStep.{verdict_on_change};
 ghost use Rattle.group_core.specs.Stages.{CannotRise, IsRenewalOf, epoch_if};
 
 use crate::draft::Draft;
-use crate::renewal::Renewal;
 use crate::state::State;
 use group_target::Target;
 use group_types::{Code, EpochNumber};
 use std::alloc::{AllocError, Global};
 use topic_meta::{Image, View};
+
+/// What a draft makes of the group epoch, the stored view and the target.
+#[derive(Drop)]
+pub struct Renewal {
+    pub epoch: EpochNumber,
+    pub view: View,
+    /// The renewed target, or none where the target stays.
+    pub target: Option<Target>,
+}
 
 /// What a draft makes of the group epoch, the view and the target over an image; none where the epoch can't rise. Fails where
 /// memory is short.
@@ -24,9 +32,12 @@ pub fn renewal_of(
 ) -> Result<Option<Renewal>, AllocError>
     ensures { IfOk result (λ renewal. MatchOption renewal (CannotRise state.now draft.now image.now) (IsRenewalOf state.now draft.now image.now)) }
 {
-    let view = state
-        .records
-        .view_with(alloc, image, draft.id.as_str(), &draft.record)?;
+    let view = state.records.view_with(
+        alloc,
+        image,
+        draft.member.id.as_str(),
+        &draft.member.record,
+    )?;
     let is_change = is_change(state, draft, &view);
     let Some(epoch) = epoch_after(state.epoch, is_change) else {
         return Ok(None);
@@ -42,10 +53,10 @@ pub fn renewal_of(
 /// Whether the draft is a change, where this is the view of the present image: the member is new, asks anew, or the view isn't
 /// the stored one. Takes no memory.
 fn is_change(state: &State, draft: &Draft, view: &View) -> bool
-    ensures { IsChange result (finite.get state.now.records.records draft.now.id) draft.now.record state.now.view view.now }
+    ensures { IsChange result (finite.get state.now.records.records draft.now.member.id) draft.now.member.record state.now.view view.now }
 {
-    match state.records.get(draft.id.as_str()) {
-        Some(former) => !(former.asks_as(&draft.record) && state.view.equals(view)),
+    match state.records.get(draft.member.id.as_str()) {
+        Some(former) => !(former.asks_as(&draft.member.record) && state.view.equals(view)),
         None => true,
     }
 }
@@ -69,12 +80,14 @@ fn renewed_target(
 ) -> Result<Option<Target>, AllocError>
     ensures { IfOk result (λ renewed. MatchOption renewed (epoch ≡ state.now.target.epoch) (λ target.
         (¬ (epoch ≡ state.now.target.epoch)) × (target.epoch ≡ epoch)
-        × IsTarget (finite.insert state.now.records.records draft.now.id draft.now.record) view.now state.now.target.owners target.owners)) }
+        × IsTarget (finite.insert state.now.records.records draft.now.member.id draft.now.member.record) view.now state.now.target.owners target.owners)) }
 {
     if epoch == state.target.epoch() {
         return Ok(None);
     }
-    let subs = state.records.subs_with(alloc, &draft.id, &draft.record)?;
+    let subs = state
+        .records
+        .subs_with(alloc, &draft.member.id, &draft.member.record)?;
     let target = state.target.renew(alloc, &subs, view, epoch)?;
     Ok(Some(target))
 }

@@ -1,20 +1,15 @@
-//! A member before anything comes of its heartbeat.
+//! What a join or a beat makes, before anything is stored.
 ghost use Rattle.std.specs.Prelude.{◌≡◌};
 ghost use Rattle.group_core.specs.Stages.{told_id};
 
-use group_epochs::Record;
+use group_epochs::Draft as MemberDraft;
 use group_types::MemberId;
 
-/// The record that a member has after its heartbeat, and the id that it stands under.
+/// A member's draft, with the serial of the last id that was made, this one's included.
 #[derive(Drop)]
 pub struct Draft {
-    /// At a take-over the id that is taken over.
-    pub id: MemberId,
-    /// The serial of the last id that was made, this one included.
+    pub member: MemberDraft,
     pub ids_made: u64,
-    pub record: Record,
-    /// Who takes over the record, if anybody does.
-    pub heir: Option<MemberId>,
 }
 
 impl Draft {
@@ -22,9 +17,9 @@ impl Draft {
     pub fn told_id(&self) -> &MemberId
         ensures { result.now ≡ told_id self.now }
     {
-        match &self.heir {
+        match self.member.heir() {
             Some(heir) => heir,
-            None => &self.id,
+            None => &self.member.id,
         }
     }
 }

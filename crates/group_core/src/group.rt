@@ -38,7 +38,7 @@ impl Model for Group {
 
     ghost view = { group_view };
 
-    ghost invariant = { IsGroup };
+    ghost invariant = { λ a. IsGroup a.state };
 }
 
 impl Group {
@@ -50,7 +50,7 @@ impl Group {
     ghost use Rattle.group_types.specs.Tick.{removed_by_tick, ticked};
     ghost use Rattle.group_epochs.specs.Request.{commit_of};
     ghost use Rattle.group_core.specs.Commits.{Commits};
-    ghost use Rattle.group_core.specs.Outcome.{answer_of, HasFewPartitions, HasRoomFor, IsCurrent, IsCurrentAfter};
+    ghost use Rattle.group_core.specs.Outcome.{answer_of, IsCurrent, IsResponse};
 
     /// A new group: epoch 0, and no members. The salt is the first half of the ids that it makes. Takes no memory.
     pub fn new(alloc: Global, salt: u64, hasher: RandomState) -> Group
@@ -123,7 +123,7 @@ impl Group {
     }
 
     /// One heartbeat of KIP-848 with its stamp, at a moment, over the node's image. Its member id is one that the wire
-    /// takes. A refusal and `Closes` change nothing. Where it replies there is room for the reply's frame behind the bytes of `out`, which stay. Fails
+    /// takes. A refusal and an overtaken heartbeat change nothing. Where it replies there is room for the reply's frame behind the bytes of `out`, which stay. Fails
     /// where memory is short, and then nothing has changed.
     pub fn heartbeat<'a>(
         &mut self,
@@ -137,9 +137,7 @@ impl Group {
         requires id { length request.now.member_id.now ≤ LONGEST_STRING }
         ensures step { IfOk result (λ outcome. HeartbeatStep self.old
             (arrival_of (heartbeat_request_value request.now) stamp now image.now) (answer_of outcome) self.new) }
-        ensures few { IfOk result (λ outcome. HasFewPartitions (answer_of outcome)) }
-        ensures current { IfOk result (λ outcome. IsCurrentAfter (answer_of outcome) self.new image.now) }
-        ensures room { IfOk result (λ outcome. HasRoomFor (answer_of outcome) (vec_capacity out.new - length out.new.items)) }
+        ensures response { IfOk result (λ outcome. IsResponse (answer_of outcome) self.new image.now (vec_capacity out.new - length out.new.items)) }
         ensures out { out.new.items ≡ out.old.items }
         ensures err { OnErr result (self.new ≡ self.old) }
     {
@@ -162,9 +160,7 @@ impl Group {
         requires current { is_current ≡ true → IsCurrent self.old image.now }
         ensures step { IfOk result (λ outcome. HeartbeatStep self.old
             (arrival_of (heartbeat_request_value request.now) stamp now image.now) (answer_of outcome) self.new) }
-        ensures few { IfOk result (λ outcome. HasFewPartitions (answer_of outcome)) }
-        ensures current { IfOk result (λ outcome. IsCurrentAfter (answer_of outcome) self.new image.now) }
-        ensures room { IfOk result (λ outcome. HasRoomFor (answer_of outcome) (vec_capacity out.new - length out.new.items)) }
+        ensures response { IfOk result (λ outcome. IsResponse (answer_of outcome) self.new image.now (vec_capacity out.new - length out.new.items)) }
         ensures out { out.new.items ≡ out.old.items }
         ensures err { OnErr result (self.new ≡ self.old) }
     {

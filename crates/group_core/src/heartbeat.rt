@@ -7,13 +7,12 @@ ghost use Rattle.group_types.specs.Checks.{Accepted, sender_of, verdict_on};
 ghost use Rattle.group_types.specs.HeartbeatStep.{HeartbeatStep, StepOf};
 ghost use Rattle.kip_msgs.specs.Views.{heartbeat_request_value};
 ghost use Rattle.group_epochs.specs.Request.{arrival_of, heartbeat_of};
-ghost use Rattle.group_core.specs.GroupView.{group_of};
-ghost use Rattle.group_core.specs.Outcome.{answer_of, HasFewPartitions, HasRoomFor, IsCurrent, IsCurrentAfter};
+ghost use Rattle.group_core.specs.GroupView.{IsGroup, Keeps, group_of};
+ghost use Rattle.group_core.specs.Outcome.{answer_of, IsCurrent, IsResponse};
 ghost use Rattle.group_core.specs.Steady.{AreMarked};
 
 use crate::away::go_away;
-use crate::beat::beat;
-use crate::join::join;
+use crate::enter::enter;
 use crate::judge::judge;
 use crate::leave::leave;
 use crate::mark::mark_replied;
@@ -21,7 +20,7 @@ use crate::outcome::Outcome;
 use crate::state::State;
 use crate::steady::{beat_steadily, is_steady_beat};
 use crate::taking::refuse;
-use crate::verdict::Verdict;
+use group_epochs::Refusal;
 use group_types::{Moment, Stamp};
 use kip_msgs::HeartbeatRequest;
 use std::alloc::{AllocError, Global};
@@ -39,18 +38,13 @@ pub fn respond<'a>(
     is_current: bool,
     out: &mut Vec<u8>,
 ) -> Result<Outcome<'a>, AllocError>
-    requires sound { IsSound (group_of state.old) }
-    requires marks { AreMarked (group_of state.old) state.old.records.marks }
+    requires group { IsGroup state.old }
     requires id { length request.now.member_id.now ≤ LONGEST_STRING }
     requires current { is_current ≡ true → IsCurrent (group_of state.old) image.now }
     ensures step { IfOk result (λ outcome. HeartbeatStep (group_of state.old)
         (arrival_of (heartbeat_request_value request.now) stamp moment image.now) (answer_of outcome) (group_of state.new)) }
-    ensures few { IfOk result (λ outcome. HasFewPartitions (answer_of outcome)) }
-    ensures current { IfOk result (λ outcome. IsCurrentAfter (answer_of outcome) (group_of state.new) image.now) }
-    ensures room { IfOk result (λ outcome. HasRoomFor (answer_of outcome) (vec_capacity out.new - length out.new.items)) }
-    ensures out { out.new.items ≡ out.old.items }
-    ensures marks { AreMarked (group_of state.new) state.new.records.marks }
-    ensures err { OnErr result (group_of state.new ≡ group_of state.old) }
+    ensures response { IfOk result (λ outcome. IsResponse (answer_of outcome) (group_of state.new) image.now (vec_capacity out.new - length out.new.items)) }
+    ensures keeps { Keeps result state.old state.new out.old.items out.new.items }
 {
     if is_current && is_steady_beat(state, request) {
         if let Some(outcome) = beat_steadily(state, request, stamp, moment, out)? {
@@ -72,22 +66,17 @@ fn answer<'a>(
     image: &Image,
     out: &mut Vec<u8>,
 ) -> Result<Outcome<'a>, AllocError>
-    requires sound { IsSound (group_of state.old) }
-    requires marks { AreMarked (group_of state.old) state.old.records.marks }
+    requires group { IsGroup state.old }
     requires id { length request.now.member_id.now ≤ LONGEST_STRING }
     ensures step { IfOk result (λ outcome. HeartbeatStep (group_of state.old)
         (arrival_of (heartbeat_request_value request.now) stamp moment image.now) (answer_of outcome) (group_of state.new)) }
-    ensures few { IfOk result (λ outcome. HasFewPartitions (answer_of outcome)) }
-    ensures current { IfOk result (λ outcome. IsCurrentAfter (answer_of outcome) (group_of state.new) image.now) }
-    ensures room { IfOk result (λ outcome. HasRoomFor (answer_of outcome) (vec_capacity out.new - length out.new.items)) }
-    ensures out { out.new.items ≡ out.old.items }
-    ensures marks { AreMarked (group_of state.new) state.new.records.marks }
-    ensures err { OnErr result (group_of state.new ≡ group_of state.old) }
+    ensures response { IfOk result (λ outcome. IsResponse (answer_of outcome) (group_of state.new) image.now (vec_capacity out.new - length out.new.items)) }
+    ensures keeps { Keeps result state.old state.new out.old.items out.new.items }
 {
     match judge(state, request, stamp) {
-        Verdict::Refused(code) => refuse(code, out),
-        Verdict::Overtaken => Ok(Outcome::Closes),
-        Verdict::Accepted => accept(state, alloc, request, stamp, moment, image, out),
+        Ok(()) => accept(state, alloc, request, stamp, moment, image, out),
+        Err(Refusal::Refused(code)) => refuse(code, out),
+        Err(Refusal::Overtaken) => Ok(Outcome::Overtaken),
     }
 }
 
@@ -101,24 +90,18 @@ fn accept<'a>(
     image: &Image,
     out: &mut Vec<u8>,
 ) -> Result<Outcome<'a>, AllocError>
-    requires sound { IsSound (group_of state.old) }
-    requires marks { AreMarked (group_of state.old) state.old.records.marks }
+    requires group { IsGroup state.old }
     requires id { length request.now.member_id.now ≤ LONGEST_STRING }
     requires accepted { let q = heartbeat_of (heartbeat_request_value request.now) in
         verdict_on (kind_of q.epoch) (sender_of state.old.records.records q) (group_of state.old) q stamp ≡ Accepted }
     ensures step { let a = arrival_of (heartbeat_request_value request.now) stamp moment image.now in
         IfOk result (λ outcome. StepOf (kind_of a.heartbeat.epoch) (sender_of state.old.records.records a.heartbeat)
         (group_of state.old) a (answer_of outcome) (group_of state.new)) }
-    ensures few { IfOk result (λ outcome. HasFewPartitions (answer_of outcome)) }
-    ensures current { IfOk result (λ outcome. IsCurrentAfter (answer_of outcome) (group_of state.new) image.now) }
-    ensures room { IfOk result (λ outcome. HasRoomFor (answer_of outcome) (vec_capacity out.new - length out.new.items)) }
-    ensures out { out.new.items ≡ out.old.items }
-    ensures marks { AreMarked (group_of state.new) state.new.records.marks }
-    ensures err { OnErr result (group_of state.new ≡ group_of state.old) }
+    ensures response { IfOk result (λ outcome. IsResponse (answer_of outcome) (group_of state.new) image.now (vec_capacity out.new - length out.new.items)) }
+    ensures keeps { Keeps result state.old state.new out.old.items out.new.items }
 {
     match request.member_epoch {
-        0 => join(state, alloc, request, stamp, moment, image, out),
-        1.. => beat(state, alloc, request, stamp, moment, image, out),
+        0.. => enter(state, alloc, request, stamp, moment, image, out),
         -2 => go_away(state, request.member_id, stamp, moment, out),
         _ => leave(state, request.member_id, stamp, moment, out),
     }

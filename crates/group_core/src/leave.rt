@@ -3,9 +3,10 @@ ghost use Rattle.std.specs.Prelude.{◌≡◌, ◌-◌, IfOk, OnErr, OnOk, lengt
 ghost use Rattle.group_types.specs.Leave.{left, risen};
 ghost use Rattle.group_types.specs.Request.{LEAVES_AT};
 ghost use Rattle.group_types.specs.HeartbeatStep.{Replied, farewell};
+ghost use Rattle.group_types.specs.Topics.{Topics};
 ghost use Rattle.group_epochs.specs.Records.{IsMember};
-ghost use Rattle.group_core.specs.GroupView.{group_of};
-ghost use Rattle.group_core.specs.Outcome.{answer_of, HasRoomFor};
+ghost use Rattle.group_core.specs.GroupView.{Keeps, group_of};
+ghost use Rattle.group_core.specs.Outcome.{answer_of, IsResponse};
 ghost use Rattle.group_core.specs.Steady.{AreMarked};
 
 use crate::outcome::{Outcome, Reply};
@@ -28,10 +29,8 @@ pub fn leave<'a>(
     requires there { IsMember state.old.records member.now }
     ensures answer { IfOk result (λ outcome. answer_of outcome ≡ Replied (farewell member.now LEAVES_AT)) }
     ensures group { OnOk result (group_of state.new ≡ left (group_of state.old) member.now stamp moment) }
-    ensures room { IfOk result (λ outcome. HasRoomFor (answer_of outcome) (vec_capacity out.new - length out.new.items)) }
-    ensures out { out.new.items ≡ out.old.items }
-    ensures marks { AreMarked (group_of state.new) state.new.records.marks }
-    ensures err { OnErr result (group_of state.new ≡ group_of state.old) }
+    ensures response { (image : Topics) → IfOk result (λ outcome. IsResponse (answer_of outcome) (group_of state.new) image (vec_capacity out.new - length out.new.items)) }
+    ensures keeps { Keeps result state.old state.new out.old.items out.new.items }
 {
     make_room(out, member, &None)?;
     state.records.leave(member, stamp);

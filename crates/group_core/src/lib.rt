@@ -4,34 +4,30 @@
 //! (KIP-848), or says that memory is short and changes nothing.
 //! [`Group::commit`] and [`Group::tick`] likewise.
 //!
-//! A heartbeat goes through stages, a file each: the checks (`checks`, `judge`, `others`), the draft of its record (`naming`), the
-//! change and the renewal (`change`), what is told (`plan`), what else needs memory (`ready`), and what is stored (`carry`, and
-//! `place`, which ends a take-over). A beat that gives nothing, of a member that has nothing to be told, skips them (`steady`,
+//! A heartbeat goes through stages, a file each: the checks (`checks`, `judge`), the draft of its record (`naming`), the change and the
+//! renewal (`change`), what is told and what else needs memory (`plan`), the settling (`settle`), and what is stored (`carry`, and `place`,
+//! which ends a take-over). A beat that gives nothing, of a member that has nothing to be told, skips them (`steady`,
 //! `mark`). Start from [`Group::new`].
 #![tactic(auto)]
 
 mod away;
-mod beat;
 mod carry;
 mod change;
 mod checks;
 mod commit;
 mod draft;
+mod enter;
 mod group;
 mod heartbeat;
-mod join;
 mod judge;
 mod laws;
 mod leave;
 mod listing;
 mod mark;
 mod naming;
-mod others;
 mod outcome;
 mod place;
 mod plan;
-mod ready;
-mod renewal;
 mod reply_id;
 mod reported;
 mod settle;
@@ -40,7 +36,6 @@ mod state;
 mod steady;
 mod taking;
 mod tick;
-mod verdict;
 
 pub use group::Group;
 pub use group_epochs::Records;

@@ -83,6 +83,6 @@ impl<'a> Reply<'a> {
 pub enum Outcome<'a> {
     /// It is answered.
     Replied(Reply<'a>),
-    /// It is not answered, and its connection is to be closed.
-    Closes,
+    /// A later heartbeat of the member was accepted before: it is not answered, and its connection is to be closed.
+    Overtaken,
 }

@@ -6,40 +6,33 @@ ghost use Rattle.group_types.specs.Request.{is_full, reported};
 ghost use Rattle.group_types.specs.HeartbeatStep.{assignment_of, is_news};
 ghost use Rattle.group_types.specs.Sets.{size};
 ghost use Rattle.kip_msgs.specs.Views.{heartbeat_request_value};
+ghost use Rattle.group_epochs.specs.Drafts.{placed_heir};
 ghost use Rattle.group_epochs.specs.Request.{heartbeat_of};
-ghost use Rattle.group_core.specs.Stages.{AreOfView, shown_then, target_then, told_id};
+ghost use Rattle.group_core.specs.Stages.{AreOfView, IsPlan, IsSuccessor, shown_then, target_then};
 
+use crate::change::Renewal;
 use crate::draft::Draft;
-use crate::renewal::Renewal;
+use crate::place::Successor;
 use crate::reply_id::ReplyId;
 use crate::reported::reported;
 use crate::shown::Shown;
 use crate::state::State;
-use group_epochs::Record;
+use group_epochs::{Draft as MemberDraft, Record};
 use group_target::Target;
 use group_types::{MemberId, PartSet};
 use kip_msgs::HeartbeatRequest;
 use std::alloc::{AllocError, Global};
 
-/// What is made for a reply before anything is stored: what is told, and the id.
+/// What is made for a draft that was renewed, before anything is stored.
 #[derive(Drop)]
 pub struct Plan<'a> {
-    pub told: Told<'a>,
     pub id: ReplyId<'a>,
-}
-
-/// The partitions that are reported, and what is said of the member's.
-#[derive(Drop)]
-pub struct Told<'a> {
+    /// The partitions that are reported.
     pub owned: Option<PartSet>,
-    pub said: Said<'a>,
-}
-
-/// The assignment of a reply, where one is said, and a copy of it to be kept as what was sent.
-#[derive(Drop)]
-pub struct Said<'a> {
+    /// The assignment of the reply, where one is said, and a copy of it to be kept as what was sent.
     pub assignment: Option<Shown<'a>>,
     pub sent: Option<PartSet>,
+    pub successor: Option<Successor>,
 }
 
 /// Plans the reply to a member whose draft was renewed; there is room for it in `out` then. Fails where memory is short.
@@ -53,26 +46,27 @@ pub fn plan_of<'a>(
 ) -> Result<Plan<'a>, AllocError>
     requires epoch { pos 0 ≤ℤ request.now.member_epoch }
     requires owned { AreOfView (target_then state.now renewal.now).owners renewal.now.view }
-    ensures owned { IfOk result (λ plan. plan.told.owned ≡ reported (heartbeat_of (heartbeat_request_value request.now))) }
-    ensures id { IfOk result (λ plan. plan.id ≡ told_id draft.now) }
-    ensures assignment { let q = heartbeat_of (heartbeat_request_value request.now) in
-        let shown = shown_then state.now draft.now renewal.now (reported q) in
-        IfOk result (λ plan. plan.told.said.assignment ≡ assignment_of (is_full q || is_news draft.now.record.sent shown) shown) }
-    ensures sent { IfOk result (λ plan. plan.told.said.sent ≡ plan.told.said.assignment) }
-    ensures few { IfOk result (λ plan. IfSome plan.told.said.assignment (λ set. size set ≤ limits.MOST_PARTITIONS)) }
-    ensures room { IfOk result (λ plan. 100 + length plan.id + 30 * option_map_or size plan.told.said.assignment 0
+    ensures plan { let q = heartbeat_of (heartbeat_request_value request.now) in IfOk result (IsPlan state.now draft.now renewal.now q) }
+    ensures room { IfOk result (λ plan. 100 + length plan.id + 30 * option_map_or size plan.assignment 0
         ≤ vec_capacity out.new - length out.new.items) }
     ensures out { out.new.items ≡ out.old.items }
 {
-    let told = told_of(state, alloc, draft, renewal, request)?;
-    let id = id_with_room(
-        alloc,
-        draft.told_id(),
-        request.member_id,
-        &told.said.assignment,
-        out,
-    )?;
-    Ok(Plan { told, id })
+    // so that the view is known to have no more partitions than an image
+    let _ = renewal.view.topics();
+    let owned = reported(alloc, request)?;
+    let shown = shown_of(state, alloc, draft, renewal, &owned)?;
+    let is_said = is_said(request, &draft.member.record, &shown);
+    let said = said_of(alloc, shown, is_said)?;
+    let id = id_with_room(alloc, draft.told_id(), request.member_id, &said.0, out)?;
+    let successor = successor_of(alloc, &draft.member)?;
+    let (assignment, sent) = said;
+    Ok(Plan {
+        id,
+        owned,
+        assignment,
+        sent,
+        successor,
+    })
 }
 
 /// The id in a reply, and room in `out` for a reply with it and this assignment. Fails where memory is short.
@@ -93,32 +87,6 @@ fn id_with_room<'a>(
     Ok(id)
 }
 
-/// What a member whose draft was renewed is told. Fails where memory is short.
-fn told_of<'a>(
-    state: &State,
-    alloc: Global,
-    draft: &Draft,
-    renewal: &Renewal,
-    request: &HeartbeatRequest<'_>,
-) -> Result<Told<'a>, AllocError>
-    requires epoch { pos 0 ≤ℤ request.now.member_epoch }
-    requires owned { AreOfView (target_then state.now renewal.now).owners renewal.now.view }
-    ensures owned { IfOk result (λ told. told.owned ≡ reported (heartbeat_of (heartbeat_request_value request.now))) }
-    ensures assignment { let q = heartbeat_of (heartbeat_request_value request.now) in
-        let shown = shown_then state.now draft.now renewal.now (reported q) in
-        IfOk result (λ told. told.said.assignment ≡ assignment_of (is_full q || is_news draft.now.record.sent shown) shown) }
-    ensures sent { IfOk result (λ told. told.said.sent ≡ told.said.assignment) }
-    ensures few { IfOk result (λ told. IfSome told.said.assignment (λ set. size set ≤ limits.MOST_PARTITIONS)) }
-{
-    // so that the view is known to have no more partitions than an image
-    let _ = renewal.view.topics();
-    let owned = reported(alloc, request)?;
-    let shown = shown_of(state, alloc, draft, renewal, &owned)?;
-    let is_said = is_said(request, &draft.record, &shown);
-    let said = said_of(alloc, shown, is_said)?;
-    Ok(Told { owned, said })
-}
-
 /// What the member of a draft that was renewed is shown, where it reports so. Fails where memory is short.
 fn shown_of(
     state: &State,
@@ -129,29 +97,41 @@ fn shown_of(
 ) -> Result<PartSet, AllocError>
     ensures { IfOk result (λ shown. shown ≡ shown_then state.now draft.now renewal.now owned.now) }
 {
-    let wanted = target_of(&renewal.target, &state.target).of(draft.id.as_str());
-    state
-        .grants
-        .shown_after(alloc, draft.id.as_str(), &wanted, owned.as_ref())
+    let id = draft.member.id.as_str();
+    let wanted = target_of(&renewal.target, &state.target).of(id);
+    state.grants.shown_after(alloc, id, &wanted, owned.as_ref())
 }
 
 /// The shown set, where it is said, and its copy. Fails where memory is short.
-fn said_of<'a>(alloc: Global, shown: PartSet, is_said: bool) -> Result<Said<'a>, AllocError>
-    ensures assignment { IfOk result (λ said. said.assignment ≡ assignment_of is_said shown) }
-    ensures sent { IfOk result (λ said. said.sent ≡ assignment_of is_said shown) }
+fn said_of<'a>(
+    alloc: Global,
+    shown: PartSet,
+    is_said: bool,
+) -> Result<(Option<Shown<'a>>, Option<PartSet>), AllocError>
+    ensures assignment { IfOk result (λ said. said.0 ≡ assignment_of is_said shown) }
+    ensures sent { IfOk result (λ said. said.1 ≡ assignment_of is_said shown) }
 {
     if !is_said {
-        return Ok(Said {
-            assignment: None,
-            sent: None,
-        });
+        return Ok((None, None));
     }
     let sent = shown.copy(alloc)?;
     let assignment = Shown::of(alloc, shown)?;
-    Ok(Said {
-        assignment: Some(assignment),
-        sent: Some(sent),
-    })
+    Ok((Some(assignment), Some(sent)))
+}
+
+/// The heir of a draft, if there is one, for the target and the grants. Fails where memory is short.
+fn successor_of(alloc: Global, draft: &MemberDraft) -> Result<Option<Successor>, AllocError>
+    ensures { IfOk result (λ successor. IsSuccessor successor (placed_heir draft.now.place)) }
+{
+    let Some(heir) = draft.heir() else {
+        return Ok(None);
+    };
+    let in_target = heir.copy(alloc)?;
+    let in_grants = heir.copy(alloc)?;
+    Ok(Some(Successor {
+        in_target,
+        in_grants,
+    }))
 }
 
 /// Whether an assignment stands in the reply to a request, where the member has this record and is shown this set.

@@ -6,8 +6,8 @@ ghost use Rattle.group_types.specs.HeartbeatStep.{HeartbeatStep};
 ghost use Rattle.kip_msgs.specs.Views.{heartbeat_request_value};
 ghost use Rattle.group_epochs.specs.Records.{GivesNothing, IsMarkedBeat};
 ghost use Rattle.group_epochs.specs.Request.{arrival_of, heartbeat_of};
-ghost use Rattle.group_core.specs.GroupView.{group_of};
-ghost use Rattle.group_core.specs.Outcome.{answer_of, HasFewPartitions, HasRoomFor, IsCurrent, IsCurrentAfter};
+ghost use Rattle.group_core.specs.GroupView.{IsGroup, Keeps, group_of};
+ghost use Rattle.group_core.specs.Outcome.{answer_of, IsCurrent, IsResponse};
 ghost use Rattle.group_core.specs.Steady.{AreMarked, IsSteadyBeat};
 
 use crate::checks;
@@ -52,20 +52,15 @@ pub fn beat_steadily<'a>(
     moment: Moment,
     out: &mut Vec<u8>,
 ) -> Result<Option<Outcome<'a>>, AllocError>
-    requires sound { IsSound (group_of state.old) }
-    requires marks { AreMarked (group_of state.old) state.old.records.marks }
+    requires group { IsGroup state.old }
     requires steady { IsSteadyBeat state.old (heartbeat_of (heartbeat_request_value request.now)) }
     ensures step { (image : Topics) → IsCurrent (group_of state.old) image → IfOk result (λ answer. IfSome answer (λ outcome. HeartbeatStep (group_of state.old)
         (arrival_of (heartbeat_request_value request.now) stamp moment image) (answer_of outcome) (group_of state.new))) }
-    ensures few { IfOk result (λ answer. IfSome answer (λ outcome. HasFewPartitions (answer_of outcome))) }
-    ensures current { (image : Topics) → IsCurrent (group_of state.old) image
-        → IfOk result (λ answer. IfSome answer (λ outcome. IsCurrentAfter (answer_of outcome) (group_of state.new) image)) }
-    ensures room { IfOk result (λ answer. IfSome answer (λ outcome. HasRoomFor (answer_of outcome) (vec_capacity out.new - length out.new.items))) }
+    ensures response { (image : Topics) → IsCurrent (group_of state.old) image → IfOk result (λ answer. IfSome answer (λ outcome.
+        IsResponse (answer_of outcome) (group_of state.new) image (vec_capacity out.new - length out.new.items))) }
     ensures some { IsMarkedBeat state.old.records request.now.member_id.now state.old.target.epoch stamp → IfOk result (λ answer. IsSome answer) }
     ensures none { IfOk result (λ answer. IfNone answer (state.new ≡ state.old)) }
-    ensures out { out.new.items ≡ out.old.items }
-    ensures marks { AreMarked (group_of state.new) state.new.records.marks }
-    ensures err { OnErr result (state.new ≡ state.old) }
+    ensures keeps { Keeps result state.old state.new out.old.items out.new.items }
 {
     make_room(out, request.member_id, &None)?;
     let now = state.clock.later(moment);

@@ -40,7 +40,7 @@ fn remove_due(state: &mut State) -> usize
 {
     let mut removed = 0;
     let mut from = 0;
-    while let Some(rank) = state.records.first_due(from, state.clock) {
+    while let Some(rank) = state.records.due(from, state.clock) {
         remove_at(state, rank);
         from = rank;
         removed += 1;

@@ -12,3 +12,6 @@ pub mod Listed
 pub mod Around
 pub mod Halves
 pub mod Found
+pub mod Senders
+pub mod Sharing
+pub mod Verdicts

@@ -9,3 +9,5 @@ pub mod Table
 pub mod Deadlines
 pub mod Counts
 pub mod Whole
+pub mod Checks
+pub mod Drafts

@@ -94,3 +94,9 @@ pub record IsMarkedBeat (s : RecordsState) (m : Text) (epoch : ℕ) (stamp : Sta
   pub is_kept : finite.get s.records m ≡ Some kept
   pub marked : finite.get s.marks m ≡ Some epoch
   pub later : is_late stamp kept.stamp ≡ false
+
+-- ---- marks
+
+-- every mark was there before, and the member has none where it had a record
+abbrev pub KeepsMarks : RecordsState → RecordsState → Text → Type 0
+KeepsMarks old new m = (n : Text) (e : ℕ) → finite.get new.marks n ≡ Some e → (finite.get old.marks n ≡ Some e) × (n ≡ m → finite.get old.records m ≡ None)

@@ -5,20 +5,24 @@
 
 mod counts;
 mod deadlines;
+mod draft;
 mod entry;
 mod given;
+mod locate;
 mod lookup;
 mod names;
 mod order;
 mod past;
 mod record;
 mod records;
+mod refusal;
 mod sets;
 mod subscribers;
 mod table;
 
+pub use draft::{Draft, Place};
 pub use group_types::{
-    AssignorName, Epoch, EpochNumber, MemberId, Moment, NameSet, PartSet, Stamp,
+    AssignorName, Code, Epoch, EpochNumber, MemberId, Moment, NameSet, PartSet, Stamp,
 };
 pub use kip_msgs::HeartbeatRequest;
 pub use lookup::place_of;
@@ -27,4 +31,5 @@ pub use past::Past;
 pub use range_assign::{Subs, Subscriber};
 pub use record::Record;
 pub use records::{NewMember, Records};
+pub use refusal::Refusal;
 pub use topic_meta::{Image, View};

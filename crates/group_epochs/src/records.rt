@@ -54,6 +54,15 @@ impl Model for NewMember {
     ghost invariant = { λ a. string_bytes a.text ≡ a.id };
 }
 
+impl NewMember {
+    /// The id.
+    pub(crate) fn id(&self) -> &MemberId
+        ensures { result.now ≡ self.now.id }
+    {
+        &self.id
+    }
+}
+
 /// The records of a group's members, by their ids, and the ids of former members that are remembered.
 #[derive(Drop)]
 pub struct Records {
@@ -125,7 +134,7 @@ impl Records {
     }
 
     /// The member that has an instance id, and its record; none where nobody has it. No two members have one. Takes no memory.
-    pub fn with_instance(&self, instance: &str) -> Option<(&MemberId, &Record)>
+    pub(crate) fn with_instance(&self, instance: &str) -> Option<(&MemberId, &Record)>
         ensures { MatchOption result ((m : Text) → ¬ HasInstance self.now.records m instance.now)
             (λ found. (finite.get self.now.records found.0.now ≡ Some found.1.now) × (found.1.now.instance ≡ Some instance.now)) }
     {
@@ -143,7 +152,7 @@ impl Records {
     }
 
     /// The last stamp of a former member, or none where the id isn't remembered (ours). Takes no memory.
-    pub fn past_stamp(&self, id: &str) -> Option<Stamp>
+    pub(crate) fn past_stamp(&self, id: &str) -> Option<Stamp>
         ensures { result ≡ past_stamp self.now.past id.now }
     {
         self.past.stamp_of(id)
@@ -193,7 +202,7 @@ impl Records {
 
     /// Makes room for one member more with this record, and what the records need of its id and its names. Where memory is short,
     /// or else, nothing changes but the room.
-    pub fn prepare(
+    pub(crate) fn prepare(
         &mut self,
         alloc: Global,
         id: &MemberId,
@@ -216,7 +225,7 @@ impl Records {
 
     /// What the records need of the names of a member's new record, and room for them; none where its names stay. Where memory is
     /// short, or else, nothing changes but the room.
-    pub fn prepare_names(
+    pub(crate) fn prepare_names(
         &mut self,
         alloc: Global,
         id: &str,
@@ -234,7 +243,7 @@ impl Records {
     }
 
     /// Stores the record of a new member, which is no former member any more. Takes no memory.
-    pub fn join(&mut self, new: NewMember, record: Record)
+    pub(crate) fn admit(&mut self, new: NewMember, record: Record)
         requires room { CanJoin self.old new «record» }
         requires named { new.id ≢ [] }
         requires absent { finite.get self.old.records new.id ≡ None }
@@ -261,7 +270,7 @@ impl Records {
     }
 
     /// Replaces the record of a member, and takes its mark away. Takes no memory.
-    pub fn put(&mut self, id: &str, names: Option<NewNames>, record: Record)
+    pub(crate) fn put(&mut self, id: &str, names: Option<NewNames>, record: Record)
         requires there { IsMember self.old id.now }
         requires names { CanReplace self.old id.now «record» names }
         requires instance { IsInstanceFreeFor self.old.records id.now «record» }
@@ -356,7 +365,7 @@ impl Records {
 
     /// An heir takes a member's place under its own id, with this record, and the old id is remembered with its last stamp
     /// (KIP-848, "Static Membership"). Takes no memory.
-    pub fn take_over(&mut self, old: &str, heir: NewMember, record: Record)
+    pub(crate) fn hand_over(&mut self, old: &str, heir: NewMember, record: Record)
         requires room { CanJoin self.old heir «record» }
         requires there { IsMember self.old old.now }
         requires named { heir.id ≢ [] }
@@ -396,7 +405,7 @@ impl Records {
     /// The first rank, from one on, in the order of the members' ids, at which a member's deadline has come (KIP-848, "Session
     /// Management"); none where no deadline has come. Before the rank to begin with, nobody is due. Where the clock is before every
     /// deadline no record is looked at. Takes no memory.
-    pub fn first_due(&mut self, from: usize, clock: Moment) -> Option<usize>
+    pub fn due(&mut self, from: usize, clock: Moment) -> Option<usize>
         ensures first { NoneIsDueBefore self.old.records clock from
             → MatchOption result (NoneIsDue self.old.records clock) (λ rank. IsFirstRank self.old.records clock rank) }
         ensures same { self.new ≡ self.old }

@@ -293,7 +293,7 @@ fn heartbeat<'a>(
     };
     let now = Moment::of_millis(7);
     if LONGEST_STRING < request.member_id.len() {
-        return Ok(Outcome::Closes);
+        return Ok(Outcome::Overtaken);
     }
     let before = numbers_of(&told.group);
     if let Ok(outcome) = told
@@ -317,7 +317,7 @@ fn numbers_of(group: &Group) -> (u32, u32, usize) {
 fn tell_outcome(outcome: &Outcome<'_>, out: &mut String) -> Result<(), AllocError> {
     part_words(out)?;
     match outcome {
-        Outcome::Closes => out.push_str("closes"),
+        Outcome::Overtaken => out.push_str("closes"),
         Outcome::Replied(reply) => tell_reply(reply, out),
     }
 }

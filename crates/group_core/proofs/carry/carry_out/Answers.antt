@@ -1,13 +1,18 @@
-use Rattle.std.proofs.Common.{subst}
-use Rattle.group_types.specs.Members.{HasInstance}
+use Rattle.std.proofs.Common.{ap, sym, subst}
+use Rattle.group_epochs.specs.Records.{IsInstanceFreeFor, KeepsMarks, RecordsState}
+use Rattle.group_epochs.specs.Drafts.{CanStore}
 use Rattle.group_core.specs.declared.state.State.{State}
-use Rattle.group_core.specs.Steady.{KeepsMarks}
 use Rattle.group_core.proofs.carry.carry_out.Goals as goal
 
-pub store_draft-epoch-requires-clause-instance : goal.store_draft-epoch-requires-clause-instance
-store_draft-epoch-requires-clause-instance c = λ n i is there.
-    c.requires.instance n i is (subst (λ (s : State). HasInstance s.records.records n i) c.take_in.ensures there)
+pub store_draft-epoch-requires-clause-fit : goal.store_draft-epoch-requires-clause-fit
+store_draft-epoch-requires-clause-fit c =
+    let d = c.args.draft.member in
+    let same = sym (ap (λ (s : State). s.records) c.renew.ensures) in
+    record {
+      room = subst (λ (rs : RecordsState). CanStore rs d.id d.record d.place) same c.requires.fit.room;
+      instance = subst (λ (rs : RecordsState). IsInstanceFreeFor rs.records d.id d.record) same c.requires.fit.instance;
+    }
 
 pub returns-clause-marks : goal.returns-clause-marks
 returns-clause-marks c =
-    subst (λ (s : State). KeepsMarks s.records c.store_draft-epoch.new.state.records c.args.draft.id) c.take_in.ensures c.store_draft-epoch.ensures.marks
+    subst (λ (s : State). KeepsMarks s.records c.store_draft-epoch.new.state.records c.args.draft.member.id) c.renew.ensures c.store_draft-epoch.ensures.marks

@@ -8,7 +8,7 @@ use Rattle.group_epochs.specs.Request.{arrival_of}
 use Rattle.group_core.specs.GroupView.{group_of}
 use Rattle.group_core.specs.Outcome.{answer_of}
 use Rattle.group_core.proofs.Results.{IfOk-both}
-use Rattle.group_core.proofs.Senders.{record_under-get}
+use Rattle.group_epochs.proofs.Senders.{record_under-get}
 use Rattle.group_core.proofs.heartbeat.accept.Goals as goal
 
 pub returns-in-minus2-clause-step : goal.returns-in-minus2-clause-step
@@ -22,5 +22,5 @@ returns-in-minus2-clause-step c =
     IfOk-both c.go_away.result _ _ (λ outcome. StepOf (kind_of a.heartbeat.epoch) sender g a (answer_of outcome) new)
     (λ outcome replied gone.
     subst (λ e. StepOf (kind_of e) sender g a (answer_of outcome) new) (sym at)
-    (subst (λ own. GoesAwayWith own g a (answer_of outcome) new) (sym (record_under-get s.records.records a.heartbeat.member c.requires.sound.named ∙ gone.1)) (replied, gone.2)))
+    (subst (λ own. GoesAwayWith own g a (answer_of outcome) new) (sym (record_under-get s.records.records a.heartbeat.member c.requires.group.sound.named ∙ gone.1)) (replied, gone.2)))
     c.go_away.ensures.answer c.go_away.ensures.group

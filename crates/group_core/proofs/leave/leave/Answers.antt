@@ -1,4 +1,4 @@
-use Rattle.std.proofs.Common.{◌≡◌, sym, subst}
+use Rattle.std.proofs.Common.{rules, ◌≡◌, sym, subst}
 use Rattle.std.specs.FinMap as finite
 use Rattle.group_reconcile.specs.Holders.{pairs}
 use Rattle.group_types.specs.Group.{Group}
@@ -6,11 +6,12 @@ use Rattle.group_types.specs.Leave.{left}
 use Rattle.group_epochs.specs.Records.{Marks}
 use Rattle.group_core.specs.GroupView.{group_of}
 use Rattle.group_core.specs.Steady.{AreMarked}
+use Rattle.group_core.proofs.Responses.{of_farewell}
 use Rattle.group_core.proofs.Marking.{marked_left}
 use Rattle.group_core.proofs.leave.leave.Goals as goal
 
-pub returns-clause-marks : goal.returns-clause-marks
-returns-clause-marks c =
+pub returns-clause-keeps : goal.returns-clause-keeps
+returns-clause-keeps c =
     let s = c.args.state.now in
     let gone : Group = left (group_of s) c.args.member.now c.args.stamp c.args.moment in
     let new : Group = record (group_of s) {
@@ -32,5 +33,9 @@ returns-clause-marks c =
       grants = c.drop_member-2.ensures.grants i;
       clock = c.later-state.ensures i;
     } in
-    subst (λ (ms : Marks). AreMarked new ms) (sym c.leave.ensures.marks)
-    (subst (λ (g : Group). AreMarked g (finite.remove s.records.marks c.args.member.now)) (sym same) (marked_left (group_of s) s.records.marks c.requires.marks c.args.member.now c.args.stamp c.args.moment))
+    let marks = subst (λ (ms : Marks). AreMarked new ms) (sym c.leave.ensures.marks)
+    (subst (λ (g : Group). AreMarked g (finite.remove s.records.marks c.args.member.now)) (sym same) (marked_left (group_of s) s.records.marks c.requires.marks c.args.member.now c.args.stamp c.args.moment)) in
+    record { out = search rules; marks = marks; err = tt }
+
+pub returns-clause-response : goal.returns-clause-response
+returns-clause-response c = λ image. of_farewell _ _ image _ (search rules) c.args.member.now 0 (search rules)

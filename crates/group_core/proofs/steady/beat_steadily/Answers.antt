@@ -1,4 +1,4 @@
-use Rattle.std.proofs.Common.{◌≡◌, ℕ, max, None, sym, subst, ap, ◌∙◌, refl}
+use Rattle.std.proofs.Common.{rules, ◌≡◌, ℕ, max, None, sym, subst, ap, ◌∙◌, refl}
 use Rattle.std.specs.FinMap as finite
 use Rattle.group_types.specs.declared.epoch.Epoch.TheVariants.{At}
 use Rattle.group_types.specs.Group.{Group, Record}
@@ -18,10 +18,14 @@ pub returns-then-not-beat_marked-clause-some : goal.returns-then-not-beat_marked
 returns-then-not-beat_marked-clause-some c = λ beat.
     c.if-not-beat_marked.ensures.marked.1 (subst (λ t. IsMarkedBeat c.args.state.now.records c.args.request.now.member_id.now t c.args.stamp) (sym c.epoch-epoch.ensures) beat)
 
-pub returns-then-not-beat_marked-clause-marks : goal.returns-then-not-beat_marked-clause-marks
-returns-then-not-beat_marked-clause-marks c =
+pub returns-then-not-beat_marked-clause-keeps : goal.returns-then-not-beat_marked-clause-keeps
+returns-then-not-beat_marked-clause-keeps c =
     let s = c.args.state.now in
-    subst (λ (rs : RecordsState). AreMarked (group_of (record s { records = rs })) rs.marks) (sym (c.if-not-beat_marked.ensures.no refl)) c.requires.marks
+    record {
+      out = search rules;
+      marks = subst (λ (rs : RecordsState). AreMarked (group_of (record s { records = rs })) rs.marks) (sym (c.if-not-beat_marked.ensures.no refl)) c.requires.group.marked;
+      err = tt;
+    }
 
 pub returns-clause-step : goal.returns-clause-step
 returns-clause-step c = λ image current.
@@ -38,23 +42,29 @@ returns-clause-step c = λ image current.
     subst (λ x. Steps x (record (group_of s) { clock = c.later-now.result; records = c.beat_marked.new.self.records; past = c.beat_marked.new.self.past })) (sym replied)
     (subst (Steps (acceptance a.heartbeat.member (record (beaten r c.args.stamp now) { epoch = At s.target.epoch }) None))
     (λ i. record (group_of s) { clock = sym c.later-now.ensures i; records = sym stored i; past = sym c.beat_marked.ensures.past i })
-    (steady_answers s c.requires.sound c.requires.marks a c.requires.steady beat current))
+    (steady_answers s c.requires.group.sound c.requires.group.marked a c.requires.steady beat current))
 
-pub returns-clause-current : goal.returns-clause-current
-returns-clause-current c = λ image current ok above.
+pub returns-clause-response : goal.returns-clause-response
+returns-clause-response c = λ image current.
     let s = c.args.state.now in
     let beat = c.if-not-beat_marked.ensures.marked.0 refl in
-    current ∙ sym (ap (view_for image) (c.if-not-beat_marked.ensures.records beat.kept refl beat.is_kept)
-    ∙ view_for-insert image s.records.records _ beat.kept (beaten beat.kept c.args.stamp c.later-now.result) beat.is_kept refl)
+    let stays = current ∙ sym (ap (view_for image) (c.if-not-beat_marked.ensures.records beat.kept refl beat.is_kept)
+    ∙ view_for-insert image s.records.records _ beat.kept (beaten beat.kept c.args.stamp c.later-now.result) beat.is_kept refl) in
+    record { few = search rules; current = λ ok above. stays; room = search rules }
 
-pub returns-clause-marks : goal.returns-clause-marks
-returns-clause-marks c = λ m e is.
+pub returns-clause-keeps : goal.returns-clause-keeps
+returns-clause-keeps c =
     let s = c.args.state.now in
-    let beat = c.if-not-beat_marked.ensures.marked.0 refl in
-    let before = c.requires.marks m e (ap (λ ms. finite.get ms m) (sym c.beat_marked.ensures.marks) ∙ is) in
-    let stored = c.if-not-beat_marked.ensures.records beat.kept refl beat.is_kept in (
-      before.0,
-      λ same. subst (λ (g : Group). IsSteady g m)
-          (λ i. record (group_of s) { clock = c.later-now.result; records = sym stored i; past = sym c.beat_marked.ensures.past i })
-          (steady_then (group_of s) _ beat.kept c.args.stamp c.later-now.result beat.is_kept m (before.1 same)),
-    )
+    record {
+      out = search rules;
+      marks = λ m e is.
+          let beat = c.if-not-beat_marked.ensures.marked.0 refl in
+          let before = c.requires.group.marked m e (ap (λ ms. finite.get ms m) (sym c.beat_marked.ensures.marks) ∙ is) in
+          let stored = c.if-not-beat_marked.ensures.records beat.kept refl beat.is_kept in (
+            before.0,
+            λ same. subst (λ (g : Group). IsSteady g m)
+                (λ i. record (group_of s) { clock = c.later-now.result; records = sym stored i; past = sym c.beat_marked.ensures.past i })
+                (steady_then (group_of s) _ beat.kept c.args.stamp c.later-now.result beat.is_kept m (before.1 same)),
+          );
+      err = tt;
+    }

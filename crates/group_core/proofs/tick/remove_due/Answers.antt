@@ -38,12 +38,12 @@ module _ (s : State) (searched : RecordsState) (same : searched ≡ s.records) (
 
 pub remove_at-requires-clause-marks : goal.remove_at-requires-clause-marks
 remove_at-requires-clause-marks c =
-    subst (λ (rs : RecordsState). AreMarked (group_with c.loop-rank.state rs) rs.marks) (sym c.first_due.ensures.same) c.loop-rank.invariant.marks
+    subst (λ (rs : RecordsState). AreMarked (group_with c.loop-rank.state rs) rs.marks) (sym c.due.ensures.same) c.loop-rank.invariant.marks
 
 pub overflow_add-removed : goal.overflow_add-removed
 overflow_add-removed c =
     let first = c.in-Some.ensures.first c.loop-rank.invariant.before in
-    let dues = due_before c.loop-rank.state c.first_due.new.self c.first_due.ensures.same c.in-Some.rank first (group_of c.remove_at.new.state) c.remove_at.ensures.group in
+    let dues = due_before c.loop-rank.state c.due.new.self c.due.ensures.same c.in-Some.rank first (group_of c.remove_at.new.state) c.remove_at.ensures.group in
     let few = few_due (group_of c.args.state.now) c.requires.sound in
     let count = c.loop-rank.invariant.count in
     omega (arith, ap length dues, few, count)
@@ -51,18 +51,18 @@ overflow_add-removed c =
 pub loop-rank-smaller : goal.loop-rank-smaller
 loop-rank-smaller c =
     let first = c.in-Some.ensures.first c.loop-rank.invariant.before in
-    let dues = due_before c.loop-rank.state c.first_due.new.self c.first_due.ensures.same c.in-Some.rank first (group_of c.remove_at.new.state) c.remove_at.ensures.group in
+    let dues = due_before c.loop-rank.state c.due.new.self c.due.ensures.same c.in-Some.rank first (group_of c.remove_at.new.state) c.remove_at.ensures.group in
     omega (arith, ap length dues)
 
 pub loop-rank-preserved : goal.loop-rank-preserved
 loop-rank-preserved c =
     let s = c.loop-rank.state in
     let first = c.in-Some.ensures.first c.loop-rank.invariant.before in
-    let dues = due_before s c.first_due.new.self c.first_due.ensures.same c.in-Some.rank first (group_of c.remove_at.new.state) c.remove_at.ensures.group in
+    let dues = due_before s c.due.new.self c.due.ensures.same c.in-Some.rank first (group_of c.remove_at.new.state) c.remove_at.ensures.group in
     let count = c.loop-rank.invariant.count in
     record {
-      before = none_before s c.first_due.new.self c.first_due.ensures.same c.in-Some.rank first (group_of c.remove_at.new.state) c.remove_at.ensures.group;
-      rest = same_end s c.first_due.new.self c.first_due.ensures.same c.in-Some.rank first (group_of c.remove_at.new.state) c.remove_at.ensures.group ∙ c.loop-rank.invariant.rest;
+      before = none_before s c.due.new.self c.due.ensures.same c.in-Some.rank first (group_of c.remove_at.new.state) c.remove_at.ensures.group;
+      rest = same_end s c.due.new.self c.due.ensures.same c.in-Some.rank first (group_of c.remove_at.new.state) c.remove_at.ensures.group ∙ c.loop-rank.invariant.rest;
       count = omega (arith, ap length dues, count);
       marks = c.remove_at.ensures.marks;
     }
@@ -70,7 +70,7 @@ loop-rank-preserved c =
 pub returns-clause-group : goal.returns-clause-group
 returns-clause-group c =
     let s = c.loop-rank.state in
-    ap (group_with s) c.first_due.ensures.same
+    ap (group_with s) c.due.ensures.same
     ∙ ap (without_members (group_of s)) (sym (due_none (group_of s) (c.in_default.ensures.first c.loop-rank.invariant.before)))
     ∙ c.loop-rank.invariant.rest
 
@@ -82,4 +82,4 @@ returns-clause-removed c =
 
 pub returns-clause-marks : goal.returns-clause-marks
 returns-clause-marks c =
-    subst (λ (rs : RecordsState). AreMarked (group_with c.loop-rank.state rs) rs.marks) (sym c.first_due.ensures.same) c.loop-rank.invariant.marks
+    subst (λ (rs : RecordsState). AreMarked (group_with c.loop-rank.state rs) rs.marks) (sym c.due.ensures.same) c.loop-rank.invariant.marks

@@ -1,0 +1,47 @@
+//! A join or a beat (KIP-848, "Consumer Group Heartbeat", member epochs from 0 on).
+ghost use Rattle.std.specs.Prelude.{◌≡◌, ◌≤◌, ◌≤ℤ◌, ◌-◌, IfOk, length, pos, vec_capacity};
+ghost use Rattle.group_types.specs.Limits.{LONGEST_STRING};
+ghost use Rattle.group_types.specs.Request.{kind_of};
+ghost use Rattle.group_types.specs.Checks.{Accepted, sender_of, verdict_on};
+ghost use Rattle.group_types.specs.HeartbeatStep.{StepOf};
+ghost use Rattle.kip_msgs.specs.Views.{heartbeat_request_value};
+ghost use Rattle.group_epochs.specs.Request.{arrival_of, heartbeat_of};
+ghost use Rattle.group_core.specs.GroupView.{IsGroup, Keeps, group_of};
+ghost use Rattle.group_core.specs.Outcome.{answer_of, IsResponse};
+
+use crate::naming::draft_of;
+use crate::outcome::Outcome;
+use crate::state::State;
+use crate::taking::{refuse, take_in};
+use group_types::{Code, Moment, Stamp};
+use kip_msgs::HeartbeatRequest;
+use std::alloc::{AllocError, Global};
+use topic_meta::Image;
+
+/// Answers a join or a beat that the checks accept. Where memory is short, the group is as it was.
+pub fn enter<'a>(
+    state: &mut State,
+    alloc: Global,
+    request: &HeartbeatRequest<'a>,
+    stamp: Stamp,
+    moment: Moment,
+    image: &Image,
+    out: &mut Vec<u8>,
+) -> Result<Outcome<'a>, AllocError>
+    requires group { IsGroup state.old }
+    requires epoch { pos 0 ≤ℤ request.now.member_epoch }
+    requires id { length request.now.member_id.now ≤ LONGEST_STRING }
+    requires accepted { let q = heartbeat_of (heartbeat_request_value request.now) in
+        verdict_on (kind_of q.epoch) (sender_of state.old.records.records q) (group_of state.old) q stamp ≡ Accepted }
+    ensures step { let a = arrival_of (heartbeat_request_value request.now) stamp moment image.now in
+        IfOk result (λ outcome. StepOf (kind_of a.heartbeat.epoch) (sender_of state.old.records.records a.heartbeat)
+        (group_of state.old) a (answer_of outcome) (group_of state.new)) }
+    ensures response { IfOk result (λ outcome. IsResponse (answer_of outcome) (group_of state.new) image.now (vec_capacity out.new - length out.new.items)) }
+    ensures keeps { Keeps result state.old state.new out.old.items out.new.items }
+{
+    let now = state.clock.later(moment);
+    match draft_of(state, alloc, request, stamp, now)? {
+        Some(draft) => take_in(state, alloc, draft, request, now, image, out),
+        None => refuse(Code::CoordinatorNotAvailable, out),
+    }
+}
