@@ -1,10 +1,11 @@
 //! The node and its answers.
-ghost use Rattle.std.specs.Prelude.{◌≡◌, ◌+◌, ◌-◌, ◌≤◌, IfOk, OnOk, OnErr, None, length, vec_capacity};
+ghost use Rattle.std.specs.Prelude.{◌≡◌, ◌↔◌, ◌+◌, ◌-◌, ◌≤◌, IfOk, OnOk, OnErr, IsTrue, None, length, vec_capacity};
 ghost use Rattle.std.specs.Option.{option_copied};
 ghost use Rattle.std.specs.FinMap as finite;
-ghost use Rattle.kip_msgs.specs.Spelling.{commit_request_fields, request_body, FitsCommitRequest, FitsRequest};
+ghost use Rattle.kip_msgs.specs.Values.{RequestValue};
+ghost use Rattle.kip_msgs.specs.Spelling.{commit_request_fields, request_body, FitsCommitRequest, FitsRequest, SpellsRequest};
 ghost use Rattle.kip_msgs.specs.Views.{commit_reply_value, commit_request_value, heartbeat_request_value, request_value};
-ghost use Rattle.group_types.specs.Limits.{LARGEST_BODY as MOST_BYTES, LONGEST_STRING};
+ghost use Rattle.group_types.specs.Limits.{SMALLEST_BODY as FEWEST_BYTES, LARGEST_BODY as MOST_BYTES, LONGEST_STRING};
 ghost use Rattle.group_epochs.specs.Request.{arrival_of};
 ghost use Rattle.group_core.specs.Outcome.{answer_of};
 ghost use Rattle.coord_node.specs.Coordinator.{opening, Done, Frame, Tick, is_remembered_at};
@@ -23,7 +24,7 @@ use group_epochs::place_of;
 use group_types::limits::{LARGEST_BODY, SMALLEST_BODY};
 use group_types::{Moment, Stamp};
 use indexmap::IndexMap;
-use kip_msgs::{CommitReply, CommitRequest, HeartbeatRequest, MsgFault, Request, read_request};
+use kip_msgs::{CommitReply, CommitRequest, HeartbeatRequest, Request};
 use std::alloc::{AllocError, Global};
 use std::collections::hash_map::RandomState;
 use std::marker::Model;
@@ -129,14 +130,11 @@ impl Node {
         // A body that closes at once takes no memory.
         ensures at_once { ClosesAtOnce body.now → result ≡ Ok Answered.Closes }
     {
-        if body.len() < SMALLEST_BODY || LARGEST_BODY < body.len() {
+        if !has_length_of_a_frame(body) {
             return Ok(Answered::Closes);
         }
-        match read_request(alloc, body) {
-            Ok(request) => self.request(alloc, &request, body.len(), stamp, now, out),
-            Err(MsgFault::NoMemory) => Err(AllocError),
-            Err(_) => Ok(Answered::Closes),
-        }
+        let parsed = ParsedBody::of(alloc, body)?;
+        self.answer_parsed(alloc, &parsed, stamp, now, out)
     }
 
     /// Answers a body that was read before, as [`Node::answer`] does: its bytes aren't read once more.
@@ -151,11 +149,13 @@ impl Node {
         ensures step { IfOk result (λ answered.
             Answers self.old (Frame parsed.now stamp now) answered self.new out.old.items out.new.items) }
         ensures err { OnErr result ((self.new ≡ self.old) × (out.new.items ≡ out.old.items)) }
+        // A body that is no request takes no memory.
+        ensures no_request { ((v : RequestValue) → ¬ SpellsRequest v parsed.now) → result ≡ Ok Answered.Closes }
     {
-        let size = parsed.bytes().len();
-        if size < SMALLEST_BODY || LARGEST_BODY < size {
+        if !has_length_of_a_frame(parsed.bytes()) {
             return Ok(Answered::Closes);
         }
+        let size = parsed.bytes().len();
         match parsed.request() {
             Some(request) => self.request(alloc, request, size, stamp, now, out),
             None => Ok(Answered::Closes),
@@ -317,6 +317,13 @@ impl Node {
         )?;
         admit(alloc, &mut self.groups, request.group_id, kept, outcome)
     }
+}
+
+/// Whether the body of a frame may have this length.
+fn has_length_of_a_frame(body: &[u8]) -> bool
+    ensures { IsTrue result ↔ ((FEWEST_BYTES ≤ length body.now) × (length body.now ≤ MOST_BYTES)) }
+{
+    SMALLEST_BODY <= body.len() && body.len() <= LARGEST_BODY
 }
 
 /// Sends what a group answered, in the room that is there. Takes no memory.

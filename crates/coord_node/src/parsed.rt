@@ -1,6 +1,9 @@
 //! A frame's body that has been read.
-ghost use Rattle.std.specs.Prelude.{◌≡◌, IfOk};
+ghost use Rattle.std.specs.Prelude.{◌≡◌, ◌⊎◌, IfOk, IsOk};
 ghost use Rattle.std.specs.Option.{option_copied};
+ghost use Rattle.kip_msgs.specs.Values.{RequestValue};
+ghost use Rattle.kip_msgs.specs.Spelling.{SpellsRequest};
+ghost use Rattle.kip_msgs.specs.Heads.{HasUnknownKey, HasUnknownVersion};
 ghost use Rattle.coord_node.specs.Parsed.{IsGroupOf};
 
 use kip_msgs::{MsgFault, Request, read_request};
@@ -37,7 +40,10 @@ impl<'a> ParsedBody<'a> {
 
     /// Reads a body. Its texts are lent and not copied. Fails where memory is too short to read it.
     pub fn of(alloc: Global, body: &'a [u8]) -> Result<ParsedBody<'a>, AllocError>
-        ensures { IfOk result (λ parsed. parsed ≡ body.now) }
+        ensures bytes { IfOk result (λ parsed. parsed ≡ body.now) }
+        // A body of another API or version takes no memory, and is no request.
+        ensures at_once { HasUnknownKey body.now ⊎ HasUnknownVersion body.now →
+            IsOk result × ((v : RequestValue) → ¬ SpellsRequest v body.now) }
     {
         match read_request(alloc, body) {
             Ok(request) => Ok(ParsedBody {

@@ -7,19 +7,13 @@ use Rattle.std.proofs.lemmas.List.Elements.{All-push}
 use Rattle.std.proofs.lemmas.List.Sums.{sum_by-append, sum_by-set}
 use Rattle.std.proofs.lemmas.Bool.Decides.{Decides-eqb, nat_tests}
 use Rattle.coord_node.specs.Coordinator.{Coordinator, Event, Answer}
-use Rattle.coord_node.specs.declared.event.Answered.{Answered}
-use Rattle.coord_node.specs.Answers.{Answers}
-use Rattle.coord_node.specs.Steps.{EventRelation, RunBy}
+use Rattle.coord_node.specs.Steps.{EventRelation, RunBy, Step}
 use Rattle.coord_shards.specs.declared.entry.Entry.{Entry}
-use Rattle.coord_shards.specs.Machine.{NodeStep}
 use Rattle.coord_shards.specs.Limits.{MOST_SEATS}
 use Rattle.coord_shards.specs.Events.{node_event}
 use Rattle.coord_shards.specs.Home.{IsHome}
 use Rattle.coord_shards.specs.Shard.{ShardState, kept_with, one_more}
-use Rattle.coord_node.specs.Coordinator as node
-use Rattle.coord_shards.specs.declared.event.Answer as shards
-use Rattle.coord_shards.specs.declared.event.Answer.TheVariants.{Replied, Closes, Done, Refused}
-use Rattle.coord_shards.specs.Steps.{NodeActs, GoesOn, ShardStep, FrameStep}
+use Rattle.coord_shards.specs.Steps.{GoesOn}
 use Rattle.coord_shards.specs.Replay.{Replay, IsShard, RunsTo}
 
 -- a run, and one step behind it
@@ -33,11 +27,11 @@ RunBy-push Steps (e ∷ es) (a ∷ answers) c d n event answer run step =
     (run.0, run.1, RunBy-push Steps es answers run.0 d n event answer run.2 step)
 
 pub RunsTo-push : (salt : ℕ) (entries : List Entry) (e : Entry) (given : Answer) (d n : Coordinator)
-    → RunsTo salt entries d → NodeStep d (node_event e.event) given n → RunsTo salt (entries ++ e ∷ []) n
+    → RunsTo salt entries d → Step d (node_event e.event) given n → RunsTo salt (entries ++ e ∷ []) n
 RunsTo-push salt entries e given d n runs step =
     let ev : Entry → Event = λ (x : Entry). node_event x.event in (
       runs.0 ++ given ∷ [],
-      rw (map-append ev entries (e ∷ [])) (RunBy-push NodeStep (map ev entries) runs.0 _ d n (node_event e.event) given runs.1 step),
+      rw (map-append ev entries (e ∷ [])) (RunBy-push Step (map ev entries) runs.0 _ d n (node_event e.event) given runs.1 step),
     )
 
 -- ---- the counts
@@ -85,7 +79,7 @@ few-push cap kept e false is few room =
     omega (arith, length-append kept (e ∷ []))
 
 pub Replay-push : (s : ShardState) (e : Entry) (given : Answer) (after : Coordinator)
-    → e.seat < length s.counts → IsHome s.shards e.event s.number → NodeStep s.present (node_event e.event) given after → Replay s
+    → e.seat < length s.counts → IsHome s.shards e.event s.number → Step s.present (node_event e.event) given after → Replay s
     → Replay (record s { present = after; kept = kept_with s.cap s.kept e; counts = one_more s.counts e.seat })
 Replay-push s e given after seat home step (entries, is) = (
   entries ++ e ∷ [],
@@ -100,7 +94,7 @@ Replay-push s e given after seat home step (entries, is) = (
 -- a shard that has room and goes on is a shard
 pub IsShard-push : (s : ShardState) (e : Entry) (given : Answer) (after : Coordinator)
     → e.seat < MOST_SEATS → IsHome s.shards e.event s.number → (0 < s.cap → length s.kept < s.cap)
-    → NodeStep s.present (node_event e.event) given after → IsShard s
+    → Step s.present (node_event e.event) given after → IsShard s
     → IsShard (record s { present = after; kept = kept_with s.cap s.kept e; counts = one_more s.counts e.seat })
 IsShard-push s e given after seat home room step is =
     record {
@@ -125,7 +119,7 @@ room-is cap len not_full some =
 -- a step of a node with an entry's event, an entry behind the others, and one more of its seat's
 pub goes-is : (old : ShardState) (e : Entry) (given : Answer) (after : Coordinator) (kept : List Entry)
     → e.seat < MOST_SEATS → IsHome old.shards e.event old.number → (0 < old.cap → length old.kept < old.cap)
-    → NodeStep old.present (node_event e.event) given after → kept ≡ kept_with old.cap old.kept e → IsShard old
+    → Step old.present (node_event e.event) given after → kept ≡ kept_with old.cap old.kept e → IsShard old
     → IsShard (record old { present = after; kept = kept; counts = one_more old.counts e.seat })
     × GoesOn old e given (record old { present = after; kept = kept; counts = one_more old.counts e.seat })
 goes-is old e given after kept seat home room step is shard = (
@@ -138,31 +132,14 @@ goes-is old e given after kept seat home room step is shard = (
   },
 )
 
--- what a node did with an entry's event, an entry behind the others, and one more of its seat's
-pub step-is : (old : ShardState) (e : Entry) (answer : shards.Answer) (after : Coordinator) (kept : List Entry)
+-- the same of a node's answer of which more is known
+pub taken-is : (Says : Answer → Type 0) (old : ShardState) (e : Entry) (after : Coordinator) (kept : List Entry)
     → e.seat < MOST_SEATS → IsHome old.shards e.event old.number → (0 < old.cap → length old.kept < old.cap)
-    → NodeActs old.present e.event answer after → kept ≡ kept_with old.cap old.kept e → IsShard old
+    → (given : Answer) × Says given × Step old.present (node_event e.event) given after → kept ≡ kept_with old.cap old.kept e → IsShard old
     → IsShard (record old { present = after; kept = kept; counts = one_more old.counts e.seat })
-    × ShardStep old e answer (record old { present = after; kept = kept; counts = one_more old.counts e.seat })
-step-is old e answer after kept seat home room acts is shard =
-    elim answer as (λ (a : shards.Answer). NodeActs old.present e.event a after
-    → IsShard (record old { present = after; kept = kept; counts = one_more old.counts e.seat })
-    × ShardStep old e a (record old { present = after; kept = kept; counts = one_more old.counts e.seat })) [
-      | Replied bytes ↦ λ step. goes-is old e (node.Replied bytes) after kept seat home room step is shard
-      | Closes ↦ λ step. goes-is old e node.Closes after kept seat home room step is shard
-      | Done removed ↦ λ step. goes-is old e (node.Done removed) after kept seat home room step is shard
-      | Refused ↦ λ none. absurd none
-    ] acts
-
--- a node's answer to a frame, an entry behind the others, and one more of its seat's
-pub frame-is : (old : ShardState) (e : Entry) (kind : Answered) (after : Coordinator) (kept : List Entry) (before bytes : List ℕ)
-    → e.seat < MOST_SEATS → IsHome old.shards e.event old.number → (0 < old.cap → length old.kept < old.cap)
-    → Answers old.present (node_event e.event) kind after before bytes → kept ≡ kept_with old.cap old.kept e → IsShard old
-    → IsShard (record old { present = after; kept = kept; counts = one_more old.counts e.seat })
-    × FrameStep old e kind (record old { present = after; kept = kept; counts = one_more old.counts e.seat }) before bytes
-frame-is old e kind after kept before bytes seat home room answers is shard =
-    let goes = goes-is old e answers.answer after kept seat home room answers.step is shard in
-    (goes.0, record { given = answers.answer; is_answered = answers.is_answered; goes_on = goes.1; bytes = answers.bytes })
+    × ((given : Answer) × Says given × GoesOn old e given (record old { present = after; kept = kept; counts = one_more old.counts e.seat }))
+taken-is Says old e after kept seat home room (given, says, step) is shard =
+    let goes = goes-is old e given after kept seat home room step is shard in (goes.0, (given, says, goes.1))
 
 -- what was kept before, once one more came behind it
 take-kept : {X : Type 0} (b : Bool) (kept : List X) (x : X) → take (length kept) (cond b kept (kept ++ x ∷ [])) ≡ kept
@@ -171,11 +148,3 @@ take-kept false kept x = take-append_seam kept (x ∷ [])
 
 pub take-kept_with : {X : Type 0} (cap : ℕ) (kept : List X) (x : X) → take (length kept) (kept_with cap kept x) ≡ kept
 take-kept_with cap kept x = take-kept (cap == 0) kept x
-
--- unless the event is refused there is one more entry
-pub total-ShardStep : (old : ShardState) (e : Entry) (answer : shards.Answer) (new : ShardState) → ShardStep old e answer new → ¬ (answer ≡ Refused)
-    → sum new.counts ≡ sum old.counts + 1
-total-ShardStep old e (Replied bytes) new step goes = step.total
-total-ShardStep old e Closes new step goes = step.total
-total-ShardStep old e (Done removed) new step goes = step.total
-total-ShardStep old e Refused new step goes = absurd (goes refl)

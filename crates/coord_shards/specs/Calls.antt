@@ -1,16 +1,15 @@
 -- What a call of a seat comes to.
 use Rattle.std.specs.Prelude.{◌≡◌, ◌⊎◌, ◌+◌, ◌<◌, ℕ, List, ◌++◌, All, MatchOption}
 use Rattle.coord_node.specs.declared.event.Answered.{Answered}
-use Rattle.coord_node.specs.Coordinator.{Coordinator, opening, bytes_of}
+use Rattle.coord_node.specs.Coordinator.{Coordinator, bytes_of}
 use Rattle.coord_node.specs.Coordinator as node
 use Rattle.coord_node.specs.Answers.{IsAnswered}
+use Rattle.coord_node.specs.Steps.{Step}
 use Rattle.coord_shards.specs.declared.entry.Entry.{Entry}
 use Rattle.coord_shards.specs.declared.event.Event.{Event}
 use Rattle.coord_shards.specs.declared.event.Answer.{Answer}
 use Rattle.coord_shards.specs.Limits.{MOST_SHARDS, MOST_KEPT}
-use Rattle.coord_shards.specs.Machine.{NodeStep}
-use Rattle.coord_shards.specs.Events.{node_event}
-use Rattle.coord_shards.specs.Answers.{node_answer}
+use Rattle.coord_shards.specs.Events.{node_event, node_answer}
 use Rattle.coord_shards.specs.Home.{IsHome}
 use Rattle.coord_shards.specs.Shard.{kept_with, one_more}
 use Rattle.coord_shards.specs.Replay.{RunsTo}
@@ -30,7 +29,7 @@ pub record IsAnsweredInARun (shape : Shape) (home : ℕ) (event : Event) (given 
   pub after : Coordinator
   pub at_home : All (λ e. IsHome shape.shards e.event home) entries
   pub run : RunsTo shape.salt entries before
-  pub step : NodeStep before (node_event event) given after
+  pub step : Step before (node_event event) given after
 
 -- A call that was taken, at the event's home: of the calls there, and of all calls of the seat, there is one more, and the
 -- event is the last that was sent.
@@ -56,22 +55,6 @@ pub record TakesFrame (shape : Shape) (old : SeatState) (event : Event) (kind : 
 -- of the seat's calls at a shard, and of all its calls, there is one more
 abbrev pub Rises : SeatState → ℕ → SeatState → Type 0
 Rises old home new = (new ≡ record old { by_shard = one_more old.by_shard home }) × (calls_of new ≡ calls_of old + 1)
-
--- by the answer of its shard the seat's calls rise; where the event is refused the seat is as it was
-abbrev pub SeatRises : SeatState → ℕ → Answer → SeatState → Type 0
-SeatRises old home answer new = MatchOption (node_answer answer) (new ≡ old) (λ given. Rises old home new)
-
--- an answer is such, unless the event is refused
-abbrev pub AnsweredInARun : Shape → ℕ → Event → Answer → Type 0
-AnsweredInARun shape home event answer =
-    MatchOption (node_answer answer) (Unit {0}) (λ given. IsAnsweredInARun shape home event given)
-
--- The same for a frame: the answer is of this kind, and its bytes were appended.
-pub record IsFrameAnswered (shape : Shape) (home : ℕ) (event : Event) (kind : Answered) (before after : List ℕ) : Type 0 where
-  pub given : node.Answer
-  pub is_answered : IsAnswered kind given
-  pub in_a_run : IsAnsweredInARun shape home event given
-  pub bytes : after ≡ before ++ bytes_of given
 
 -- fewer shards than 1 or more than may be, or a journal of more entries than it may keep
 abbrev pub IsBad : ℕ → ℕ → Type 0

@@ -1,8 +1,6 @@
-pub mod Machine
 pub mod Limits
 pub mod Events
 pub mod Home
-pub mod Answers
 pub mod Shard
 pub mod Replay
 pub mod Steps

@@ -1,9 +1,8 @@
 -- A shard's entries, run through the machine from the opening state, give the shard.
 use Rattle.std.specs.Prelude.{◌≡◌, ℕ, ◌<◌, ◌≤◌, ◌==◌, List, All, map, length, count_by, slice_index}
 use Rattle.coord_node.specs.Coordinator.{Coordinator, Answer, opening}
-use Rattle.coord_node.specs.Steps.{RunBy}
+use Rattle.coord_node.specs.Steps.{Run}
 use Rattle.coord_shards.specs.declared.entry.Entry.{Entry}
-use Rattle.coord_shards.specs.Machine.{NodeStep}
 use Rattle.coord_shards.specs.Limits.{MOST_SEATS}
 use Rattle.coord_shards.specs.Events.{node_event}
 use Rattle.coord_shards.specs.Home.{IsHome}
@@ -12,7 +11,7 @@ use Rattle.coord_shards.specs.Shard.{ShardState, kept_of}
 -- from the opening state the entries' events, one after the other, lead to a state
 abbrev pub RunsTo : ℕ → List Entry → Coordinator → Type 0
 RunsTo salt entries state =
-    (answers : List Answer) × RunBy NodeStep (opening salt) (map (λ e. node_event e.event) entries) answers state
+    (answers : List Answer) × Run (opening salt) (map (λ e. node_event e.event) entries) answers state
 
 -- the entries are all that was made in a shard
 pub record IsReplay (s : ShardState) (entries : List Entry) : Type 0 where

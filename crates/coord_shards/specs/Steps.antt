@@ -1,15 +1,11 @@
 -- What one step of a shard does.
-use Rattle.std.specs.Prelude.{◌≡◌, ℕ, ◌+◌, ◌<◌, ◌≤◌, List, ◌++◌, length, slice_index, sum, MatchOption}
-use Rattle.coord_node.specs.declared.event.Answered.{Answered}
-use Rattle.coord_node.specs.Coordinator.{Coordinator, opening, bytes_of}
+use Rattle.std.specs.Prelude.{◌≡◌, ℕ, ◌+◌, ◌<◌, ◌≤◌, length, slice_index, sum, MatchOption}
+use Rattle.coord_node.specs.Coordinator.{Coordinator, opening}
 use Rattle.coord_node.specs.Coordinator as node
-use Rattle.coord_node.specs.Answers.{IsAnswered}
+use Rattle.coord_node.specs.Steps.{Step}
 use Rattle.coord_shards.specs.declared.entry.Entry.{Entry}
-use Rattle.coord_shards.specs.declared.event.Event.{Event}
 use Rattle.coord_shards.specs.declared.event.Answer.{Answer}
-use Rattle.coord_shards.specs.Machine.{NodeStep}
-use Rattle.coord_shards.specs.Events.{node_event}
-use Rattle.coord_shards.specs.Answers.{node_answer}
+use Rattle.coord_shards.specs.Events.{node_event, node_answer}
 use Rattle.coord_shards.specs.Shard.{ShardState, kept_with, one_more}
 
 -- a shard that no event has come to yet
@@ -26,7 +22,7 @@ pub record IsOpening (number shards salt cap : ℕ) (s : ShardState) : Type 0 wh
 -- rises by one, and so does that of all entries.
 pub record GoesOn (old : ShardState) (entry : Entry) (given : node.Answer) (new : ShardState) : Type 0 where
   pub after : Coordinator
-  pub step : NodeStep old.present (node_event entry.event) given after
+  pub step : Step old.present (node_event entry.event) given after
   pub leaves : new ≡ record old { present = after; kept = kept_with old.cap old.kept entry; counts = one_more old.counts entry.seat }
   pub total : sum new.counts ≡ sum old.counts + 1
 
@@ -34,17 +30,6 @@ pub record GoesOn (old : ShardState) (entry : Entry) (given : node.Answer) (new 
 abbrev pub ShardStep : ShardState → Entry → Answer → ShardState → Type 0
 ShardStep old entry answer new = MatchOption (node_answer answer) (new ≡ old) (λ given. GoesOn old entry given new)
 
--- A frame's step: the shard goes on by an answer of this kind, whose bytes were appended.
-pub record FrameStep (old : ShardState) (entry : Entry) (kind : Answered) (new : ShardState) (before after : List ℕ) : Type 0 where
-  pub given : node.Answer
-  pub is_answered : IsAnswered kind given
-  pub goes_on : GoesOn old entry given new
-  pub bytes : after ≡ before ++ bytes_of given
-
 -- a journal with as many entries as it may keep; at cap 0 it never is
 abbrev pub IsFull : ShardState → Type 0
 IsFull s = (0 < s.cap) × (s.cap ≤ length s.kept)
-
--- what a node does with an event, by the answer that it gives
-abbrev pub NodeActs : Coordinator → Event → Answer → Coordinator → Type 0
-NodeActs old event answer new = MatchOption (node_answer answer) ⊥ (λ given. NodeStep old (node_event event) given new)

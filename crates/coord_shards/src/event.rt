@@ -1,8 +1,9 @@
 //! What comes to shards, and what becomes of it.
 ghost use Rattle.std.specs.Prelude.{◌≡◌, ◌↔◌, IfOk, IsTrue};
 
+use crate::incoming::{Incoming, Outcome};
 use crate::octets::Octets;
-use coord_node::ParsedBody;
+use coord_node::Answered;
 use group_types::{Moment, Stamp};
 use std::alloc::{AllocError, Global};
 use topic_meta::Image;
@@ -42,7 +43,20 @@ pub enum Answer {
 }
 
 impl Answer {
-    ghost use Rattle.std.specs.Prelude.{◌≡◌, ◌↔◌, IsTrue};
+    ghost use Rattle.std.specs.Prelude.{◌≡◌, ◌↔◌, IsTrue, Some, []};
+    ghost use Rattle.coord_node.specs.Coordinator.{Answer as GivenAnswer};
+    ghost use Rattle.coord_shards.specs.Events.{node_answer, IsGiven};
+
+    /// The answer by what became of the event, with the bytes of its reply.
+    pub(crate) fn of(outcome: Outcome, bytes: Vec<u8>) -> Answer
+        ensures { (given : GivenAnswer) → IsGiven outcome [] bytes.items given → node_answer result ≡ Some given }
+    {
+        match outcome {
+            Outcome::Answered(Answered::Replied) => Answer::Replied(Octets::of(bytes)),
+            Outcome::Answered(Answered::Closes) => Answer::Closes,
+            Outcome::Done(removed) => Answer::Done(removed),
+        }
+    }
 
     /// Whether the event was refused.
     pub fn is_refused(&self) -> bool
@@ -53,46 +67,11 @@ impl Answer {
 }
 
 impl Event {
-    /// The event that a frame is, by its body, which was read and is copied. Fails where memory is short.
-    pub(crate) fn of_frame(
-        alloc: Global,
-        parsed: &ParsedBody<'_>,
-        stamp: Stamp,
-        moment: Moment,
-    ) -> Result<Event, AllocError>
-        ensures { IfOk result (λ event. event ≡ Event.Frame parsed.now stamp moment) }
-    {
-        let body = Octets::of(Vec::from_slice(alloc, parsed.bytes())?);
-        Ok(Event::Frame {
-            body,
-            stamp,
-            moment,
-        })
-    }
-
     /// An equal event. Fails where memory is short.
     pub fn copy(&self, alloc: Global) -> Result<Event, AllocError>
         ensures { IfOk result (λ event. event ≡ self.now) }
     {
-        match self {
-            Event::Frame {
-                body,
-                stamp,
-                moment,
-            } => Ok(Event::Frame {
-                body: body.copy(alloc)?,
-                stamp: *stamp,
-                moment: *moment,
-            }),
-            Event::Tick { shard, moment } => Ok(Event::Tick {
-                shard: *shard,
-                moment: *moment,
-            }),
-            Event::Image { shard, image } => Ok(Event::Image {
-                shard: *shard,
-                image: image.copy()?,
-            }),
-        }
+        Incoming::of(alloc, self)?.copy(alloc)
     }
 
     /// Whether the two are the same event.

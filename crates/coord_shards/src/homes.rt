@@ -1,9 +1,9 @@
 //! The shard that an event is for.
-ghost use Rattle.std.specs.Prelude.{◌≡◌, ℕ, ◌+◌, ◌%◌, ◌<◌, IfOk};
+ghost use Rattle.std.specs.Prelude.{◌≡◌, ◌+◌, ◌%◌, ◌<◌, IfOk};
 ghost use Rattle.coord_shards.specs.Home.{IsHome, shard_of_group, shard_numbered};
 
 use crate::event::Event;
-use coord_node::{ParsedBody, Stamp};
+use crate::incoming::Incoming;
 use std::alloc::{AllocError, Global};
 
 /// From here on a sum of bytes is taken modulo the number of shards before the next byte: 2^32.
@@ -18,31 +18,11 @@ pub fn home(alloc: Global, event: &Event, shards: usize) -> Result<usize, AllocE
     ensures home { IfOk result (λ number. IsHome shards event.now number) }
     ensures there { IfOk result (λ number. number < shards) }
 {
-    match event {
-        Event::Frame { body, .. } => {
-            let parsed = ParsedBody::of(alloc, body.as_slice())?;
-            Ok(home_of_frame(&parsed, shards))
-        }
-        Event::Tick { shard, .. } | Event::Image { shard, .. } => Ok(shard_numbered(
-            *shard, shards,
-        )),
-    }
-}
-
-/// The number of the shard that a frame is for, of so many, by its body, which was read.
-pub(crate) fn home_of_frame(parsed: &ParsedBody<'_>, shards: usize) -> usize
-    requires { 0 < shards }
-    ensures home { (stamp : Stamp) (moment : ℕ) → IsHome shards (Event.Frame parsed.now stamp moment) result }
-    ensures there { result < shards }
-{
-    match parsed.group() {
-        Some(group) => shard_of_group(group, shards),
-        None => 0,
-    }
+    Ok(Incoming::of(alloc, event)?.home(shards))
 }
 
 /// The shard of a group, of so many shards.
-fn shard_of_group(group: &str, shards: usize) -> usize
+pub(crate) fn shard_of_group(group: &str, shards: usize) -> usize
     requires { 0 < shards }
     ensures home { result ≡ shard_of_group shards group.now }
     ensures there { result < shards }
@@ -77,7 +57,7 @@ fn sum_modulo(a: usize, b: usize, modulus: usize) -> usize
 }
 
 /// The shard with a number, of so many, or shard 0 where there is none.
-fn shard_numbered(number: usize, shards: usize) -> usize
+pub(crate) fn shard_numbered(number: usize, shards: usize) -> usize
     requires { 0 < shards }
     ensures home { result ≡ shard_numbered shards number }
     ensures there { result < shards }

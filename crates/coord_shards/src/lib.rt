@@ -13,6 +13,7 @@ mod fault;
 mod gate;
 mod held;
 mod homes;
+mod incoming;
 mod laws;
 pub mod limits;
 mod octets;

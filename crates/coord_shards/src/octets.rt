@@ -1,7 +1,6 @@
 //! Bytes that are compared as a list.
-ghost use Rattle.std.specs.Prelude.{◌≡◌, ◌↔◌, IfOk, IsTrue};
+ghost use Rattle.std.specs.Prelude.{◌≡◌, ◌↔◌, IsTrue};
 
-use std::alloc::{AllocError, Global};
 use std::marker::Model;
 
 /// Bytes. Contracts see them as a list, whatever room they have.
@@ -39,14 +38,6 @@ impl Octets {
     {
         let Octets { bytes } = self;
         bytes
-    }
-
-    /// Equal bytes. Fails where memory is short.
-    pub fn copy(&self, alloc: Global) -> Result<Octets, AllocError>
-        ensures { IfOk result (λ octets. octets ≡ self.now) }
-    {
-        let bytes = Vec::from_slice(alloc, self.as_slice())?;
-        Ok(Octets { bytes })
     }
 
     /// Whether the bytes are the same.

@@ -1,15 +1,14 @@
 //! Who calls shards.
-ghost use Rattle.std.specs.Prelude.{◌≡◌, ◌↔◌, ◌+◌, ◌<◌, ◌^◌, ℕ, [], ◌∷◌, ◌++◌, false, IsTrue, take, slice_index, length};
+ghost use Rattle.std.specs.Prelude.{◌≡◌, ◌+◌, ◌<◌, ◌^◌, OnOk, OnErr, take, slice_index};
+ghost use Rattle.coord_shards.specs.Events.{event_of};
 ghost use Rattle.coord_shards.specs.Shard.{kept_with, one_more};
-ghost use Rattle.coord_shards.specs.Seat.{SeatState, calls_of, most_calls};
-ghost use Rattle.coord_shards.specs.Seat.{IsNewSeat};
+ghost use Rattle.coord_shards.specs.Seat.{IsNewSeat, calls_of, most_calls};
 
 use crate::counts::no_counts;
-use crate::event::Event;
+use crate::incoming::Incoming;
 use crate::limits::{MOST_SEATS, MOST_SHARDS};
 use crate::sent::Sent;
-use coord_node::{Moment, ParsedBody, Stamp};
-use std::alloc::Global;
+use std::alloc::{AllocError, Global};
 use std::marker::Model;
 use std::sync::ledger::{Ledger, Share};
 
@@ -89,65 +88,28 @@ impl<C: Ledger> Seat<C> {
         self.sent.as_slice()
     }
 
-    /// Notes a copy of an event that a shard is to take, where journals keep entries. Says whether it could: not where memory is
-    /// short, and not where the seat's calls are at their greatest number.
-    pub(crate) fn note(&mut self, alloc: Global, cap: usize, shard: usize, event: &Event) -> bool
-        ensures noted { IsTrue result → self.new ≡ record self.old { sent = kept_with cap self.old.sent (record { shard = shard; event = event.now }) } }
-        ensures fits { IsTrue result → calls_of self.old + 1 < 2 ^ 64 }
-        ensures no { result ≡ false → self.new ≡ self.old }
-    {
-        if !self.has_room() {
-            return false;
-        }
-        if cap == 0 {
-            return true;
-        }
-        let Ok(event) = event.copy(alloc) else {
-            return false;
-        };
-        self.keep(shard, event)
-    }
-
-    /// Notes the event that a frame is, by a copy of its body, which was read, as [`Seat::note`] notes an event.
-    pub(crate) fn note_frame(
+    /// Notes a copy of an event that a shard is to take, where journals keep entries. Fails where memory is short, and where the
+    /// seat's calls are at their greatest number; then nothing has changed.
+    pub(crate) fn note(
         &mut self,
         alloc: Global,
         cap: usize,
         shard: usize,
-        parsed: &ParsedBody<'_>,
-        stamp: Stamp,
-        moment: Moment,
-    ) -> bool
-        ensures noted { IsTrue result →
-            self.new ≡ record self.old { sent = kept_with cap self.old.sent (record { shard = shard; event = Event.Frame parsed.now stamp moment }) } }
-        ensures fits { IsTrue result → calls_of self.old + 1 < 2 ^ 64 }
-        ensures no { result ≡ false → self.new ≡ self.old }
+        event: &Incoming<'_>,
+    ) -> Result<(), AllocError>
+        ensures noted { OnOk result (self.new
+            ≡ record self.old { sent = kept_with cap self.old.sent (record { shard = shard; event = event_of event.now }) }) }
+        ensures fits { OnOk result (calls_of self.old + 1 < 2 ^ 64) }
+        ensures err { OnErr result (self.new ≡ self.old) }
     {
-        if !self.has_room() {
-            return false;
+        if self.calls == u64::MAX {
+            return Err(AllocError);
         }
-        if cap == 0 {
-            return true;
+        if cap > 0 {
+            let event = event.copy(alloc)?;
+            self.sent.push(Sent { shard, event })?;
         }
-        let Ok(event) = Event::of_frame(alloc, parsed, stamp, moment) else {
-            return false;
-        };
-        self.keep(shard, event)
-    }
-
-    /// Puts an event last that a shard is to take. Says whether it could: not where memory is short.
-    fn keep(&mut self, shard: usize, event: Event) -> bool
-        ensures kept { IsTrue result → self.new ≡ record self.old { sent = self.old.sent ++ record { shard = shard; event = event } ∷ [] } }
-        ensures no { result ≡ false → self.new ≡ self.old }
-    {
-        self.sent.push(Sent { shard, event }).is_ok()
-    }
-
-    /// Whether one more call can be counted: not where the seat's calls are at their greatest number.
-    fn has_room(&self) -> bool
-        ensures { IsTrue result ↔ (calls_of self.now + 1 < 2 ^ 64) }
-    {
-        u64::MAX != self.calls
+        Ok(())
     }
 
     /// Forgets what was sent but for the first ones.

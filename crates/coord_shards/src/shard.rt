@@ -1,17 +1,19 @@
 //! A node with its journal.
-ghost use Rattle.std.specs.Prelude.{◌≡◌, ◌↔◌, ℕ, ◌<◌, ◌≤◌, ◌-◌, ◌^◌, IfOk, OnOk, OnErr, IsTrue, vec_len, vec_capacity, slice_index};
+ghost use Rattle.std.specs.Prelude.{◌≡◌, ◌↔◌, ◌<◌, ◌-◌, ◌^◌, IfOk, OnOk, OnErr, IsErr, IsTrue, slice_index};
+ghost use Rattle.coord_node.specs.Coordinator.{Answer as GivenAnswer};
+ghost use Rattle.coord_shards.specs.Events.{event_of, IsGiven};
 ghost use Rattle.coord_shards.specs.Home.{IsHome};
 ghost use Rattle.coord_shards.specs.Shard.{kept_with};
 ghost use Rattle.coord_shards.specs.Replay.{Replay};
-ghost use Rattle.coord_shards.specs.Steps.{IsOpening, IsFull, NodeActs, ShardStep, FrameStep};
+ghost use Rattle.coord_shards.specs.Steps.{IsOpening, IsFull, GoesOn, ShardStep};
 
 use crate::counts::no_counts;
 use crate::entry::Entry;
 use crate::event::{Answer, Event};
+use crate::incoming::{Incoming, Outcome};
 use crate::limits::MOST_SEATS;
-use crate::octets::Octets;
 use crate::plan::Plan;
-use coord_node::{Answered, Moment, Node, ParsedBody, Stamp};
+use coord_node::Node;
 use std::alloc::{AllocError, Global};
 use std::marker::Model;
 
@@ -115,49 +117,43 @@ impl Shard {
         ensures full { IsFull self.old → result ≡ Answer.Refused }
         ensures spent { slice_index self.old.counts seat ≡ 2 ^ 64 - 1 → result ≡ Answer.Refused }
     {
-        if self.is_full()
-            || self.counts[seat] == u64::MAX
-            || !makes_room(&mut self.journal, self.plan.cap)
-        {
-            return Answer::Refused;
-        }
-        let Ok(answer) = act(alloc, &mut self.node, &event) else {
+        let mut out = Vec::new(alloc);
+        let Ok(event) = Incoming::of(alloc, &event) else {
             return Answer::Refused;
         };
-        keep(&mut self.journal, self.plan.cap, Entry { seat, event });
-        self.counts[seat] += 1;
-        answer
+        match self.take(alloc, seat, &event, &mut out) {
+            Ok(outcome) => Answer::of(outcome, out),
+            Err(_) => Answer::Refused,
+        }
     }
 
-    /// Takes a frame of this shard whose body was read, as [`Shard::step`] takes the event that it is, and appends the bytes of the
-    /// answer. The body is copied only where the journal keeps entries, and before the node's step.
-    ///
-    /// Fails where [`Shard::step`] refuses. Then nothing has changed.
-    pub(crate) fn step_frame(
+    /// Takes an event of this shard from a seat, as [`Shard::step`], and appends the bytes of the answer. The event is copied only
+    /// where the journal keeps entries, and before the node's step. Fails where [`Shard::step`] refuses.
+    pub(crate) fn take(
         &mut self,
         alloc: Global,
         seat: usize,
-        parsed: &ParsedBody<'_>,
-        stamp: Stamp,
-        moment: Moment,
+        event: &Incoming<'_>,
         out: &mut Vec<u8>,
-    ) -> Result<Answered, AllocError>
+    ) -> Result<Outcome, AllocError>
         requires seat { seat < MOST_SEATS }
-        requires home { IsHome self.old.shards (Event.Frame parsed.now stamp moment) self.old.number }
-        ensures step { IfOk result (λ kind. FrameStep self.old (record { seat = seat; event = Event.Frame parsed.now stamp moment })
-            kind self.new out.old.items out.new.items) }
+        requires home { IsHome self.old.shards (event_of event.now) self.old.number }
+        ensures step { IfOk result (λ outcome. (given : GivenAnswer)
+            × IsGiven outcome out.old.items out.new.items given
+            × GoesOn self.old (record { seat = seat; event = event_of event.now }) given self.new) }
         ensures err { OnErr result ((self.new ≡ self.old) × (out.new.items ≡ out.old.items)) }
+        ensures full { IsFull self.old → IsErr result }
+        ensures spent { slice_index self.old.counts seat ≡ 2 ^ 64 - 1 → IsErr result }
     {
         if self.is_full() || self.counts[seat] == u64::MAX {
             return Err(AllocError);
         }
         let kept = self.journal.len();
-        let cap = self.plan.cap;
-        keep_frame(alloc, &mut self.journal, cap, seat, parsed, stamp, moment)?;
-        match self.node.answer_parsed(alloc, parsed, stamp, moment, out) {
-            Ok(answered) => {
+        keep(alloc, &mut self.journal, self.plan.cap, seat, event)?;
+        match event.act(alloc, &mut self.node, out) {
+            Ok(outcome) => {
                 self.counts[seat] += 1;
-                Ok(answered)
+                Ok(outcome)
             }
             Err(error) => {
                 self.journal.truncate(kept);
@@ -174,87 +170,22 @@ impl Shard {
     }
 }
 
-/// Does at a node what the machine does at an event. Where memory is short nothing has changed.
-fn act(alloc: Global, node: &mut Node, event: &Event) -> Result<Answer, AllocError>
-    ensures acts { IfOk result (λ answer. NodeActs node.old event.now answer node.new) }
-    ensures err { OnErr result (node.new ≡ node.old) }
-{
-    match event {
-        Event::Frame {
-            body,
-            stamp,
-            moment,
-        } => {
-            let parsed = ParsedBody::of(alloc, body.as_slice())?;
-            answer_frame(alloc, node, &parsed, *stamp, *moment)
-        }
-        Event::Tick { moment, .. } => Ok(Answer::Done(node.tick(*moment))),
-        Event::Image { image, .. } => {
-            node.set_image(image.copy()?);
-            Ok(Answer::Done(0))
-        }
-    }
-}
-
-/// Answers at a node, as the machine does, a frame whose body was read. Where memory is short nothing has changed.
-fn answer_frame(
-    alloc: Global,
-    node: &mut Node,
-    parsed: &ParsedBody<'_>,
-    stamp: Stamp,
-    moment: Moment,
-) -> Result<Answer, AllocError>
-    ensures acts { IfOk result (λ answer. NodeActs node.old (Event.Frame parsed.now stamp moment) answer node.new) }
-    ensures err { OnErr result (node.new ≡ node.old) }
-{
-    let mut out = Vec::new(alloc);
-    match node.answer_parsed(alloc, parsed, stamp, moment, &mut out)? {
-        Answered::Replied => Ok(Answer::Replied(Octets::of(out))),
-        Answered::Closes => Ok(Answer::Closes),
-    }
-}
-
-/// Makes room for one more entry where a journal keeps entries, and says whether there is.
-fn makes_room(journal: &mut Vec<Entry>, cap: usize) -> bool
-    ensures same { journal.new.items ≡ journal.old.items }
-    ensures room { IsTrue result → 0 < cap → vec_len journal.new < vec_capacity journal.new }
-{
-    cap == 0 || journal.reserve(1).is_ok()
-}
-
-/// Puts an entry last into a journal that keeps entries and has room for it.
-fn keep(journal: &mut Vec<Entry>, cap: usize, entry: Entry)
-    requires { 0 < cap → vec_len journal.old < vec_capacity journal.old }
-    ensures { journal.new.items ≡ kept_with cap journal.old.items entry }
-{
-    if cap == 0 {
-        return;
-    }
-    match journal.push(entry) {
-        Ok(()) => {}
-        Err(_) => unreachable!(),
-    }
-}
-
-/// Puts the entry of a frame whose body was read last into a journal that keeps entries, with a copy of the body. Where memory is
-/// short nothing has changed.
-fn keep_frame(
+/// Puts the entry of an event last into a journal that keeps entries, with a copy of the event. Where memory is short nothing has
+/// changed.
+fn keep(
     alloc: Global,
     journal: &mut Vec<Entry>,
     cap: usize,
     seat: usize,
-    parsed: &ParsedBody<'_>,
-    stamp: Stamp,
-    moment: Moment,
+    event: &Incoming<'_>,
 ) -> Result<(), AllocError>
     ensures kept { OnOk result (journal.new.items
-        ≡ kept_with cap journal.old.items (record { seat = seat; event = Event.Frame parsed.now stamp moment })) }
+        ≡ kept_with cap journal.old.items (record { seat = seat; event = event_of event.now })) }
     ensures err { OnErr result (journal.new.items ≡ journal.old.items) }
 {
-    if cap == 0 {
-        return Ok(());
+    if cap > 0 {
+        let event = event.copy(alloc)?;
+        journal.push(Entry { seat, event })?;
     }
-    let event = Event::of_frame(alloc, parsed, stamp, moment)?;
-    journal.push(Entry { seat, event })?;
     Ok(())
 }

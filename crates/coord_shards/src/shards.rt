@@ -2,13 +2,15 @@
 ghost use Rattle.std.specs.Prelude.{◌≡◌, ◌⊎◌, ◌↔◌, ◌+◌, ◌<◌, ◌≤◌, ◌^◌, ℕ, IfOk, IfErr, OnOk, OnErr, IsErrOf, vec_len};
 ghost use Rattle.coord_shards.specs.Home.{IsHome};
 ghost use Rattle.coord_shards.specs.Seat.{IsNewSeat, calls_of};
-ghost use Rattle.coord_shards.specs.Calls.{SeatCalls, TakesFrame, Rises, SeatRises, AnsweredInARun, IsFrameAnswered, IsBad};
+ghost use Rattle.coord_shards.specs.Calls.{SeatCalls, TakesFrame, IsTaken, IsAnsweredInARun, Rises, IsBad};
+ghost use Rattle.coord_shards.specs.Events.{event_of, IsGiven};
+ghost use Rattle.coord_node.specs.Coordinator.{Answer as GivenAnswer};
 
 use crate::event::{Answer, Event};
 use crate::fault::ShardFault;
 use crate::gate::Gate;
 use crate::held::Held;
-use crate::homes::{home, home_of_frame};
+use crate::incoming::{Incoming, Outcome};
 use crate::limits::{MOST_KEPT, MOST_SEATS, MOST_SHARDS};
 use crate::plan::Plan;
 use crate::registry::{Registry, fill};
@@ -131,18 +133,14 @@ impl<A: Ledger, C: Ledger, G> Shards<A, C, G> {
         G: Gate,
         ensures call { SeatCalls self.now seat.old event result seat.new }
     {
-        let Ok(number) = home(alloc, &event, self.shards.len()) else {
+        let mut out = Vec::new(alloc);
+        let Ok(event) = Incoming::of(alloc, &event) else {
             return Answer::Refused;
         };
-        let sent = seat.sent().len();
-        if !seat.note(alloc, self.plan.cap, number, &event) {
-            return Answer::Refused;
+        match self.take(rt, alloc, seat, &event, &mut out) {
+            Ok(outcome) => Answer::of(outcome, out),
+            Err(_) => Answer::Refused,
         }
-        let answer = self.take(rt, alloc, number, seat, event);
-        if answer.is_refused() {
-            seat.forget(sent);
-        }
-        answer
     }
 
     /// Answers the body of a frame from a seat, as [`Shards::call`] answers the event that it is: appends the one frame of the reply,
@@ -167,89 +165,63 @@ impl<A: Ledger, C: Ledger, G> Shards<A, C, G> {
             TakesFrame self.now seat.old (Event.Frame body.now stamp moment) kind seat.new out.old.items out.new.items) }
         ensures err { OnErr result ((seat.new ≡ seat.old) × (out.new.items ≡ out.old.items)) }
     {
-        match ParsedBody::of(alloc, body) {
-            Ok(parsed) => self.answer_parsed(rt, alloc, seat, &parsed, stamp, moment, out),
-            Err(error) => Err(error),
+        let body = ParsedBody::of(alloc, body)?;
+        let event = Incoming::Frame {
+            body,
+            stamp,
+            moment,
+        };
+        match self.take(rt, alloc, seat, &event, out)? {
+            Outcome::Answered(answered) => Ok(answered),
+            Outcome::Done(_) => unreachable!(),
         }
     }
 
-    /// Answers a frame whose body was read, from a seat.
-    fn answer_parsed<R: Wait>(
-        &self,
-        rt: &R,
-        alloc: Global,
-        seat: &mut Seat<C>,
-        parsed: &ParsedBody<'_>,
-        stamp: Stamp,
-        moment: Moment,
-        out: &mut Vec<u8>,
-    ) -> Result<Answered, AllocError>
-    where
-        G: Gate,
-        ensures taken { IfOk result (λ kind.
-            TakesFrame self.now seat.old (Event.Frame parsed.now stamp moment) kind seat.new out.old.items out.new.items) }
-        ensures err { OnErr result ((seat.new ≡ seat.old) × (out.new.items ≡ out.old.items)) }
-    {
-        let number = home_of_frame(parsed, self.shards.len());
-        let before = seat.sent().len();
-        if !seat.note_frame(alloc, self.plan.cap, number, parsed, stamp, moment) {
-            return Err(AllocError);
-        }
-        let answered = self.take_frame(rt, alloc, number, seat, parsed, stamp, moment, out);
-        if answered.is_err() {
-            seat.forget(before);
-        }
-        answered
-    }
-
-    /// The shard with a number takes an event of its own from a seat, under its lock.
+    /// The shard that is an event's home takes it from a seat, and appends the bytes of the answer. Where that fails nothing has
+    /// changed.
     fn take<R: Wait>(
         &self,
         rt: &R,
         alloc: Global,
-        number: usize,
         seat: &mut Seat<C>,
-        event: Event,
-    ) -> Answer
+        event: &Incoming<'_>,
+        out: &mut Vec<u8>,
+    ) -> Result<Outcome, AllocError>
     where
         G: Gate,
-        requires home { IsHome self.now.shards event number }
-        requires there { number < self.now.shards }
-        requires fits { calls_of seat.old + 1 < 2 ^ 64 }
-        ensures answer { AnsweredInARun self.now number event result }
-        ensures seat { SeatRises seat.old number result seat.new }
+        ensures taken { IfOk result (λ outcome. (given : GivenAnswer)
+            × IsGiven outcome out.old.items out.new.items given
+            × IsTaken self.now seat.old (event_of event.now) given seat.new) }
+        ensures err { OnErr result ((seat.new ≡ seat.old) × (out.new.items ≡ out.old.items)) }
     {
-        let mut guard = self.shards[number].lock(rt);
-        let held = &mut *guard;
-        if !held
-            .shard
-            .is_itself(number, self.shards.len(), self.plan.salt)
-        {
-            return Answer::Refused;
+        let number = event.home(self.shards.len());
+        let sent = seat.sent().len();
+        seat.note(alloc, self.plan.cap, number, event)?;
+        let taken = self.take_at(rt, alloc, number, seat, event, out);
+        if taken.is_err() {
+            seat.forget(sent);
         }
-        self.gate.inside(number);
-        held.step(alloc, seat, event)
+        taken
     }
 
-    /// The shard with a number takes a frame of its own, whose body was read, from a seat, under its lock.
-    fn take_frame<R: Wait>(
+    /// The shard with a number takes an event of its own from a seat, under its lock.
+    fn take_at<R: Wait>(
         &self,
         rt: &R,
         alloc: Global,
         number: usize,
         seat: &mut Seat<C>,
-        parsed: &ParsedBody<'_>,
-        stamp: Stamp,
-        moment: Moment,
+        event: &Incoming<'_>,
         out: &mut Vec<u8>,
-    ) -> Result<Answered, AllocError>
+    ) -> Result<Outcome, AllocError>
     where
         G: Gate,
-        requires home { IsHome self.now.shards (Event.Frame parsed.now stamp moment) number }
+        requires home { IsHome self.now.shards (event_of event.now) number }
         requires there { number < self.now.shards }
         requires fits { calls_of seat.old + 1 < 2 ^ 64 }
-        ensures answered { IfOk result (λ kind.
-            IsFrameAnswered self.now number (Event.Frame parsed.now stamp moment) kind out.old.items out.new.items) }
+        ensures answered { IfOk result (λ outcome. (given : GivenAnswer)
+            × IsGiven outcome out.old.items out.new.items given
+            × IsAnsweredInARun self.now number (event_of event.now) given) }
         ensures seat { OnOk result (Rises seat.old number seat.new) }
         ensures err { OnErr result ((seat.new ≡ seat.old) × (out.new.items ≡ out.old.items)) }
     {
@@ -262,7 +234,7 @@ impl<A: Ledger, C: Ledger, G> Shards<A, C, G> {
             return Err(AllocError);
         }
         self.gate.inside(number);
-        held.step_frame(alloc, seat, parsed, stamp, moment, out)
+        held.take(alloc, seat, event, out)
     }
 }
 

@@ -2,9 +2,9 @@
 //! node of their own, give the answers that the callers had.
 ghost use Rattle.std.specs.Prelude.{◌≡◌};
 
-use crate::events::{beat_body, body_of, frame_of, put_answer};
+use crate::events::{ask, beat_body, body_of, put_answer};
 use coord_node::{Answered, Node};
-use coord_shards::{AlwaysOpen, Answer, Entry, Event, Moment, Octets, Seat, Shard, Shards, Stamp};
+use coord_shards::{AlwaysOpen, Answer, Entry, Event, Seat, Shard, Shards, Stamp};
 use kip_msgs::{Api, Reply, read_reply};
 use std::alloc::{AllocError, Global};
 use std::collections::hash_map::RandomState;
@@ -138,8 +138,12 @@ fn call_by_two<A: Ledger + Sync, C: Ledger + Sync, R: Threads + Wait + Sync>(
         || join_all(rt, alloc, shards, other, joins),
     );
     let (mut first, second) = (first?, second?);
-    let event = beat(alloc, &second)?;
-    first.push(shards.call(rt, alloc, one, event))?;
+    let stamp = Stamp {
+        connection: 2,
+        frame: 1,
+    };
+    let body = beat(alloc, &second)?;
+    first.push(ask(rt, alloc, shards, one, &body, stamp))?;
     Ok(Answers { first, second })
 }
 
@@ -175,28 +179,24 @@ fn call_twice<A: Ledger, C: Ledger, R: Wait>(
     group: &str,
     number: u64,
 ) -> Result<Answer, AllocError> {
-    let connection = seat.number() as u64;
-    let event = join(alloc, group, connection, number);
-    let event = event.or_else(|_| join(alloc, group, connection, number))?;
-    let answer = shards.call(rt, alloc, seat, event);
+    let stamp = Stamp {
+        connection: seat.number() as u64,
+        frame: number,
+    };
+    let body = body_of(alloc, group).or_else(|_| body_of(alloc, group))?;
+    let answer = ask(rt, alloc, shards, seat, &body, stamp);
     if answer.is_refused() {
-        let event = join(alloc, group, connection, number)?;
-        return Ok(shards.call(rt, alloc, seat, event));
+        return Ok(ask(rt, alloc, shards, seat, &body, stamp));
     }
     Ok(answer)
 }
 
-fn join(alloc: Global, group: &str, connection: u64, frame: u64) -> Result<Event, AllocError> {
-    Ok(frame_of(body_of(alloc, group)?, connection, frame))
-}
-
-/// A heartbeat of the member that the first of these answers made, in group `a`.
-fn beat(alloc: Global, answers: &[Answer]) -> Result<Event, AllocError> {
-    let body = match answers.first() {
-        Some(Answer::Replied(frame)) => beat_of(alloc, frame.as_slice())?,
-        _ => Vec::new(alloc),
-    };
-    Ok(frame_of(body, 2, 1))
+/// The body of a heartbeat of the member that the first of these answers made, in group `a`.
+fn beat(alloc: Global, answers: &[Answer]) -> Result<Vec<u8>, AllocError> {
+    match answers.first() {
+        Some(Answer::Replied(frame)) => beat_of(alloc, frame.as_slice()),
+        _ => Ok(Vec::new(alloc)),
+    }
 }
 
 /// The heartbeat of the member that a reply made.

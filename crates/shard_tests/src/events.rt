@@ -1,8 +1,12 @@
 //! Events that come to shards, and what is told of their answers.
 
-use coord_shards::{Answer, Event, Moment, Octets, Stamp, home};
+use coord_shards::{
+    AlwaysOpen, Answer, Answered, Event, Moment, Octets, Seat, Shards, Stamp, home,
+};
 use kip_msgs::{Api, Assignment, HeartbeatReply, Reply, read_reply};
 use std::alloc::{AllocError, Global};
+use std::sync::Wait;
+use std::sync::ledger::Ledger;
 use std::test::Fail;
 use test_support::tables::{Answers, cut, number, wrong_rows};
 use topic_meta::{Image, TopicEntry};
@@ -83,7 +87,7 @@ fn image_of(alloc: Global, count: i32) -> Result<Image, AllocError> {
 }
 
 /// A frame that comes at 0 ms.
-pub fn frame_of(body: Vec<u8>, connection: u64, frame: u64) -> Event {
+fn frame_of(body: Vec<u8>, connection: u64, frame: u64) -> Event {
     Event::Frame {
         body: Octets::of(body),
         stamp: Stamp { connection, frame },
@@ -134,6 +138,23 @@ fn put_text(body: &mut Vec<u8>, text: &str) -> Result<(), AllocError> {
     let len = u8::try_from(text.len()).unwrap_or(0);
     body.push(len.saturating_add(1))?;
     body.extend_from_slice(text.as_bytes())
+}
+
+/// Sends the body of a frame from a seat, at 0 ms, as a server does.
+pub fn ask<A: Ledger, C: Ledger, R: Wait>(
+    rt: &R,
+    alloc: Global,
+    shards: &Shards<A, C, AlwaysOpen>,
+    seat: &mut Seat<C>,
+    body: &[u8],
+    stamp: Stamp,
+) -> Answer {
+    let (moment, mut out) = (Moment::of_millis(0), Vec::new(alloc));
+    match shards.answer(rt, alloc, seat, body, stamp, moment, &mut out) {
+        Ok(Answered::Replied) => Answer::Replied(Octets::of(out)),
+        Ok(Answered::Closes) => Answer::Closes,
+        Err(_) => Answer::Refused,
+    }
 }
 
 /// Appends what an answer is: `CODE@EPOCH:SHOWN` of a reply to a heartbeat, `closes`, `done:N` or `refused`.

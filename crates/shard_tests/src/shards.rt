@@ -2,10 +2,8 @@
 //! homes, caps and seats.
 ghost use Rattle.std.specs.Prelude.{◌≡◌, ◌+◌, ◌≤◌};
 
-use crate::events::{body_of, event_of, put_answer};
-use coord_shards::{
-    AlwaysOpen, Answer, Answered, Moment, Octets, Seat, Shard, ShardFault, Shards, Stamp,
-};
+use crate::events::{ask, body_of, event_of, put_answer};
+use coord_shards::{AlwaysOpen, Answer, Seat, Shard, ShardFault, Shards, Stamp};
 use std::alloc::{AllocError, Global};
 use std::collections::hash_map::RandomState;
 use std::marker::Brand;
@@ -223,12 +221,7 @@ fn send<A: Ledger, C: Ledger, R: Wait>(
         connection: 1,
         frame: step.frame,
     };
-    let (moment, mut out) = (Moment::of_millis(0), Vec::new(alloc));
-    match shards.answer(rt, alloc, seat, body.as_slice(), stamp, moment, &mut out) {
-        Ok(Answered::Replied) => Ok(Answer::Replied(Octets::of(out))),
-        Ok(Answered::Closes) => Ok(Answer::Closes),
-        Err(_) => Ok(Answer::Refused),
-    }
+    Ok(ask(rt, alloc, shards, seat, &body, stamp))
 }
 
 /// Closes the shards without the last seat, and then with all, and tells what they come to.

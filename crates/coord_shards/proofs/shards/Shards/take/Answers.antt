@@ -1,10 +1,25 @@
-use Rattle.std.proofs.Common.{subst, ◌∙◌}
-use Rattle.coord_shards.specs.Calls.{Shape, AnsweredInARun}
-use Rattle.coord_shards.proofs.CallLemmas.{AnsweredInARun-ShardStep}
+use Rattle.std.proofs.Common.{◌≡◌, ℕ, subst, ap, ◌∙◌}
+use Rattle.coord_shards.specs.Events.{event_of, IsGiven}
+use Rattle.coord_shards.specs.Home.{IsHome}
+use Rattle.coord_shards.specs.Calls.{Shape}
+use Rattle.coord_shards.specs.Seat.{SeatState}
+use Rattle.coord_shards.specs.Shard.{kept_with}
+use Rattle.coord_shards.proofs.CallLemmas.{IsTaken-rises}
 use Rattle.coord_shards.proofs.shards.Shards.take.Goals as goal
 
-pub returns-clause-answer : goal.returns-clause-answer
-returns-clause-answer g c =
-    let itself = c.is_itself.ensures.itself.0 c.if-not-is_itself.false in
-    subst (λ (shape : Shape). AnsweredInARun shape c.args.number c.args.event c.step.result) c.self.view_is
-    (AnsweredInARun-ShardStep _ c.args.number _ _ c.step.result _ (itself.0, itself.1 ∙ c.len.ensures, itself.2) c.is_itself.ensures.replay c.step.ensures.step)
+pub take_at-taken-requires-clause-home : goal.take_at-taken-requires-clause-home
+take_at-taken-requires-clause-home g c =
+    subst (λ (n : ℕ). IsHome n (event_of c.args.event.now) c.home-number.result)
+    (c.len.ensures ∙ ap (λ (s : Shape). s.shards) c.self.view_is) c.home-number.ensures.home
+
+pub returns-else-is_err-clause-taken : goal.returns-else-is_err-clause-taken
+returns-else-is_err-clause-taken g c =
+    let event = event_of c.args.event.now in
+    let shards : c.len.result ≡ c.args.self.now.shards = c.len.ensures ∙ ap (λ (s : Shape). s.shards) c.self.view_is in
+    let home = subst (λ (n : ℕ). IsHome n event c.home-number.result) shards c.home-number.ensures.home in
+    let noted_with : Shape → SeatState =
+    λ shape. record c.args.seat.now { sent = kept_with shape.cap c.args.seat.now.sent (record { shard = c.home-number.result; event = event }) } in
+    let noted = c.in_ok-note.ensures.noted ∙ ap noted_with c.self.view_is in
+    IsTaken-rises (λ outcome. IsGiven outcome c.args.out.now.items c.take_at-taken.new.out.items) c.args.self.now c.args.seat.now c.note.new.self c.take_at-taken.new.seat
+    event c.home-number.result c.take_at-taken.result
+    noted home c.take_at-taken.ensures.answered c.take_at-taken.ensures.seat

@@ -1,23 +1,26 @@
 use Rattle.std.proofs.Common.{◌≡◌, take, length, sym, subst, arith, ◌∙◌}
+use Rattle.coord_node.specs.Coordinator.{Answer}
 use Rattle.coord_shards.specs.declared.entry.Entry.{Entry}
-use Rattle.coord_shards.specs.declared.event.Event.TheVariants.{Frame}
+use Rattle.coord_shards.specs.Events.{event_of, IsGiven}
 use Rattle.coord_shards.specs.Home.{IsHome}
 use Rattle.coord_shards.specs.Shard.{ShardState, one_more}
 use Rattle.coord_shards.specs.ShardView.{shard_view}
-use Rattle.coord_shards.specs.Steps.{IsFull, FrameStep}
+use Rattle.coord_shards.specs.Steps.{IsFull, GoesOn}
 use Rattle.coord_shards.specs.Replay.{IsShard}
-use Rattle.coord_shards.proofs.StepLemmas.{frame-is, room-is, take-kept_with}
-use Rattle.coord_shards.proofs.shard.Shard.step_frame.Goals as goal
+use Rattle.coord_shards.proofs.StepLemmas.{taken-is, room-is, take-kept_with}
+use Rattle.coord_shards.proofs.shard.Shard.take.Goals as goal
 
 abbrev entry_of : goal.After-self-1 → Entry
-entry_of c = record { seat = c.args.seat; event = Frame c.args.parsed.now c.args.stamp c.args.moment }
+entry_of c = record { seat = c.args.seat; event = event_of c.args.event.now }
 
--- what is of the shard once the frame was answered, and that this is a step
+-- what is of the shard once the event was acted on, and that this is a step
 abbrev after : goal.After-self-1 → ShardState
-after c = shard_view (record c.self.inside { node = c.answer_parsed.new.self; journal = c.keep_frame.new.journal; counts = one_more c.self.inside.counts c.args.seat })
+after c = shard_view (record c.self.inside { node = c.act.new.node; journal = c.keep.new.journal; counts = one_more c.self.inside.counts c.args.seat })
 
-goes-on : (c : goal.After-self-1)
-    → IsShard (after c) × FrameStep (shard_view c.self.inside) (entry_of c) c.in-Ok.answered (after c) c.args.out.now.items c.answer_parsed.new.out.items
+abbrev Says : goal.After-self-1 → Answer → Type 0
+Says c given = IsGiven c.in-Ok.outcome c.args.out.now.items c.act.new.out.items given
+
+goes-on : (c : goal.After-self-1) → IsShard (after c) × ((given : Answer) × Says c given × GoesOn (shard_view c.self.inside) (entry_of c) given (after c))
 goes-on c =
     let home : IsHome c.self.inside.shards (entry_of c).event c.self.inside.number =
     subst (λ (s : ShardState). IsHome s.shards (entry_of c).event s.number) (sym c.self.view_is) c.requires.home in
@@ -26,20 +29,20 @@ goes-on c =
     let yes = c.is_full.ensures.1 is_full in
     let no = c.if-is_full.false in
     cc) in
-    frame-is (shard_view c.self.inside) (entry_of c) c.in-Ok.answered c.answer_parsed.new.self c.keep_frame.new.journal.items c.args.out.now.items c.answer_parsed.new.out.items
-    c.requires.seat home room c.in-Ok.ensures.step c.in_ok-keep_frame.ensures.kept c.self.invariant
+    taken-is (Says c) (shard_view c.self.inside) (entry_of c) c.act.new.node c.keep.new.journal.items
+    c.requires.seat home room c.in-Ok.ensures.acts c.in_ok-keep.ensures.kept c.self.invariant
 
 pub invariant_of-self-in-Ok : goal.invariant_of-self-in-Ok
 invariant_of-self-in-Ok c = (goes-on c).0
 
 pub returns-in-Ok-clause-step : goal.returns-in-Ok-clause-step
 returns-in-Ok-clause-step c =
-    subst (λ (old : ShardState). FrameStep old (entry_of c) c.in-Ok.answered (after c) c.args.out.now.items c.answer_parsed.new.out.items) c.self.view_is (goes-on c).1
+    subst (λ (old : ShardState). (given : Answer) × Says c given × GoesOn old (entry_of c) given (after c)) c.self.view_is (goes-on c).1
 
 pub invariant_of-self-in-Err : goal.invariant_of-self-in-Err
 invariant_of-self-in-Err c =
     let old : ShardState = shard_view c.self.inside in
     let len : c.len-kept.result ≡ length old.kept = omega (arith, c.len-kept.ensures, c.self.inside.journal.ok.0) in
     let kept : c.truncate.new.self.items ≡ old.kept =
-    c.truncate.ensures.items ∙ (λ i. take (len i) (c.in_ok-keep_frame.ensures.kept i)) ∙ take-kept_with old.cap old.kept _ in
+    c.truncate.ensures.items ∙ (λ i. take (len i) (c.in_ok-keep.ensures.kept i)) ∙ take-kept_with old.cap old.kept _ in
     subst IsShard (λ i. record old { present = sym c.in-Err.ensures.err.0 i; kept = sym kept i }) c.self.invariant

@@ -1,0 +1,139 @@
+//! Events on their way to a shard.
+ghost use Rattle.std.specs.Prelude.{◌≡◌, ◌<◌, IfOk, OnErr};
+ghost use Rattle.coord_node.specs.Coordinator.{Answer as GivenAnswer};
+ghost use Rattle.coord_node.specs.Steps.{Step};
+ghost use Rattle.coord_shards.specs.Home.{IsHome};
+ghost use Rattle.coord_shards.specs.Events.{node_event, event_of, IsGiven};
+
+use crate::event::Event;
+use crate::homes::{shard_numbered, shard_of_group};
+use crate::octets::Octets;
+use coord_node::{Answered, Moment, Node, ParsedBody, Stamp};
+use std::alloc::{AllocError, Global};
+use topic_meta::Image;
+
+/// An event on its way to its shard: all of it is lent, and a frame's body was read, once.
+#[derive(Drop)]
+pub(crate) enum Incoming<'a> {
+    Frame {
+        body: ParsedBody<'a>,
+        stamp: Stamp,
+        moment: Moment,
+    },
+    Tick {
+        shard: usize,
+        moment: Moment,
+    },
+    Image {
+        shard: usize,
+        image: &'a Image,
+    },
+}
+
+/// What became of an event. The bytes of a reply were appended.
+#[derive(Clone, Copy)]
+pub(crate) enum Outcome {
+    /// What became of a frame.
+    Answered(Answered),
+    /// How many members a tick removed; 0 for an image.
+    Done(usize),
+}
+
+impl<'a> Incoming<'a> {
+    /// An event, lent. Fails where memory is too short to read its frame.
+    pub(crate) fn of(alloc: Global, event: &'a Event) -> Result<Incoming<'a>, AllocError>
+        ensures { IfOk result (λ incoming. event_of incoming ≡ event.now) }
+    {
+        match event {
+            Event::Frame {
+                body,
+                stamp,
+                moment,
+            } => Ok(Incoming::Frame {
+                body: ParsedBody::of(alloc, body.as_slice())?,
+                stamp: *stamp,
+                moment: *moment,
+            }),
+            Event::Tick { shard, moment } => Ok(Incoming::Tick {
+                shard: *shard,
+                moment: *moment,
+            }),
+            Event::Image { shard, image } => Ok(Incoming::Image {
+                shard: *shard,
+                image,
+            }),
+        }
+    }
+
+    /// The event, copied. Fails where memory is short.
+    pub(crate) fn copy(&self, alloc: Global) -> Result<Event, AllocError>
+        ensures { IfOk result (λ event. event ≡ event_of self.now) }
+    {
+        match self {
+            Incoming::Frame {
+                body,
+                stamp,
+                moment,
+            } => Ok(Event::Frame {
+                body: Octets::of(Vec::from_slice(alloc, body.bytes())?),
+                stamp: *stamp,
+                moment: *moment,
+            }),
+            Incoming::Tick { shard, moment } => Ok(Event::Tick {
+                shard: *shard,
+                moment: *moment,
+            }),
+            Incoming::Image { shard, image } => Ok(Event::Image {
+                shard: *shard,
+                image: image.copy()?,
+            }),
+        }
+    }
+
+    /// The number of the shard that the event is for, of so many.
+    pub(crate) fn home(&self, shards: usize) -> usize
+        requires { 0 < shards }
+        ensures home { IsHome shards (event_of self.now) result }
+        ensures there { result < shards }
+    {
+        match self {
+            Incoming::Frame { body, .. } => match body.group() {
+                Some(group) => shard_of_group(group, shards),
+                None => 0,
+            },
+            Incoming::Tick { shard, .. } | Incoming::Image { shard, .. } => {
+                shard_numbered(*shard, shards)
+            }
+        }
+    }
+
+    /// Does at a node what the machine does at the event, and appends the bytes of the answer. Where memory is short nothing has
+    /// changed.
+    pub(crate) fn act(
+        &self,
+        alloc: Global,
+        node: &mut Node,
+        out: &mut Vec<u8>,
+    ) -> Result<Outcome, AllocError>
+        ensures acts { IfOk result (λ outcome. (given : GivenAnswer)
+            × IsGiven outcome out.old.items out.new.items given
+            × Step node.old (node_event (event_of self.now)) given node.new) }
+        ensures err { OnErr result ((node.new ≡ node.old) × (out.new.items ≡ out.old.items)) }
+    {
+        match self {
+            Incoming::Frame {
+                body,
+                stamp,
+                moment,
+            } => {
+                let answered = node.answer_parsed(alloc, body, *stamp, *moment, out)?;
+                Ok(Outcome::Answered(answered))
+            }
+            Incoming::Tick { moment, .. } => Ok(Outcome::Done(node.tick(*moment))),
+            Incoming::Image { image, .. } => {
+                node.set_image(image.copy()?);
+                Ok(Outcome::Done(0))
+            }
+        }
+    }
+}
