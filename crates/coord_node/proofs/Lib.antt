@@ -12,3 +12,6 @@ pub mod AbsentLemmas
 pub mod CommitLengths
 pub mod CommitLemmas
 pub mod TickLemmas
+pub mod FittingAnswers
+pub mod KeptViews
+pub mod AnsweredEvents

@@ -9,3 +9,4 @@ pub mod Answers
 pub mod Absent
 pub mod Events
 pub mod Parsed
+pub mod Existence

@@ -1,8 +1,9 @@
 //! Laws of the coordinator's steps, proved where nothing runs.
+ghost use Rattle.coord_node.specs.Existence.{CoordinatorsServe, EventsAreAnswered, RunsAreAnswered};
 ghost use Rattle.coord_node.specs.Laws.{AnswersFirstJoins, GroupsAreSound, OneAnswer, StepsAreSound};
 ghost use Rattle.coord_node.specs.Steps.{Step};
 
-use group_core::heartbeats_have_one_answer;
+use group_core::{heartbeats_have_an_answer, heartbeats_have_one_answer};
 use group_types::{commits_are_sound, every_group_is_sound, heartbeats_are_sound, ticks_are_sound};
 use kip_msgs::one_request_a_body;
 
@@ -36,6 +37,30 @@ pub fn steps_are_sound()
 /// partition, among others.
 pub fn groups_are_sound()
     ensures { GroupsAreSound Step }
+{
+    steps_are_sound();
+}
+
+/// Whatever comes to a coordinator that serves is answered, and it serves on; with `one_answer` exactly one answer. Bodies are of
+/// bytes, and images have an image's topics.
+pub fn events_are_answered()
+    ensures { EventsAreAnswered }
+{
+    heartbeats_have_an_answer();
+    every_group_is_sound();
+    steps_are_sound();
+}
+
+/// Whatever comes to a coordinator since its opening, each event has its answer.
+pub fn runs_are_answered()
+    ensures { RunsAreAnswered }
+{
+    events_are_answered();
+}
+
+/// Whatever came to a coordinator since its opening, it serves.
+pub fn coordinators_serve()
+    ensures { CoordinatorsServe }
 {
     steps_are_sound();
 }

@@ -25,3 +25,5 @@ pub mod TakenIn
 pub mod SteadyBeats
 pub mod Marking
 pub mod Ticking
+pub mod SomeTarget
+pub mod SomeStep

@@ -135,7 +135,7 @@ not_before es sorted i j m n is_m is_n same rise =
     ∙ sym (ap (λ (e : Text × Record). e.0) (get_or_from_slice_get es j y x is_y)) in
     keys_apart es sorted i j x rise (slice_get_within es j y is_y) keys
 
-entries_apart : (records : Records) → IdsAreApart (map subscriber_of (finite.entries records))
+pub entries_apart : (records : Records) → IdsAreApart (map subscriber_of (finite.entries records))
 entries_apart records = λ i j m n is_m is_n same.
     let es : List (Text × Record) = finite.entries records in
     elim (cases_order i j) [

@@ -10,3 +10,4 @@ pub mod Commits
 pub mod Laws
 pub mod Stages
 pub mod Steady
+pub mod Existence

@@ -1,10 +1,22 @@
 //! Laws of the group's machine, proved where nothing runs.
 
+ghost use Rattle.group_core.specs.Existence.{HasAnAnswer, TargetsExist};
 ghost use Rattle.group_core.specs.Laws.{FirstJoinsAreAnswered, HasOneAnswer};
 
 /// A heartbeat has one answer in a group, and leaves one group.
 pub fn heartbeats_have_one_answer()
     ensures { HasOneAnswer }
+{}
+
+/// There is a target over the topics of an image, whatever the members, the assignor that they ask for and the former owners.
+pub fn targets_exist()
+    ensures { TargetsExist }
+{}
+
+/// A heartbeat has an answer in every group: together with `heartbeats_have_one_answer` exactly one. Of the stored view and
+/// the node's image it is asked that they are of the topics of an image.
+pub fn heartbeats_have_an_answer()
+    ensures { HasAnAnswer }
 {}
 
 /// A join of a group that nobody has joined, under no member id and no instance id, is answered and never closes: it is

@@ -43,7 +43,9 @@ pub use group_reconcile::Grants;
 pub use group_target::Target;
 pub use group_types::{Code, Epoch, EpochNumber, MemberId, Moment, PartSet, Partition, Stamp};
 pub use kip_msgs::{CommitReply, CommitRequest, HeartbeatRequest};
-pub use laws::{first_joins_are_answered, heartbeats_have_one_answer};
+pub use laws::{
+    first_joins_are_answered, heartbeats_have_an_answer, heartbeats_have_one_answer, targets_exist,
+};
 pub use outcome::{Outcome, Reply};
 pub use reply_id::ReplyId;
 pub use shown::Shown;

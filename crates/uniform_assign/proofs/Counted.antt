@@ -41,7 +41,7 @@ length-filter_put test p id (e ∷ es) none =
           omega arith
     ] none
 
-count-insert : (spread : Spread) (p : Partition) (owner id : Text) → finite.get spread p ≡ None → count (finite.insert spread p owner) id ≡ count spread id + cond (eq_by_cmp text_cmp id owner) 1 0
+pub count-insert : (spread : Spread) (p : Partition) (owner id : Text) → finite.get spread p ≡ None → count (finite.insert spread p owner) id ≡ count spread id + cond (eq_by_cmp text_cmp id owner) 1 0
 count-insert spread p owner id none =
     ap (λ es. length (filter (λ e. eq_by_cmp text_cmp id e.1) es)) (finite.entries-insert partition_cmp_total spread p owner)
     ∙ length-filter_put (λ e. eq_by_cmp text_cmp id e.1) p owner (entries spread) (sym (finite.get-entries spread p) ∙ none)
@@ -50,7 +50,7 @@ count-empty : (id : Text) → count finite.empty id ≡ 0
 count-empty id =
     ap (λ es. length (filter (λ e. eq_by_cmp text_cmp id e.1) es)) (nil_from_length (entries {X = Text} {R = partition_cmp} finite.empty) (sym (finite.len-entries {R = partition_cmp} finite.empty) ∙ finite.len-empty partition_cmp Text))
 
-same_ids : (subs : List Subscriber) → IdsAreApart subs → (i j : ℕ) (m n : Subscriber) → slice_get subs i ≡ Some m → slice_get subs j ≡ Some n → eq_by_cmp text_cmp n.id m.id ≡ (i == j)
+pub same_ids : (subs : List Subscriber) → IdsAreApart subs → (i j : ℕ) (m n : Subscriber) → slice_get subs i ≡ Some m → slice_get subs j ≡ Some n → eq_by_cmp text_cmp n.id m.id ≡ (i == j)
 same_ids subs apart i j m n is_m is_n =
     elim (i == j) as (λ b. (i == j) ≡ b → eq_by_cmp text_cmp n.id m.id ≡ b) [
       | true ↦ λ tie.

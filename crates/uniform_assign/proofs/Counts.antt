@@ -87,7 +87,7 @@ length-one_moved counts from to =
     let less = set_at counts from (get_or counts from 0 - 1) in
     length-set less to (get_or less to 0 + 1) ∙ length-set counts from (get_or counts from 0 - 1)
 
-one_moved-at : (counts : List ℕ) (from to m : ℕ) → from < length counts → to < length counts → 0 < get_or counts from 0
+pub one_moved-at : (counts : List ℕ) (from to m : ℕ) → from < length counts → to < length counts → 0 < get_or counts from 0
     → get_or (one_moved counts from to) m 0 + cond (from == m) 1 0 ≡ get_or counts m 0 + cond (to == m) 1 0
 one_moved-at counts from to m from_in to_in some =
     let less = set_at counts from (get_or counts from 0 - 1) in

@@ -33,3 +33,8 @@ pub mod Queued
 pub mod Located
 pub mod Staying
 pub mod Turned
+pub mod Choices
+pub mod Keeping
+pub mod Filling
+pub mod Levelling
+pub mod SomeSpread

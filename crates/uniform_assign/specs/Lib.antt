@@ -10,3 +10,4 @@ pub mod Piles
 pub mod Rankings
 pub mod Seats
 pub mod Wheels
+pub mod Existence

@@ -1,5 +1,6 @@
 //! What holds of the owners under uniform, whatever the members, the topics and the former owners.
 
+ghost use Rattle.uniform_assign.specs.Existence.{UniformHasASpread};
 ghost use Rattle.uniform_assign.specs.Laws.{LawfulAndEvenOwnersStay, UniformIsEven, UniformIsLawful, UniformIsOneSpread};
 
 /// The owners under uniform are lawful: each partition that some member subscribes has exactly one owner, who
@@ -21,4 +22,10 @@ pub fn lawful_and_even_owners_stay()
 /// The rule has one result: two spreads under uniform, of the same former owners, are one.
 pub fn uniform_is_one_spread()
     ensures { UniformIsOneSpread }
+{}
+
+/// The rule has a result: for members no two of whom have one id there is a spread under uniform, whatever the topics and
+/// the former owners.
+pub fn uniform_has_a_spread()
+    ensures { UniformHasASpread }
 {}

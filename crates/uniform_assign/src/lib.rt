@@ -29,7 +29,8 @@ mod wheel;
 
 pub use group_types::{AssignorName, MemberId, NameSet, PartSet, Partition};
 pub use laws::{
-    lawful_and_even_owners_stay, uniform_is_even, uniform_is_lawful, uniform_is_one_spread,
+    lawful_and_even_owners_stay, uniform_has_a_spread, uniform_is_even, uniform_is_lawful,
+    uniform_is_one_spread,
 };
 pub use range_assign::{Assignor, Share, Spread, Subs, Subscriber};
 pub use topic_meta::{View, ViewTopic};
