@@ -1,7 +1,7 @@
 -- What a worker gives behind a step of one of its lines, it gives before it.
-use Rattle.std.proofs.Common.{◌≡◌, ◌≢◌, ◌⊎◌, ℕ, ◌+◌, ◌-◌, ◌^◌, ◌<◌, ◌≤◌, min, true, false, List, [], ◌∷◌, ◌++◌, length, get_or, set, All, Contains, Option, Some, None, IsSomeAnd, Ok, Err, Result, inl, inr, ⊎_elim, refl, sym, ap, ◌∙◌, subst, arith, append_assoc, length-append, length-set, get_or-set_other, get_or-set_same}
+use Rattle.std.proofs.Common.{◌≡◌, ◌≢◌, ◌⊎◌, ℕ, ◌+◌, ◌-◌, ◌^◌, ◌<◌, ◌≤◌, min, List, [], ◌∷◌, ◌++◌, length, get_or, set, All, Contains, Option, None, Ok, Err, Result, inl, inr, ⊎_elim, refl, sym, ap, ◌∙◌, subst, arith, append_assoc, length-append, length-set, get_or-set_other, get_or-set_same}
 use Rattle.std.proofs.lemmas.Bool.{cases_eq}
-use Rattle.std.proofs.lemmas.List.Elements.{All-nil, All-cons, Contains-append_left, Contains-append_right, Contains-append_cases, Contains-push_cases, Contains-get_or}
+use Rattle.std.proofs.lemmas.List.Elements.{All-nil, All-cons, Contains-append_left, Contains-append_right, Contains-append_cases, Contains-push_cases}
 use Rattle.tokio.specs.Io.Moved.{Passes, PassesNothing, PassesInOrder}
 use Rattle.futures.specs.Runs.{Runs}
 use Rattle.futures.specs.declared.stream.futures_unordered.FuturesUnordered.{FuturesUnordered}
@@ -11,7 +11,6 @@ use Rattle.link_futures.specs.declared.quiet.Quiet.{Quiet}
 use Rattle.link_futures.specs.declared.session.Session.{Session}
 use Rattle.link_futures.specs.Desks.{Answering, Exchange, Place, place_after, Goes}
 use Rattle.link_futures.specs.Stream.{Talks, Turns, EndsAs, MetNoFault, place_of}
-use Rattle.link_futures.specs.Steps.{ReadsOn}
 use Rattle.link_futures.specs.Resting.{Wakes, MayWake}
 use Rattle.link_futures.specs.Workers.{at_any_time, LineMayEnd, AnyMayEnd, WorkerGives}
 use Rattle.link_futures.proofs.TurnLemmas.{Talks_trans, EndsAs_earlier, turn_stops}

@@ -1,5 +1,5 @@
 -- A line that waits for its reader alone, and the set of those that do.
-use Rattle.std.proofs.Common.{◌≡◌, ℕ, ◌+◌, ◌<◌, ◌≤◌, List, [], ◌∷◌, ◌++◌, length, Option, Some, None, IsSomeAnd, Ok, Err, Result, inl, inr, ⊎_elim, ◌⊎◌, refl, sym, ap, ◌∙◌, subst, arith, append_assoc, length-append, true, IfSome}
+use Rattle.std.proofs.Common.{◌≡◌, ℕ, ◌<◌, List, [], ◌++◌, length, Option, Some, None, IsSomeAnd, Ok, Err, Result, inl, inr, ⊎_elim, ◌⊎◌, sym, ap, ◌∙◌, subst, arith, append_assoc, length-append, true, IfSome}
 use Rattle.tokio.specs.Io.Moved.{Passes, PassesInOrder}
 use Rattle.futures.specs.Runs.{After, Within}
 use Rattle.futures.specs.Queued.{AnyGives, Gathers, IsEmptySet, set_places, set_len}
@@ -8,10 +8,9 @@ use Rattle.futures.specs.declared.task.context.Context.{Context}
 use Rattle.futures.specs.declared.stream.futures_unordered.FuturesUnordered.{FuturesUnordered}
 use Rattle.link_futures.specs.declared.end.End.{End}
 use Rattle.link_futures.specs.declared.line.Line.{Line}
-use Rattle.link_futures.specs.declared.limits.TheConstants.{LARGEST_READ}
 use Rattle.link_futures.specs.declared.inbox.Next.TheVariants.{Partial}
 use Rattle.link_futures.specs.Next.{IsNext}
-use Rattle.link_futures.specs.Stream.{EndsAs, MetNoFault}
+use Rattle.link_futures.specs.Stream.{MetNoFault}
 use Rattle.link_futures.specs.Steps.{ReadsOn}
 use Rattle.link_futures.specs.Resting.{RestingNeed, Wakes}
 use Rattle.link_futures.proofs.TurnLemmas.{EndsAs_earlier}

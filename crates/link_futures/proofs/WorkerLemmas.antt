@@ -5,7 +5,7 @@ use Rattle.std.proofs.lemmas.Bool.{cases_eq}
 use Rattle.std.proofs.lemmas.List.Elements.{All-contains}
 use Rattle.futures.specs.declared.task.context.Context.{Context}
 use Rattle.futures.specs.declared.stream.futures_unordered.FuturesUnordered.{FuturesUnordered}
-use Rattle.futures.specs.Task.{Covers, Keeps, Lasting}
+use Rattle.futures.specs.Task.{Covers, Keeps}
 use Rattle.link_futures.specs.declared.line.Line.{Line}
 use Rattle.link_futures.specs.Stream.{LineNeeds}
 use Rattle.link_futures.specs.Resting.{RestingNeed}

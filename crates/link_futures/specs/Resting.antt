@@ -1,5 +1,5 @@
 -- What becomes of a line that waits for its reader alone.
-use Rattle.std.specs.Prelude.{◌≡◌, ◌⊎◌, ◌<◌, ℕ, Option, IsSomeAnd, Result, Ok, Err}
+use Rattle.std.specs.Prelude.{◌≡◌, ℕ, Option, IsSomeAnd, Result, Ok, Err}
 use Rattle.tokio.specs.Io.Moved.{Passes}
 use Rattle.futures.specs.declared.stream.futures_unordered.FuturesUnordered.{FuturesUnordered}
 use Rattle.futures.specs.Queued.{AnyGives, set_places}

@@ -3,7 +3,7 @@ use Rattle.std.proofs.lemmas.List.Elements.{All-nil, All-cons, All-append}
 use Rattle.std.proofs.lemmas.List.Sums.{sum_by_push}
 use Rattle.coord_node.specs.Coordinator.{bytes_of}
 use Rattle.link_futures.specs.declared.outbox.Reply.{Reply}
-use Rattle.link_futures.specs.Buffers.{unsent_of, bytes_in, joined}
+use Rattle.link_futures.specs.Buffers.{unsent_of, bytes_in}
 use Rattle.link_futures.proofs.QueueLemmas.{unsent_length, bytes_appended}
 use Rattle.link_futures.proofs.outbox.Outbox.answer.Goals as goal
 

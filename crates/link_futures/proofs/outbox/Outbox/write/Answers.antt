@@ -1,4 +1,4 @@
-use Rattle.std.proofs.Common.{◌≡◌, ◌∙◌, ◌++◌, length, take, drop, ap, sym, arith}
+use Rattle.std.proofs.Common.{◌≡◌, ◌∙◌, length, take, drop, ap, sym, arith}
 use Rattle.link_futures.specs.Buffers.{bytes_of_all, bytes_in, joined}
 use Rattle.link_futures.specs.Parts.{count_of}
 use Rattle.link_futures.proofs.QueueLemmas.{waiting_length, bytes_dropped, bytes_written}

@@ -1,4 +1,3 @@
-use Rattle.std.proofs.Common.{refl}
 use Rattle.link_futures.proofs.RestingLemmas.{Wakes_later}
 use Rattle.link_futures.proofs.quiet.QuietLineFuture.poll.Goals as goal
 

@@ -1,4 +1,4 @@
-use Rattle.std.proofs.Common.{false, true, None, sym, subst}
+use Rattle.std.proofs.Common.{true, None}
 use Rattle.futures.specs.Runs.{EndsIf}
 use Rattle.link_futures.proofs.GivesLemmas.{gives_arrived, gives_within}
 use Rattle.link_futures.proofs.worker.Worker.poll_arrival.Goals as goal
