@@ -8,7 +8,8 @@ use crate::streams::{Frames, drain, feed, numbered_rows, output_within, put_word
 use futures::test::MockTask;
 use link_futures::{AfterBeat, Beat, Counted, Drain, End, Feed};
 use member_core::{Idle, Kind, Member, Next, Outside, Sent, Settings, Stage, Steady};
-use std::alloc::{AllocError, Global};
+use std::alloc::{AllocError, AllocGlobal, Global};
+use std::random::RandomSource;
 use std::test::Fail;
 use test_support::tables::{Answers, cut, part_words, wrong_rows};
 
@@ -74,15 +75,19 @@ const BEATS: &str = "
 
 #[test]
 fn members_take_replies(rt: HostRuntime) -> Result<(), Fail> {
-    let beats = Beats {
-        task: task_of(&rt)?,
-        requests: Frames::of(rt.alloc(), REQUESTS)?,
-        replies: Frames::of(rt.alloc(), REPLIES)?,
-    };
+    let beats = beating(&rt)?;
     let rows = numbered_rows(rt.alloc(), BEATS)?;
     let wrong = wrong_rows(rt.alloc(), &beats, rows.as_str())?;
     assert_eq!(rt; wrong.as_str(), "");
     Ok(())
+}
+
+fn beating<R: RandomSource + AllocGlobal>(rt: &R) -> Result<Beats, Fail> {
+    Ok(Beats {
+        task: task_of(rt)?,
+        requests: Frames::of(rt.alloc(), REQUESTS)?,
+        replies: Frames::of(rt.alloc(), REPLIES)?,
+    })
 }
 
 /// A task that polls, and the frames that go and come.
@@ -205,10 +210,16 @@ fn put_outcome<S: Idle>(
     match member {
         Ok(next) => put_next(next, out),
         Err((member, end)) => {
-            put_failed(&member, end, out)?;
-            Ok(None)
+            let put = put_failed(&member, end, out);
+            none_after(put)
         }
     }
+}
+
+/// No member, once what was put is there.
+fn none_after(put: Result<(), AllocError>) -> Result<Option<Member<Steady>>, AllocError> {
+    put?;
+    Ok(None)
 }
 
 /// Puts why a request failed, and the member that has given up.
@@ -226,15 +237,22 @@ fn put_next<S: Idle>(
     next: Next<S>,
     out: &mut String,
 ) -> Result<Option<Member<Steady>>, AllocError> {
-    tell_next(&next, out)?;
-    Ok(steady_of(next))
+    let told = tell_next(&next, out);
+    let steady = steady_of(next);
+    told?;
+    Ok(steady)
 }
 
 fn steady_of<S: Idle>(next: Next<S>) -> Option<Member<Steady>> {
     match next {
         Next::Steady(member) => Some(member),
-        _ => None,
+        other => no_member(other),
     }
+}
+
+/// Lets a member go that isn't steady.
+fn no_member<S: Idle>(_next: Next<S>) -> Option<Member<Steady>> {
+    None
 }
 
 /// Puts what a member makes of a reply.

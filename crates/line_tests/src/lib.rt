@@ -6,4 +6,6 @@ mod beats;
 #[cfg(test)]
 mod lines;
 #[cfg(test)]
+mod numbering;
+#[cfg(test)]
 mod streams;

@@ -1,6 +1,7 @@
 //! Lines over readers and writers in memory, with replies worked out by hand from the Kafka protocol guide and KIP-848.
 ghost use Rattle.std.specs.Prelude.{⊤};
 
+use crate::numbering::{Numbering, put_numbers};
 use crate::streams::{
     Frames, drain, feed, numbered_rows, output_within, put_words, task_of, written,
 };
@@ -84,11 +85,17 @@ const TWO_FRAMES: &str = "
 /// - `worker`: the lines of one worker, parted by `; `: what each poll of the reader does, and the bytes that it gives. The answer has
 ///   how many have ended once the worker is ready, and what each has written.
 /// - `polls N`: how many lines of the worker with this one line have ended within N polls.
+/// - `turns`: the lines of one worker, as of `worker`, over a desk that answers each frame with the number of frames that it has
+///   answered by then, of whichever line. The answer has the numbers that each line has written.
 /// - `held N`: how many frames of the line are answered within N turns, and how many bytes are written then; and what comes after.
 const WORKERS: &str = "
 # the second line has nothing to read any more while the others are still read byte by byte
 worker 1p*80 join; - stranger; 1p*80 stranger*2 = 3 | joined | unknown | unknown*2
-# a session answers a hundred frames in a hundred turns: a worker gives a line that has frames several turns in a poll
+# three frames each come in one read, the second line's a round later or the first line's; then they are answered in turn
+turns p stranger*3; - stranger*3 = 1 3 5 | 2 4 6
+turns - stranger*3; - stranger*3 = 1 2 4 | 3 5 6
+turns - stranger*4; - stranger*2; - stranger*2 = 1 2 4 7 | 3 5 | 6 8
+# a session answers a hundred frames in a hundred turns: a poll of a worker has several rounds while a line has frames
 polls 10 - - stranger*100 = 1
 # sixty-five frames come in one read, while the writer is pending
 held 70 - p*70 stranger*65 = 64 0 Finished unknown*65
@@ -161,6 +168,7 @@ impl Answers for Streaming {
             "worker" => self.tell_worker(alloc, words, out),
             "polls" => self.tell_polls(alloc, words, out),
             "held" => self.tell_held(alloc, words, out),
+            "turns" => self.tell_turns(alloc, words, out),
             _ => self.tell_session(self.session_of(alloc, question)?, out),
         }
     }
@@ -194,10 +202,27 @@ impl Streaming {
         for _ in 0..number::<u32>(turns) {
             let _ = turn(&self.task, &mut session);
         }
+        self.tell_rest(session, out)
+    }
+
+    /// Tells how far a session has come, and then how it ends.
+    fn tell_rest(&self, session: Polled, out: &mut String) -> Result<(), AllocError> {
         let (line, desk) = session.into_parts();
-        let written = line.writer().inner().taken().len();
-        write!(out, "{} {written} ", line.answered())?;
-        self.tell_session(Session::new(line, desk), out)
+        let told = tell_counts(&line, out);
+        let ended = self.tell_session(Session::new(line, desk), out);
+        told.and(ended)
+    }
+
+    /// Tells the numbers of a worker's replies, line by line.
+    fn tell_turns(&self, alloc: Global, words: &str, out: &mut String) -> Result<(), AllocError> {
+        let (lines, far_ends) = self.piped_lines(alloc, words)?;
+        let worker = Worker::new(alloc, stream::iter(lines), Numbering::new());
+        let _ = output_within(&self.task, worker, 1_000);
+        for far in far_ends {
+            let bytes = written(alloc, &self.task, far)?;
+            put_numbers(bytes.as_slice(), out)?;
+        }
+        Ok(())
     }
 
     /// Tells what a worker's lines have written. A line that finds no memory is let go, and is no line that has ended: then the row
@@ -306,6 +331,12 @@ impl Streaming {
         node.set_image(Image::of(alloc, topics).map_err(|_| AllocError)?);
         Ok(Solo::new(alloc, node, Still))
     }
+}
+
+/// Tells how many frames of a line were answered, and how many bytes were written.
+fn tell_counts(line: &FedLine<Counted<Drain>>, out: &mut String) -> Result<(), AllocError> {
+    let written = line.writer().inner().taken().len();
+    write!(out, "{} {written} ", line.answered())
 }
 
 /// How a session ends, or nothing where it doesn't end within 1,000 turns or waits for what never comes.

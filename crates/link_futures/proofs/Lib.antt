@@ -3,6 +3,8 @@ pub mod QueueLemmas
 pub mod TurnLemmas
 pub mod SessionLemmas
 pub mod WorkerLemmas
+pub mod RestingLemmas
+pub mod GivesLemmas
 pub mod FramingLemmas
 pub mod ReplyLemmas
 pub mod BeatLemmas

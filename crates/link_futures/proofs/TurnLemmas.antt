@@ -1,5 +1,5 @@
 -- The parts of a turn, and turns in a row.
-use Rattle.std.proofs.Common.{◌≡◌, ℕ, ◌+◌, Bool, true, false, List, [], ◌∷◌, ◌++◌, take, drop, inl, inr, ⊎_elim, refl, sym, ap, ◌∙◌, subst, arith, append_assoc, append-nil, length, length-append, ◌<◌, ◌≤◌, ◌⊎◌}
+use Rattle.std.proofs.Common.{◌≡◌, ℕ, ◌+◌, Bool, true, false, List, [], ◌∷◌, ◌++◌, take, drop, inl, inr, ⊎_elim, refl, sym, ap, ◌∙◌, subst, arith, append_assoc, append-nil, length, ◌<◌, ◌≤◌, ◌⊎◌}
 use Rattle.std.proofs.lemmas.List.Elements.{All-nil, All-cons, All-append}
 use Rattle.std.proofs.lemmas.Grind.{flat_map-append}
 use Rattle.futures.specs.declared.task.Poll.{Poll}
@@ -13,13 +13,14 @@ use Rattle.coord_node.specs.declared.event.Answered.{Answered}
 use Rattle.coord_node.specs.declared.event.Answered.TheVariants as answered
 use Rattle.link_futures.specs.declared.end.End.{End}
 use Rattle.link_futures.specs.declared.end.End.TheVariants.{Finished, CutShort, Closed, ReadFault, WriteFault, NoMemory}
+use Rattle.link_futures.specs.declared.limits.TheConstants.{MOST_REPLIES, MOST_BYTES}
 use Rattle.link_futures.specs.declared.line.Line.{Line}
 use Rattle.link_futures.specs.declared.session.Session.{Session}
 use Rattle.link_futures.specs.Framing.{frame_of, IsBody}
 use Rattle.link_futures.specs.Next.{IsFront}
 use Rattle.link_futures.specs.Desks.{Answering, Exchange, Place, next_stamp, closes, closes_by, place_after, Goes}
 use Rattle.link_futures.specs.Buffers.{Waiting, bytes_of_all}
-use Rattle.link_futures.specs.Stream.{unanswered, unsent, HasRoom, WantsBytes, LineNeeds, place_of, frames_of, replies_of, Talks, TurnsUpTo, EndsAs, MetNoFault, LeavesDesk}
+use Rattle.link_futures.specs.Stream.{unanswered, unsent, HasRoom, WantsBytes, LineNeeds, place_of, frames_of, replies_of, Talks, Turns, EndsAs, MetNoFault, LeavesDesk}
 use Rattle.link_futures.specs.Steps.{ReadsOn, AnswersOn, WritesOn}
 
 closes_is : (kind : Answered) (answer : Answer) → IsAnswered kind answer → closes_by kind ≡ closes answer
@@ -45,8 +46,8 @@ module _ {R W : Type 0} where
         others = refl;
       }
 
-  pub AnswersOn_nothing : {D : Type 0} (answers : Answering D) (most : ℕ) (old : Line R W) (d : D) → AnswersOn answers most old d old d
-  AnswersOn_nothing answers most old d =
+  pub AnswersOn_nothing : {D : Type 0} (answers : Answering D) (old : Line R W) (d : D) → AnswersOn answers old d old d
+  AnswersOn_nothing answers old d =
       record {
         exchanges = [];
         few = omega arith;
@@ -67,7 +68,7 @@ module _ {R W : Type 0} where
       → IsFront old.inbox len → HasRoom old → old.is_closed ≡ false → body ≡ take len (drop 4 old.inbox)
       → ((answer : Answer) × IsAnswered kind answer × answers d body (next_stamp (place_of old)) answer e × (bytes_of_all outbox ≡ bytes_of_all old.outbox ++ bytes_of answer))
       → inbox ≡ drop len (drop 4 old.inbox) → closed ≡ closes_by kind
-      → AnswersOn answers 1 old d (record old { inbox = inbox; outbox = outbox; answered = old.answered + 1; is_closed = closed }) e
+      → AnswersOn answers old d (record old { inbox = inbox; outbox = outbox; answered = old.answered + 1; is_closed = closed }) e
   AnswersOn_one answers old d e len kind closed inbox body outbox front room not_closed is_front given rest closing =
       let answer = given.0 in
       let x : Exchange = record { body = body; answer = answer } in
@@ -95,73 +96,11 @@ module _ {R W : Type 0} where
         others = refl;
       }
 
-module _ {D : Type 0} (answers : Answering D) where
-  Goes_append : (xs ys : List Exchange) (p q r : Place) (d e f : D) → Goes answers p d xs q e → Goes answers q e ys r f → Goes answers p d (xs ++ ys) r f
-  Goes_append [] ys p q r d e f one two =
-      subst (λ (x : Place). Goes answers x d ys r f) one.0 (subst (λ (x : D). Goes answers q x ys r f) one.1 two)
-  Goes_append (x ∷ xs) ys p q r d e f one two =
-      (one.0, (one.1.0, one.1.1, Goes_append xs ys (place_after p x.answer) q r one.1.0 e f one.1.2 two))
-
-module _ {R W D : Type 0} (answers : Answering D) where
-  -- some frames were answered: there was room at first, or the line is as it was
-  abbrev pub AnswersAndHadRoom : ℕ → Line R W → D → Line R W → D → Type 0
-  AnswersAndHadRoom most old d new e = AnswersOn answers most old d new e × (HasRoom old ⊎ (new ≡ old))
-
-  room_at_first : (a b : Line R W) → HasRoom b → HasRoom a ⊎ (b ≡ a) → HasRoom a
-  room_at_first a b room (inl first) = first
-  room_at_first a b room (inr same) = subst (λ (l : Line R W). HasRoom l) same room
-
-  -- some frames were answered, and one behind them
-  pub AnswersOn_then : (n : ℕ) (a b c : Line R W) (d e f : D) → HasRoom b → AnswersAndHadRoom n a d b e → AnswersOn answers 1 b e c f → AnswersAndHadRoom (n + 1) a d c f
-  AnswersOn_then n a b c d e f room before q =
-      let p = before.0 in
-      let first = room_at_first a b room before.1 in
-      let frames = flat_map-append (λ (x : Exchange). frame_of x.body) p.exchanges q.exchanges in
-      let replies = flat_map-append (λ (x : Exchange). bytes_of x.answer) p.exchanges q.exchanges in (
-        record {
-          exchanges = p.exchanges ++ q.exchanges;
-          few = omega (arith, length-append p.exchanges q.exchanges, p.few, q.few);
-          room = λ some. first;
-          each = All-append (λ (x : Exchange). IsBody x.body) p.exchanges q.exchanges p.each q.each;
-          framing =
-              p.framing ∙ ap (λ xs. frames_of p.exchanges ++ xs) q.framing
-              ∙ sym (append_assoc (frames_of p.exchanges) (frames_of q.exchanges) c.inbox) ∙ ap (λ xs. xs ++ c.inbox) (sym frames);
-          replies =
-              q.replies ∙ ap (λ xs. xs ++ replies_of q.exchanges) p.replies ∙ append_assoc (unsent a) (replies_of p.exchanges) (replies_of q.exchanges)
-              ∙ ap (λ xs. unsent a ++ xs) (sym replies);
-          desk = Goes_append answers p.exchanges q.exchanges _ _ _ _ _ _ p.desk q.desk;
-          others =
-              q.others
-              ∙ ap (λ (l : Line R W). let m : Line R W = record l { inbox = c.inbox; outbox = c.outbox; answered = c.answered; is_closed = c.is_closed } in m) p.others;
-        },
-        inl first,
-      )
-
-  -- the bound is a greater number
-  pub AnswersOn_below : (n most : ℕ) (a b : Line R W) (d e : D) → n ≤ most → AnswersOn answers n a d b e → AnswersOn answers most a d b e
-  AnswersOn_below n most a b d e fits p =
-      record {
-        exchanges = p.exchanges;
-        few = omega (arith, p.few, fits);
-        room = p.room;
-        each = p.each;
-        framing = p.framing;
-        replies = p.replies;
-        desk = p.desk;
-        others = p.others;
-      }
-
-  -- some frames were answered, and memory was short for one behind them
-  pub AnswersOn_short : (lacks : D → D → Type 0) (n most : ℕ) (a b c : Line R W) (d e f : D) → n ≤ most → AnswersOn answers n a d b e → (c ≡ b) × ((f ≡ e) ⊎ lacks e f)
-      → (last : D) × AnswersOn answers most a d c last × ((f ≡ last) ⊎ lacks last f)
-  AnswersOn_short lacks n most a b c d e f fits p short =
-      (e, subst (λ (l : Line R W). AnswersOn answers most a d l e) (sym short.0) (AnswersOn_below n most a b d e fits p), short.1)
-
 module _ {R W D : Type 0} (reads : Passes R) (is_at_end : R → Type 0) (writes : Passes W) (answers : Answering D) where
-  -- a read, some answers and a write are a turn
-  pub turn_is : (most : ℕ) (a b c f : Line R W) (d e : D) → ReadsOn reads is_at_end a b → AnswersOn answers most b d c e → WritesOn writes c f
-      → TurnsUpTo reads is_at_end writes answers most (record { line = a; desk = d }) (record { line = f; desk = e })
-  turn_is most a b c f d e p q r =
+  -- a read, an answer and a write are a turn
+  pub turn_is : (a b c f : Line R W) (d e : D) → ReadsOn reads is_at_end a b → AnswersOn answers b d c e → WritesOn writes c f
+      → Turns reads is_at_end writes answers (record { line = a; desk = d }) (record { line = f; desk = e })
+  turn_is a b c f d e p q r =
       let reader : f.reader ≡ b.reader = ap (λ (l : Line R W). l.reader) r.others ∙ ap (λ (l : Line R W). l.reader) q.others in
       let over : f.is_over ≡ b.is_over = ap (λ (l : Line R W). l.is_over) r.others ∙ ap (λ (l : Line R W). l.is_over) q.others in
       let writer : c.writer ≡ a.writer = ap (λ (l : Line R W). l.writer) q.others ∙ ap (λ (l : Line R W). l.writer) p.others in
@@ -190,14 +129,21 @@ module _ {R W D : Type 0} (reads : Passes R) (is_at_end : R → Type 0) (writes 
         short = p.short;
         wanted = p.wanted;
         few = q.few;
-        room = λ some. subst (λ (o : List Waiting). (length o < 64) × (length (bytes_of_all o) ≤ 8388608)) (ap (λ (l : Line R W). l.outbox) p.others) (q.room some);
+        room = λ some. subst (λ (o : List Waiting). (length o < MOST_REPLIES) × (length (bytes_of_all o) ≤ MOST_BYTES)) (ap (λ (l : Line R W). l.outbox) p.others) (q.room some);
       }
 
   -- a turn that ends behind its read
-  pub turn_stops : PassesNothing writes → (most : ℕ) (a b : Line R W) (d : D) → ReadsOn reads is_at_end a b
-      → TurnsUpTo reads is_at_end writes answers most (record { line = a; desk = d }) (record { line = b; desk = d })
-  turn_stops nothing most a b d p =
-      turn_is most a b b b d d p (AnswersOn_nothing answers most b d) (WritesOn_nothing writes nothing b)
+  pub turn_stops : PassesNothing writes → (a b c : Line R W) (d : D) → ReadsOn reads is_at_end a b → c ≡ b
+      → Turns reads is_at_end writes answers (record { line = a; desk = d }) (record { line = c; desk = d })
+  turn_stops nothing a b c d p same =
+      subst (λ (l : Line R W). Turns reads is_at_end writes answers (record { line = a; desk = d }) (record { line = l; desk = d })) (sym same)
+      (turn_is a b b b d d p (AnswersOn_nothing answers b d) (WritesOn_nothing writes nothing b))
+
+  Goes_append : (xs ys : List Exchange) (p q r : Place) (d e f : D) → Goes answers p d xs q e → Goes answers q e ys r f → Goes answers p d (xs ++ ys) r f
+  Goes_append [] ys p q r d e f one two =
+      subst (λ (x : Place). Goes answers x d ys r f) one.0 (subst (λ (x : D). Goes answers q x ys r f) one.1 two)
+  Goes_append (x ∷ xs) ys p q r d e f one two =
+      (one.0, (one.1.0, one.1.1, Goes_append xs ys (place_after p x.answer) q r one.1.0 e f one.1.2 two))
 
   -- what comes to pass in two turns
   pub Talks_trans : PassesInOrder reads → PassesInOrder writes → (a b c : Session R W D) → Talks reads is_at_end writes answers a b → Talks reads is_at_end writes answers b c → Talks reads is_at_end writes answers a c
@@ -219,7 +165,7 @@ module _ {R W D : Type 0} (reads : Passes R) (is_at_end : R → Type 0) (writes 
             ap (λ xs. unsent a.line ++ xs) replies ∙ sym (append_assoc (unsent a.line) (replies_of p.exchanges) (replies_of q.exchanges))
             ∙ ap (λ xs. xs ++ replies_of q.exchanges) p.replies ∙ append_assoc p.written (unsent b.line) (replies_of q.exchanges)
             ∙ ap (λ xs. p.written ++ xs) q.replies ∙ sym (append_assoc p.written q.written (unsent c.line));
-        desk = Goes_append answers p.exchanges q.exchanges _ _ _ _ _ _ p.desk q.desk;
+        desk = Goes_append p.exchanges q.exchanges _ _ _ _ _ _ p.desk q.desk;
         ends = λ ended.
             ⊎_elim
             (λ (h : b.line.is_over ≡ true). ⊎_elim (λ (k : a.line.is_over ≡ true). inl k) (λ (k : is_at_end b.line.reader). inr (subst is_at_end (sym (q.stays h).1) k)) (p.ends h))

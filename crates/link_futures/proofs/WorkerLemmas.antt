@@ -5,10 +5,11 @@ use Rattle.std.proofs.lemmas.Bool.{cases_eq}
 use Rattle.std.proofs.lemmas.List.Elements.{All-contains}
 use Rattle.futures.specs.declared.task.context.Context.{Context}
 use Rattle.futures.specs.declared.stream.futures_unordered.FuturesUnordered.{FuturesUnordered}
-use Rattle.futures.specs.Task.{Covers, Keeps, Lasting}
+use Rattle.futures.specs.Task.{Covers, Keeps}
 use Rattle.link_futures.specs.declared.line.Line.{Line}
 use Rattle.link_futures.specs.Stream.{LineNeeds}
-use Rattle.link_futures.specs.Workers.{resting_count, RestingNeed, WorkerNeeds}
+use Rattle.link_futures.specs.Resting.{RestingNeed}
+use Rattle.link_futures.specs.Workers.{WorkerNeeds}
 use Rattle.link_futures.proofs.TurnLemmas.{Covers_kept}
 
 module _ {R W : Type 0} (read : R → ℕ → Type 0) (write : W → ℕ → Type 0) where
@@ -42,30 +43,30 @@ first_armed read write [] after each some = absurd (omega (arith, some))
 first_armed read write (line ∷ lines) after each some = ((each 0 line (omega arith)).0, λ s none. absurd none)
 
 module _ {A R W F : Type 0} (arrive : A → ℕ → Type 0) (read : R → ℕ → Type 0) (write : W → ℕ → Type 0) where
-  armed_by : (is_closed : Bool) (lines : List (Line R W)) (resting : Option (FuturesUnordered F)) (arrivals : A) (before after : Context)
-      → (is_closed ≡ false → Covers before (arrive arrivals)) → Keeps before after → All (λ line. Covers after (LineNeeds read write line)) lines
-      → (0 < resting_count resting → Covers after (RestingNeed resting))
-      → (is_closed ≡ true → (0 < length lines) ⊎ (0 < resting_count resting)) → Covers after (λ s. ⊥)
-  armed_by false lines resting arrivals before after waits keeps each rests some = (keeps Lasting.armed (waits refl).0, λ s none. absurd none)
-  armed_by true lines resting arrivals before after waits keeps each rests some =
+  armed_by : (is_closed : Bool) (lines : List (Line R W)) (resting : Option (FuturesUnordered F)) (count : ℕ) (arrivals : A) (cx : Context)
+      → (is_closed ≡ false → Covers cx (arrive arrivals)) → All (λ line. Covers cx (LineNeeds read write line)) lines
+      → (0 < count → Covers cx (RestingNeed resting))
+      → (is_closed ≡ true → (0 < length lines) ⊎ (0 < count)) → Covers cx (λ s. ⊥)
+  armed_by false lines resting count arrivals cx waits each rests some = ((waits refl).0, λ s none. absurd none)
+  armed_by true lines resting count arrivals cx waits each rests some =
       ⊎_elim
-      (λ (h : 0 < length lines). first_armed read write lines after each h)
-      (λ (h : 0 < resting_count resting). ((rests h).0, λ s none. absurd none))
+      (λ (h : 0 < length lines). first_armed read write lines cx each h)
+      (λ (h : 0 < count). ((rests h).0, λ s none. absurd none))
       (some refl)
 
-  pub WorkerNeeds_covered : (is_closed : Bool) (lines : List (Line R W)) (resting : Option (FuturesUnordered F)) (arrivals : A) (before after : Context)
-      → (is_closed ≡ false → Covers before (arrive arrivals)) → Keeps before after → All (λ line. Covers after (LineNeeds read write line)) lines
-      → (0 < resting_count resting → Covers after (RestingNeed resting))
-      → (is_closed ≡ true → (0 < length lines) ⊎ (0 < resting_count resting)) → Covers after (WorkerNeeds arrive read write arrivals is_closed lines resting)
-  WorkerNeeds_covered is_closed lines resting arrivals before after waits keeps each rests some = (
-    (armed_by is_closed lines resting arrivals before after waits keeps each rests some).0,
+  pub WorkerNeeds_covered : (is_closed : Bool) (lines : List (Line R W)) (resting : Option (FuturesUnordered F)) (count : ℕ) (arrivals : A) (cx : Context)
+      → (is_closed ≡ false → Covers cx (arrive arrivals)) → All (λ line. Covers cx (LineNeeds read write line)) lines
+      → (0 < count → Covers cx (RestingNeed resting))
+      → (is_closed ≡ true → (0 < length lines) ⊎ (0 < count)) → Covers cx (WorkerNeeds arrive read write arrivals is_closed lines resting count)
+  WorkerNeeds_covered is_closed lines resting count arrivals cx waits each rests some = (
+    (armed_by is_closed lines resting count arrivals cx waits each rests some).0,
     λ source need.
         ⊎_elim
-        (λ (h : (is_closed ≡ false) × arrive arrivals source). keeps (Lasting.hears source) ((waits h.0).1 source h.1))
-        (λ (either : ((line : Line R W) × Contains lines line × LineNeeds read write line source) ⊎ ((0 < resting_count resting) × RestingNeed resting source)).
+        (λ (h : (is_closed ≡ false) × arrive arrivals source). (waits h.0).1 source h.1)
+        (λ (either : ((line : Line R W) × Contains lines line × LineNeeds read write line source) ⊎ ((0 < count) × RestingNeed resting source)).
         ⊎_elim
-        (λ (h : (line : Line R W) × Contains lines line × LineNeeds read write line source). (All-contains (λ (line : Line R W). Covers after (LineNeeds read write line)) lines h.0 each h.1).1 source h.2)
-        (λ (h : (0 < resting_count resting) × RestingNeed resting source). (rests h.0).1 source h.1)
+        (λ (h : (line : Line R W) × Contains lines line × LineNeeds read write line source). (All-contains (λ (line : Line R W). Covers cx (LineNeeds read write line)) lines h.0 each h.1).1 source h.2)
+        (λ (h : (0 < count) × RestingNeed resting source). (rests h.0).1 source h.1)
         either)
         need,
   )

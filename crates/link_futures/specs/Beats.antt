@@ -9,6 +9,7 @@ use Rattle.member_core.specs.declared.member.Member.{Member}
 use Rattle.member_core.specs.declared.member.taking.Next.{Next}
 use Rattle.link_futures.specs.declared.end.End.{End}
 use Rattle.link_futures.specs.declared.end.End.TheVariants.{Finished, CutShort, Closed, ReadFault, WriteFault, NoMemory}
+use Rattle.link_futures.specs.declared.limits.TheConstants.{LARGEST_READ}
 use Rattle.link_futures.specs.declared.call.Call.{Call}
 use Rattle.link_futures.specs.declared.beat.AfterBeat.{AfterBeat}
 use Rattle.link_futures.specs.Replies.{IsReplyOf, BeginsWithRefusedReply, LacksOfReply}
@@ -69,7 +70,7 @@ module _ {R W S : Type 0} where
     pub record Polls (old new : Call R W S) : Type 0 where
       pub exchanges : Exchanges old new
       pub once : (exchanges.written ≡ []) ⊎ (exchanges.read ≡ [])
-      pub short : length exchanges.read ≤ 65536
+      pub short : length exchanges.read ≤ LARGEST_READ
 
   module _ (read_faults : R → ℕ) (write_faults : W → ℕ) (stalls : W → ℕ) where
     -- no poll failed or took nothing

@@ -1,7 +1,8 @@
 -- What a line holds back: the bytes of frames that aren't answered, and replies that aren't written.
-use Rattle.std.specs.Prelude.{ℕ, List, [], ◌∷◌, take, drop, refl}
+use Rattle.std.specs.Prelude.{ℕ, List, [], ◌∷◌, ◌++◌, take, drop, refl}
 use Rattle.std.specs.List.{flat_map, sum_by}
 use Rattle.std.specs.Coded.{Coded, code_by, coded×, coded_list, coded_ℕ}
+use Rattle.bytes.specs.Filled.{Filled}
 use Rattle.link_futures.specs.declared.outbox.Reply.{Reply}
 
 -- the unwritten bytes of a reply, and the number of its frame
@@ -12,6 +13,14 @@ pub record Waiting : Type 0 where
 abbrev pub waiting_code : Coded (List Waiting)
 waiting_code =
     coded_list (code_by (ℕ × List ℕ) (coded× coded_ℕ (coded_list coded_ℕ)) (λ w. (w.frame, w.bytes)) (λ p. record { frame = p.0; bytes = p.1 }) (λ _. refl))
+
+-- the bytes of buffers, one behind the other
+abbrev pub bytes_in : List Filled → List ℕ
+bytes_in = flat_map (λ b. b.items)
+
+-- the same, and those of the tail behind them
+abbrev pub joined : List Filled → List ℕ → List ℕ
+joined buffers tail = bytes_in buffers ++ tail
 
 -- how many bytes of these replies aren't written
 abbrev pub unsent_of : List Reply → ℕ

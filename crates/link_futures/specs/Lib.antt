@@ -8,6 +8,7 @@ pub mod Stream
 pub mod Steps
 pub mod Sessions
 pub mod SoloDesk
+pub mod Resting
 pub mod Workers
 pub mod Replies
 pub mod Beats

@@ -4,6 +4,7 @@ use Rattle.tokio.specs.Io.Moved.{Passes}
 use Rattle.link_futures.specs.declared.end.End.{End}
 use Rattle.link_futures.specs.declared.end.End.TheVariants.{Finished, CutShort, Closed, ReadFault, WriteFault, NoMemory}
 use Rattle.link_futures.specs.declared.line.Line.{Line}
+use Rattle.link_futures.specs.declared.limits.TheConstants.{LARGEST_READ}
 use Rattle.link_futures.specs.Framing.{IsBody}
 use Rattle.link_futures.specs.Next.{IsFront, IsNext}
 use Rattle.link_futures.specs.declared.inbox.Next.TheVariants.{Partial}
@@ -30,7 +31,7 @@ module _ {R W : Type 0} where
   -- some bytes were read
   pub record ReadsOn (reads : Passes R) (is_at_end : R → Type 0) (old new : Line R W) : Type 0 where
     pub read : List ℕ
-    pub short : length read ≤ 65536
+    pub short : length read ≤ LARGEST_READ
     pub wanted : 0 < length read → IsNext Partial old.inbox
     pub reading : reads old.reader read new.reader
     pub appended : new.inbox ≡ old.inbox ++ read
@@ -38,10 +39,10 @@ module _ {R W : Type 0} where
     pub stays : old.is_over ≡ true → (new.is_over ≡ true) × (new.reader ≡ old.reader)
     pub others : new ≡ record old { reader = new.reader; inbox = new.inbox; is_over = new.is_over }
 
-  -- at most so many frames were answered
-  pub record AnswersOn {D : Type 0} (answers : Answering D) (most : ℕ) (old : Line R W) (d : D) (new : Line R W) (e : D) : Type 0 where
+  -- at most one frame was answered
+  pub record AnswersOn {D : Type 0} (answers : Answering D) (old : Line R W) (d : D) (new : Line R W) (e : D) : Type 0 where
     pub exchanges : List Exchange
-    pub few : length exchanges ≤ most
+    pub few : length exchanges ≤ 1
     pub room : 0 < length exchanges → HasRoom old
     pub each : All (λ x. IsBody x.body) exchanges
     pub framing : old.inbox ≡ frames_of exchanges ++ new.inbox

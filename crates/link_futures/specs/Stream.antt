@@ -14,6 +14,7 @@ use Rattle.link_futures.specs.declared.inbox.Next.TheVariants.{Partial}
 use Rattle.link_futures.specs.Next.{IsNext}
 use Rattle.link_futures.specs.Desks.{Answering, Exchange, Place, Goes}
 use Rattle.link_futures.specs.Buffers.{bytes_of_all}
+use Rattle.link_futures.specs.declared.limits.TheConstants.{MOST_REPLIES, MOST_BYTES, LARGEST_READ}
 
 module _ {R W : Type 0} where
   -- the bytes that were read and aren't answered
@@ -26,7 +27,7 @@ module _ {R W : Type 0} where
 
   -- a further frame may be answered
   abbrev pub HasRoom : Line R W → Type 0
-  HasRoom line = (length line.outbox < 64) × (length (unsent line) ≤ 8388608)
+  HasRoom line = (length line.outbox < MOST_REPLIES) × (length (unsent line) ≤ MOST_BYTES)
 
   -- more bytes are wanted: the reader hasn't ended, the desk answers on, and no frame and no refused size is there
   pub record WantsBytes (line : Line R W) : Type 0 where
@@ -66,18 +67,14 @@ module _ {R W D : Type 0} (reads : Passes R) (is_at_end : R → Type 0) (writes 
     pub ends : new.line.is_over ≡ true → (old.line.is_over ≡ true) ⊎ is_at_end new.line.reader
     pub stays : old.line.is_over ≡ true → (new.line.is_over ≡ true) × (new.line.reader ≡ old.line.reader)
 
-  -- The same of one turn: at most 65,536 bytes are read, and none behind a whole frame or a refused size. At most so many
-  -- frames are answered, and none where 64 replies or more than 8,388,608 bytes are unsent when the turn begins.
-  pub record TurnsUpTo (most : ℕ) (old new : Session R W D) : Type 0 where
+  -- The same of one turn: at most 65,536 bytes are read, and none behind a whole frame or a refused size. At most one frame
+  -- is answered, and none where 64 replies or more than 8,388,608 bytes are unsent when the turn begins.
+  pub record Turns (old new : Session R W D) : Type 0 where
     pub talks : Talks old new
-    pub short : length talks.read ≤ 65536
+    pub short : length talks.read ≤ LARGEST_READ
     pub wanted : 0 < length talks.read → IsNext Partial (unanswered old.line)
-    pub few : length talks.exchanges ≤ most
+    pub few : length talks.exchanges ≤ 1
     pub room : 0 < length talks.exchanges → HasRoom old.line
-
-  -- a turn that answers at most one frame
-  abbrev pub Turns : Session R W D → Session R W D → Type 0
-  Turns = TurnsUpTo 1
 
 module _ {R W : Type 0} where
   -- at the reader's end between frames, with all replies written

@@ -4,8 +4,10 @@ ghost use Rattle.futures.specs.Task.{Covers, Keeps};
 ghost use Rattle.tokio.specs.Io.Moved.{AppendsRead};
 ghost use Rattle.link_futures.specs.Parts.{count_of, faults_of, OnWaits};
 ghost use Rattle.link_futures.specs.Next.{IsNext};
+ghost use Rattle.link_futures.specs.declared.limits.TheConstants.{LARGEST_READ};
 ghost use Rattle.link_futures.specs.declared.part.Part.TheVariants.{Moved};
 
+use crate::limits::LARGEST_READ;
 use crate::part::Part;
 use crate::reader::ReadPart;
 use bytes::BytesMut;
@@ -22,9 +24,6 @@ const SMALL_READ: usize = 3_072;
 /// ended in.
 const KEPT: usize = 3_328;
 
-/// The most bytes of any read.
-pub(crate) const LARGEST_READ: usize = 65_536;
-
 /// After so many reads in a row that found nothing, a line is quiet.
 const QUIET_READS: u8 = 200;
 
@@ -32,6 +31,7 @@ const QUIET_READS: u8 = 200;
 const SIZE_BYTES: usize = 4;
 
 /// What the bytes begin with.
+#[derive(Clone, Copy)]
 pub(crate) enum Next {
     /// Less than a frame.
     Partial,
@@ -45,6 +45,8 @@ pub(crate) enum Next {
 #[derive(Drop)]
 pub(crate) struct Inbox {
     buffer: BytesMut,
+    /// What they begin with.
+    next: Next,
     /// The most bytes of the next read: twice as many after each that took its most, half as many after each that took less
     /// than a quarter, and few once the line is quiet.
     room: usize,
@@ -55,12 +57,14 @@ pub(crate) struct Inbox {
 
 impl Model for Inbox {
     ghost use Rattle.std.specs.Prelude.{ℕ, List, ◌<◌, ◌≤◌};
+    ghost use Rattle.link_futures.specs.Next.{IsNext};
+    ghost use Rattle.link_futures.specs.declared.limits.TheConstants.{LARGEST_READ};
 
     ghost Value = { List ℕ };
 
     ghost view = { λ b. b.buffer.items };
 
-    ghost invariant = { λ b. (0 < b.room) × (b.room ≤ 65536) };
+    ghost invariant = { λ b. IsNext b.next b.buffer.items × (0 < b.room) × (b.room ≤ LARGEST_READ) };
 }
 
 impl Inbox {
@@ -70,6 +74,7 @@ impl Inbox {
     {
         Inbox {
             buffer: BytesMut::new(alloc),
+            next: next_of(&[]),
             room: SMALL_READ,
             waits: 0,
             alloc,
@@ -91,7 +96,7 @@ impl Inbox {
     pub(crate) fn next(&self) -> Next
         ensures { IsNext result self.now }
     {
-        next_of(self.buffer.as_slice())
+        self.next
     }
 
     /// The body of the frame at the front, which has so many bytes. It is lent and not copied.
@@ -109,6 +114,7 @@ impl Inbox {
     {
         self.buffer.advance(SIZE_BYTES);
         self.buffer.advance(len);
+        self.next = next_of(self.buffer.as_slice());
     }
 
     /// Reads once, and keeps the bytes. Where memory is short nothing is read.
@@ -118,7 +124,7 @@ impl Inbox {
         cx: &mut Context<'_>,
     ) -> Result<Part, AllocError>
         ensures bytes { IfOk result (λ part. AppendsRead R.reads reader.old reader.new self.old self.new (count_of part)) }
-        ensures short { IfOk result (λ part. count_of part ≤ 65536) }
+        ensures short { IfOk result (λ part. count_of part ≤ LARGEST_READ) }
         ensures end { result ≡ Ok (Moved 0) → R.is_at_end reader.new }
         ensures counted { IfOk result (λ part. R.faults reader.new ≡ R.faults reader.old + faults_of part) }
         ensures registered { IfOk result (λ part. OnWaits part (Covers cx.new (R.needs reader.new))) }
@@ -127,6 +133,7 @@ impl Inbox {
     {
         self.make_room()?;
         let part = read_into(&mut self.buffer, self.room, reader, cx)?;
+        self.next = next_of(self.buffer.as_slice());
         self.settle(part);
         Ok(part)
     }

@@ -14,6 +14,7 @@ mod end;
 mod heard;
 mod inbox;
 mod laws;
+mod limits;
 mod line;
 mod memory;
 mod moments;

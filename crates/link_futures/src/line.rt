@@ -34,7 +34,7 @@ pub struct Line<R, W> {
 }
 
 impl<R: ReadPart, W: WriteParts> Line<R, W> {
-    ghost use Rattle.link_futures.specs.Stream.{Turns, TurnsUpTo, WantsBytes, LineNeeds, EndsAs, MetNoFault, LeavesDesk};
+    ghost use Rattle.link_futures.specs.Stream.{Turns, WantsBytes, LineNeeds, EndsAs, MetNoFault, LeavesDesk};
     ghost use Rattle.link_futures.specs.Steps.{IsNewLine, IsAnswerable, ReadsOn, AnswersOn, WritesOn, EndsQuietly};
 
     /// The line of the connection with this number. Takes no memory.
@@ -68,27 +68,9 @@ impl<R: ReadPart, W: WriteParts> Line<R, W> {
     }
 
     /// One turn: reads at most once, lets the desk answer at most one frame, and writes at most once. It is ready once the
-    /// line has ended; else it waits for the reader or the writer, or asks for another turn.
+    /// line has ended; else it waits for the reader or the writer, or asks for another turn, as where a further frame is there.
     pub fn turn<D: Desk>(&mut self, cx: &mut Context<'_>, desk: &mut D) -> Poll<End>
         ensures stream { (last : D) × Turns R.reads R.is_at_end W.writes D.answers
-            (record { line = self.old; desk = desk.old }) (record { line = self.new; desk = last })
-            × LeavesDesk D.lacks result last desk.new }
-        ensures ends { IfReady result (λ end. EndsAs R.faults W.faults W.stalls end self.old self.new) }
-        ensures goes_on { OnPending result (MetNoFault R.faults W.faults W.stalls self.old self.new) }
-        ensures armed { OnPending result (Covers cx.new (LineNeeds R.needs W.needs self.new)) }
-        ensures kept { Keeps cx.old cx.new }
-    {
-        self.turns(cx, desk, 1)
-    }
-
-    /// A turn that lets the desk answer up to so many frames, one after the other, between its one read and its one write.
-    pub(crate) fn turns<D: Desk>(
-        &mut self,
-        cx: &mut Context<'_>,
-        desk: &mut D,
-        most: usize,
-    ) -> Poll<End>
-        ensures stream { (last : D) × TurnsUpTo R.reads R.is_at_end W.writes D.answers most
             (record { line = self.old; desk = desk.old }) (record { line = self.new; desk = last })
             × LeavesDesk D.lacks result last desk.new }
         ensures ends { IfReady result (λ end. EndsAs R.faults W.faults W.stalls end self.old self.new) }
@@ -100,7 +82,7 @@ impl<R: ReadPart, W: WriteParts> Line<R, W> {
             Ok(waits) => waits,
             Err(end) => return Poll::Ready(end),
         };
-        let Ok(()) = self.answer_each(desk, most) else {
+        let Ok(()) = self.answer(desk) else {
             return Poll::Ready(End::NoMemory);
         };
         let writer_waits = match self.write(cx, desk) {
@@ -115,12 +97,14 @@ impl<R: ReadPart, W: WriteParts> Line<R, W> {
 
     /// Whether there is nothing to do before bytes come, and none have come for some turns: no reply is unsent, and more bytes
     /// are wanted.
-    pub(crate) fn is_quiet(&self) -> bool {
+    pub(crate) fn is_quiet(&self) -> bool
+        ensures { result ≡ true → (length self.now.outbox ≡ 0) × WantsBytes self.now }
+    {
         self.inbox.is_quiet() && self.outbox.is_empty() && self.wants_bytes()
     }
 
     /// Whether a frame is there that may be answered.
-    fn has_frame(&self) -> bool {
+    pub(crate) fn has_frame(&self) -> bool {
         self.answerable().is_some()
     }
 
@@ -130,6 +114,7 @@ impl<R: ReadPart, W: WriteParts> Line<R, W> {
         ensures ends { IfErr result (λ end. EndsAs R.faults W.faults W.stalls end self.old self.new) }
         ensures goes_on { OnOk result (MetNoFault R.faults W.faults W.stalls self.old self.new) }
         ensures armed { result ≡ Ok true → Covers cx.new (R.needs self.new.reader) }
+        ensures waits { result ≡ Ok true → self.new.inbox ≡ self.old.inbox }
         ensures kept { Keeps cx.old cx.new }
     {
         if !self.wants_bytes() {
@@ -150,31 +135,14 @@ impl<R: ReadPart, W: WriteParts> Line<R, W> {
         }
     }
 
-    /// Lets the desk answer up to so many frames, one after the other, until none is there that may be answered, or the replies
-    /// fill a write. Where memory is short for one, those before it are answered.
-    fn answer_each<D: Desk>(&mut self, desk: &mut D, most: usize) -> Result<(), AllocError>
-        ensures ok { OnOk result (AnswersOn D.answers most self.old desk.old self.new desk.new) }
-        ensures err { OnErr result ((last : D) × AnswersOn D.answers most self.old desk.old self.new last
-            × ((desk.new ≡ last) ⊎ D.lacks last desk.new)) }
-    {
-        for _place in 0..most {
-            let Some(len) = self.answerable() else {
-                return Ok(());
-            };
-            self.answer(desk, len)?;
-            if !self.outbox.has_room_in_a_write() {
-                return Ok(());
-            }
-        }
-        Ok(())
-    }
-
-    /// Lets the desk answer the frame at the front, whose body has so many bytes.
-    fn answer<D: Desk>(&mut self, desk: &mut D, len: usize) -> Result<(), AllocError>
-        requires { IsAnswerable self.old len }
-        ensures ok { OnOk result (AnswersOn D.answers 1 self.old desk.old self.new desk.new) }
+    /// Lets the desk answer the frame at the front, where it may be answered.
+    fn answer<D: Desk>(&mut self, desk: &mut D) -> Result<(), AllocError>
+        ensures ok { OnOk result (AnswersOn D.answers self.old desk.old self.new desk.new) }
         ensures err { OnErr result ((self.new ≡ self.old) × ((desk.new ≡ desk.old) ⊎ D.lacks desk.old desk.new)) }
     {
+        let Some(len) = self.answerable() else {
+            return Ok(());
+        };
         let stamp = Stamp {
             connection: self.connection,
             frame: self.answered + 1,
@@ -186,7 +154,7 @@ impl<R: ReadPart, W: WriteParts> Line<R, W> {
         Ok(())
     }
 
-    /// Whether replies wait for that to a frame that is there already, so that one write takes them all.
+    /// Whether replies wait for that to a frame that is there already, so that one write takes them all. A further turn answers it.
     fn gathers(&self) -> bool {
         self.outbox.has_room_in_a_write() && self.has_frame()
     }

@@ -1,37 +1,30 @@
 //! The replies that a line has and hasn't written.
-ghost use Rattle.std.specs.Prelude.{◌≡◌, ◌+◌, ◌==◌, ◌^◌, ◌<◌, ◌≤◌, [], length, take, drop, All, IsTrue, ◌↔◌};
+ghost use Rattle.std.specs.Prelude.{◌≡◌, ◌+◌, ◌==◌, ◌<◌, ◌≤◌, [], length, take, drop, All, IsTrue, ◌↔◌, ◌^◌};
+ghost use Rattle.std.specs.VecDeque.{deque_len, deque_capacity};
 ghost use Rattle.futures.specs.Task.{Covers, Keeps};
 ghost use Rattle.tokio.specs.Io.Moved.{TakesWritten};
-ghost use Rattle.link_futures.specs.Parts.{faults_of, stalls_of, OnWaits};
-ghost use Rattle.link_futures.specs.Buffers.{bytes_of_all, unsent_of};
+ghost use Rattle.link_futures.specs.declared.limits.TheConstants.{MOST_BYTES, MOST_REPLIES};
+ghost use Rattle.link_futures.specs.Parts.{count_of, faults_of, stalls_of, OnWaits};
+ghost use Rattle.link_futures.specs.Buffers.{bytes_of_all, bytes_in, unsent_of};
 
 use crate::desk::Desk;
+use crate::limits::{MOST_BYTES, MOST_PARTS, MOST_REPLIES};
 use crate::part::Part;
 use crate::writer::WriteParts;
+use bytes::BytesMut;
 use coord_node::{Answered, Stamp};
 use futures::task::Context;
 use std::alloc::{AllocError, Global};
 use std::collections::VecDeque;
 use std::io::IoSlice;
 use std::marker::Model;
-
-/// The most replies that are unsent when a frame is answered, without its own.
-const MOST_REPLIES: usize = 64;
-
-/// The most bytes that are unsent when a frame is answered, without its own.
-const MOST_BYTES: usize = 8_388_608;
+use std::mem;
 
 /// With so many unsent bytes a write is worth its while, and no longer waits for further replies.
-const GATHERED: usize = 4_096;
+const GATHERED: usize = 8_192;
 
-/// The room of the queue that a line keeps while it has nothing to write.
-const QUIET_REPLIES: usize = 8;
-
-/// The room for bytes that a line keeps while it has nothing to write.
-const QUIET_BYTES: usize = 512;
-
-/// A buffer with more bytes is long: once more than half of them are written, the others move to its front.
-const LONG: usize = 4_096;
+/// The room of a queue that a line keeps while it has nothing to write.
+const QUIET: usize = 8;
 
 /// The number of a reply's frame, and how many bytes of the reply aren't written.
 #[derive(Drop)]
@@ -44,24 +37,28 @@ pub(crate) struct Reply {
 #[derive(Drop)]
 pub(crate) struct Outbox {
     replies: VecDeque<Reply>,
-    /// The bytes of all replies, one behind the other.
-    bytes: Vec<u8>,
-    /// So many of the first bytes are written.
-    written: usize,
+    /// The bytes of all replies, one behind the other, but for those of the last ones. A buffer holds one reply or several.
+    buffers: VecDeque<BytesMut>,
+    /// The bytes of the last replies, to which the desk appends. With the next write they are the last buffer.
+    tail: Vec<u8>,
+    /// How many bytes there are.
+    unsent: usize,
     alloc: Global,
 }
 
 impl Model for Outbox {
-    ghost use Rattle.std.specs.Prelude.{◌≡◌, ◌+◌, ◌<◌, List, drop, length, All};
-    ghost use Rattle.link_futures.specs.Buffers.{Waiting, waiting_code, waiting_in, unsent_of};
+    ghost use Rattle.std.specs.Prelude.{◌≡◌, ◌<◌, List, length, All};
+    ghost use Rattle.std.specs.VecDeque.{deque_len, deque_capacity};
+    ghost use Rattle.link_futures.specs.Buffers.{Waiting, waiting_code, waiting_in, joined, unsent_of};
 
     ghost Value = { List Waiting };
 
     ghost coded = { waiting_code };
 
-    ghost view = { λ o. waiting_in o.replies.items (drop o.written o.bytes.items) };
+    ghost view = { λ o. waiting_in o.replies.items (joined o.buffers.items o.tail.items) };
 
-    ghost invariant = { λ o. (o.written + unsent_of o.replies.items ≡ length o.bytes.items) × All (λ r. 0 < r.unsent) o.replies.items };
+    ghost invariant = { λ o. (unsent_of o.replies.items ≡ length (joined o.buffers.items o.tail.items)) × (o.unsent ≡ unsent_of o.replies.items)
+        × All (λ r. 0 < r.unsent) o.replies.items × (0 < length o.tail.items → deque_len o.buffers < deque_capacity o.buffers) };
 }
 
 impl Outbox {
@@ -73,8 +70,9 @@ impl Outbox {
     {
         Outbox {
             replies: VecDeque::new(alloc),
-            bytes: Vec::new(alloc),
-            written: 0,
+            buffers: VecDeque::new(alloc),
+            tail: Vec::new(alloc),
+            unsent: 0,
             alloc,
         }
     }
@@ -89,7 +87,7 @@ impl Outbox {
     /// Whether a further frame may be answered.
     #[tactic(auto, using(crate::proofs::QueueLemmas::waiting_length))]
     pub(crate) fn has_room(&self) -> bool
-        ensures { IsTrue result ↔ ((length self.now < 64) × (length (bytes_of_all self.now) ≤ 8388608)) }
+        ensures { IsTrue result ↔ ((length self.now < MOST_REPLIES) × (length (bytes_of_all self.now) ≤ MOST_BYTES)) }
     {
         self.replies.len() < MOST_REPLIES && self.unsent() <= MOST_BYTES
     }
@@ -98,37 +96,37 @@ impl Outbox {
     fn unsent(&self) -> usize
         ensures { result ≡ length (bytes_of_all self.now) }
     {
-        self.bytes.len() - self.written
+        self.unsent
     }
 
     /// Lets the desk answer a frame's body, and keeps its reply behind the others. Where memory is short nothing is kept. The room
-    /// in the queue is made first, and the desk appends to the one buffer: once it has answered, no memory is needed.
+    /// in the queues is made first, and the desk appends to the tail: once it has answered, no memory is needed.
     pub(crate) fn answer<D: Desk>(
         &mut self,
         desk: &mut D,
         body: &[u8],
         stamp: Stamp,
     ) -> Result<Answered, AllocError>
+        requires { length (bytes_of_all self.old) ≤ MOST_BYTES }
         ensures { AnswersInto D.answers D.lacks desk.old body.now stamp result desk.new self.old self.new }
     {
-        widen(&mut self.replies, &mut self.bytes);
         self.replies.reserve(1)?;
-        let before = self.bytes.len();
-        let answered = desk.answer(body, stamp, &mut self.bytes)?;
-        let unsent = self.bytes.len() - before;
+        self.buffers.reserve(1)?;
+        widen(&self.replies, &mut self.tail);
+        let before = self.tail.len();
+        let answered = desk.answer(body, stamp, &mut self.tail)?;
+        let unsent = self.tail.len() - before;
         if unsent > 0 {
+            self.unsent += unsent;
             let frame = stamp.frame;
-            match self.replies.push_back(Reply { frame, unsent }) {
-                Ok(()) => {}
-                Err(_) => unreachable!(),
-            }
+            self.replies.push_back_reserved(Reply { frame, unsent });
         }
         Ok(answered)
     }
 
     /// Whether so few bytes are unsent that a write may wait for those of further replies.
     pub(crate) fn has_room_in_a_write(&self) -> bool {
-        self.unsent() < GATHERED
+        self.unsent < GATHERED
     }
 
     /// How many of the first replies may be written by now, on a connection.
@@ -160,50 +158,50 @@ impl Outbox {
         ensures registered { OnWaits result (Covers cx.new (W.needs writer.new)) }
         ensures kept { Keeps cx.old cx.new }
     {
-        let from = self.written;
-        let to = from + unsent_by(&self.replies, count);
-        let part = writer.poll_write_parts(cx, &[IoSlice::new(&self.bytes[from..to])]);
-        self.drop_written(part.count());
+        self.end_tail();
+        let most = unsent_by(&self.replies, count);
+        let part = write_front(&self.buffers, most, writer, cx);
+        let written = part.count();
+        drop_replies(&mut self.replies, written);
+        drop_bytes(&mut self.buffers, written);
+        self.unsent -= written;
+        self.give_room_back();
         part
     }
 
-    /// Drops the first so many bytes of the replies.
-    fn drop_written(&mut self, count: usize)
-        requires { count ≤ length (bytes_of_all self.old) }
-        ensures { bytes_of_all self.new ≡ drop count (bytes_of_all self.old) }
+    /// Makes the tail the last one of the queue, where a write would come to it.
+    fn end_tail(&mut self)
+        ensures { self.new ≡ self.old }
     {
-        drop_front(&mut self.replies, count);
-        self.written += count;
-        self.give_room_back();
+        if self.tail.is_empty() || MOST_PARTS <= self.buffers.len() {
+            return;
+        }
+        let bytes = mem::replace(&mut self.tail, Vec::new(self.alloc));
+        self.buffers.push_back_reserved(BytesMut::from_vec(bytes));
     }
 
-    /// Removes the bytes that are written where no others are left, or where they are more than half of a long buffer, so that a
-    /// slow reader doesn't make it grow for ever. A line with nothing to write keeps little room.
+    /// A line with nothing to write keeps little room.
     fn give_room_back(&mut self)
         ensures { self.new ≡ self.old }
     {
-        let is_empty = self.replies.is_empty();
-        if is_empty || (LONG < self.bytes.len() && self.bytes.len() / 2 < self.written) {
-            remove_front(&mut self.bytes, self.written);
-            self.written = 0;
+        if !self.replies.is_empty() || !self.tail.is_empty() {
+            return;
         }
-        if is_empty && QUIET_BYTES < self.bytes.capacity() {
-            self.bytes = Vec::new(self.alloc);
-        }
-        if is_empty && QUIET_REPLIES < self.replies.capacity() {
+        if QUIET < self.replies.capacity() {
             self.replies = VecDeque::new(self.alloc);
+        }
+        if self.buffers.is_empty() && QUIET < self.buffers.capacity() {
+            self.buffers = VecDeque::new(self.alloc);
         }
     }
 }
 
 /// Where one reply waits, and so more frames are under way, makes the room of a whole write at once, if it is to be had.
-fn widen(replies: &mut VecDeque<Reply>, bytes: &mut Vec<u8>)
-    ensures replies { replies.new.items ≡ replies.old.items }
-    ensures bytes { bytes.new.items ≡ bytes.old.items }
+fn widen(replies: &VecDeque<Reply>, tail: &mut Vec<u8>)
+    ensures { tail.new.items ≡ tail.old.items }
 {
     if replies.len() == 1 {
-        let _ = replies.reserve(MOST_REPLIES);
-        let _ = bytes.reserve(GATHERED);
+        let _ = tail.reserve(GATHERED);
     }
 }
 
@@ -220,8 +218,34 @@ fn unsent_by(replies: &VecDeque<Reply>, count: usize) -> usize
     unsent
 }
 
+/// Writes once, at most so many bytes of the first buffers.
+fn write_front<W: WriteParts>(
+    buffers: &VecDeque<BytesMut>,
+    most: usize,
+    writer: &mut W,
+    cx: &mut Context<'_>,
+) -> Part
+    ensures bound { count_of result ≤ length (bytes_in buffers.now.items) }
+    ensures bytes { W.writes writer.old (take (count_of result) (bytes_in buffers.now.items)) writer.new }
+    ensures counted { W.faults writer.new ≡ W.faults writer.old + faults_of result }
+    ensures stalled { W.stalls writer.new ≡ W.stalls writer.old + stalls_of result }
+    ensures registered { OnWaits result (Covers cx.new (W.needs writer.new)) }
+    ensures kept { Keeps cx.old cx.new }
+{
+    let count = buffers.len().min(MOST_PARTS);
+    let mut parts = [IoSlice::new(&[]); MOST_PARTS];
+    let mut left = most;
+    for place in 0..count {
+        let bytes = buffers[place].as_slice();
+        let len = left.min(bytes.len());
+        parts[place] = IoSlice::new(&bytes[..len]);
+        left -= len;
+    }
+    writer.poll_write_parts(cx, &parts[..count])
+}
+
 /// Takes so many bytes as written from the first replies, and drops those of which none is left.
-fn drop_front(replies: &mut VecDeque<Reply>, count: usize)
+fn drop_replies(replies: &mut VecDeque<Reply>, count: usize)
     requires there { count ≤ unsent_of replies.old.items }
     requires some { All (λ r. 0 < r.unsent) replies.old.items }
     ensures unsent { unsent_of replies.new.items + count ≡ unsent_of replies.old.items }
@@ -239,12 +263,20 @@ fn drop_front(replies: &mut VecDeque<Reply>, count: usize)
     }
 }
 
-/// Removes so many of the first bytes.
-fn remove_front(bytes: &mut Vec<u8>, count: usize)
-    requires { count ≤ length bytes.old.items }
-    ensures { bytes.new.items ≡ drop count bytes.old.items }
+/// Drops the first so many bytes, buffer by buffer.
+fn drop_bytes(buffers: &mut VecDeque<BytesMut>, count: usize)
+    requires { count ≤ length (bytes_in buffers.old.items) }
+    ensures bytes { bytes_in buffers.new.items ≡ drop count (bytes_in buffers.old.items) }
+    ensures room { (deque_len buffers.new ≤ deque_len buffers.old) × (deque_capacity buffers.new ≡ deque_capacity buffers.old) }
 {
-    let len = bytes.len();
-    bytes.as_mut_slice().copy_within(count..len, 0);
-    bytes.truncate(len - count);
+    let mut left = count;
+    while let Some(buffer) = buffers.front() {
+        let len = buffer.len();
+        if left < len {
+            buffers[0].advance(left);
+            return;
+        }
+        left -= len;
+        let _ = buffers.pop_front();
+    }
 }

@@ -1,48 +1,58 @@
 //! A line that waits for its reader alone.
-ghost use Rattle.std.specs.Prelude.{◌≡◌, IsSomeAnd};
+ghost use Rattle.std.specs.Prelude.{◌≡◌, Some, IsSomeAnd};
 
+use crate::end::End;
 use crate::line::Line;
 use crate::reader::ReadPart;
 use crate::writer::WriteParts;
 use futures::Future;
 use futures::task::{Context, Poll};
 
-/// A line that waits for its reader alone. It gives the line back once bytes have come, or the reader's end, and gives none
-/// where the line has ended.
+/// A line that waits for its reader alone. It gives the line back once bytes have come, or the reader's end, or why the line
+/// has ended.
 #[derive(Drop)]
 pub struct Quiet<L> {
+    /// None once it was given back.
     line: Option<L>,
 }
 
 impl<L> Quiet<L> {
     /// A line that waits.
-    pub(crate) fn new(line: L) -> Quiet<L> {
+    pub(crate) fn new(line: L) -> Quiet<L>
+        ensures { result.line ≡ Some line }
+    {
         Quiet { line: Some(line) }
     }
 
     /// The line, where it wasn't given back.
-    pub(crate) fn into_line(self) -> Option<L> {
+    pub(crate) fn into_line(self) -> Option<L>
+        ensures { result ≡ self.line }
+    {
         self.line
     }
 }
 
 impl<R: ReadPart, W: WriteParts> Future for Quiet<Line<R, W>> {
-    type Output = Option<Line<R, W>>;
+    ghost use Rattle.link_futures.specs.Resting.{Wakes};
+
+    type Output = Result<Line<R, W>, End>;
 
     ghost needs = { λ q source. IsSomeAnd q.line (λ line. R.needs line.reader source) };
 
+    ghost gives = { λ q woken. IsSomeAnd q.line (λ line. Wakes R.reads R.is_at_end R.faults W.faults W.stalls line woken) };
+
     /// Reads once.
-    fn poll(&mut self, cx: &mut Context<'_>) -> Poll<Option<Line<R, W>>> {
+    fn poll(&mut self, cx: &mut Context<'_>) -> Poll<Result<Line<R, W>, End>> {
         let Some(mut line) = self.line.take() else {
-            return Poll::Ready(None);
+            return cx.yield_now();
         };
         match line.read(cx) {
             Ok(true) => {
                 self.line = Some(line);
                 Poll::Pending
             }
-            Ok(false) => Poll::Ready(Some(line)),
-            Err(_) => Poll::Ready(None),
+            Ok(false) => Poll::Ready(Ok(line)),
+            Err(end) => Poll::Ready(Err(end)),
         }
     }
 }

@@ -1,9 +1,10 @@
 //! Many lines over one desk.
-ghost use Rattle.std.specs.Prelude.{◌≡◌, ◌⊎◌, ◌<◌, true, false, [], length, All};
+ghost use Rattle.std.specs.Prelude.{◌≡◌, ◌⊎◌, ◌<◌, ◌^◌, ℕ, true, false, [], length, All};
 ghost use Rattle.futures.specs.Poll.{OnPending};
 ghost use Rattle.futures.specs.Task.{Covers, Keeps};
+ghost use Rattle.futures.specs.Runs.{EndsIf};
 ghost use Rattle.link_futures.specs.Stream.{LineNeeds};
-ghost use Rattle.link_futures.specs.Workers.{resting_count, RestingNeed};
+ghost use Rattle.link_futures.specs.Resting.{RestingNeed};
 
 use crate::desk::Desk;
 use crate::line::Line;
@@ -17,13 +18,13 @@ use std::alloc::Global;
 /// So many lines have turns and none of them rests: to give them all a turn costs less than to wake one.
 const FEW_LINES: usize = 16;
 
-/// How many frames a line answers in a turn at most, so that one that has much to be answered doesn't keep the others, or arrivals,
-/// waiting. As many replies may wait for its writer.
-const MOST_FRAMES: usize = 64;
+/// The most rounds of a poll. In so many a line may answer as many frames as there may be unsent replies.
+const MOST_ROUNDS: usize = 64;
 
-/// Many lines over one desk. A poll looks once for an arrival and gives each line one turn, in which it answers what it has read,
-/// up to `MOST_FRAMES`, so no line waits for another to end; but where there are many, a line that waits for its reader alone
-/// rests until it is woken. It is ready, with the number of lines that have ended, once arrivals have ended and no line is left.
+/// Many lines over one desk. In a round it looks once for an arrival and gives each line one turn, so no line waits for another
+/// to end, and lines that have frames are answered frame by frame in turn; a poll is one round, and further ones while a line has
+/// a frame, up to `MOST_ROUNDS`. Where there are many lines, one that waits for its reader alone rests until it is woken. It is
+/// ready, with the number of lines that have ended, once arrivals have ended and no line is left.
 #[derive(Drop)]
 pub struct Worker<A: Stream, D> {
     arrivals: A,
@@ -41,7 +42,7 @@ impl<R: ReadPart, W: WriteParts, A: Stream<Item = Line<R, W>>, D: Desk> Worker<A
     /// A worker with no lines. Takes no memory.
     pub fn new(alloc: Global, arrivals: A, desk: D) -> Worker<A, D>
         ensures given { (result.arrivals ≡ arrivals) × (result.desk ≡ desk) }
-        ensures fresh { (result.is_closed ≡ false) × (result.lines.items ≡ []) × (result.ended ≡ 0) }
+        ensures fresh { (result.is_closed ≡ false) × (result.lines.items ≡ []) × (result.resting.count ≡ 0) × (result.ended ≡ 0) }
     {
         Worker {
             arrivals,
@@ -53,20 +54,23 @@ impl<R: ReadPart, W: WriteParts, A: Stream<Item = Line<R, W>>, D: Desk> Worker<A
         }
     }
 
-    /// Looks once for an arrival. Says whether one has come.
+    /// Looks once for an arrival. Says whether one has come, or may have: where memory is short for it none is taken.
     fn poll_arrival(&mut self, cx: &mut Context<'_>) -> bool
         requires { self.old.is_closed ≡ false → A.can_poll self.old.arrivals }
         ensures can { self.new.is_closed ≡ false → A.can_poll self.new.arrivals }
+        ensures gives { (n : ℕ) → ⟦<Worker<A, D> as Future>⟧.gives self.new n → ⟦<Worker<A, D> as Future>⟧.gives self.old n }
         ensures waits { result ≡ false → self.new.is_closed ≡ false → Covers cx.new (A.needs self.new.arrivals) }
         ensures kept { Keeps cx.old cx.new }
     {
         if self.is_closed {
             return false;
         }
+        if self.lines.reserve(1).is_err() {
+            return true;
+        }
         match self.arrivals.poll_next(cx) {
             Poll::Ready(Some(line)) => {
-                // Where memory is short the line is let go, and its connection closed.
-                let _ = self.lines.push(line);
+                self.lines.push_reserved(line);
                 true
             }
             Poll::Ready(None) => {
@@ -80,7 +84,8 @@ impl<R: ReadPart, W: WriteParts, A: Stream<Item = Line<R, W>>, D: Desk> Worker<A
     /// Gives turns to the lines that have rested and were woken. Says whether there was such a line, or may be.
     fn wake(&mut self, cx: &mut Context<'_>) -> bool
         ensures arrivals { (self.new.arrivals ≡ self.old.arrivals) × (self.new.is_closed ≡ self.old.is_closed) }
-        ensures waits { result ≡ false → 0 < resting_count self.new.resting.lines → Covers cx.new (RestingNeed self.new.resting.lines) }
+        ensures gives { (n : ℕ) → ⟦<Worker<A, D> as Future>⟧.gives self.new n → ⟦<Worker<A, D> as Future>⟧.gives self.old n }
+        ensures waits { result ≡ false → 0 < self.new.resting.count → Covers cx.new (RestingNeed self.new.resting.lines) }
         ensures kept { Keeps cx.old cx.new }
     {
         if self.resting.len() == 0 {
@@ -100,18 +105,22 @@ impl<R: ReadPart, W: WriteParts, A: Stream<Item = Line<R, W>>, D: Desk> Worker<A
     /// the line, it stays where it rests, and is woken still.
     fn wake_one(&mut self, cx: &mut Context<'_>) -> Poll<()>
         ensures arrivals { (self.new.arrivals ≡ self.old.arrivals) × (self.new.is_closed ≡ self.old.is_closed) }
-        ensures waits { OnPending result (0 < resting_count self.new.resting.lines → Covers cx.new (RestingNeed self.new.resting.lines)) }
+        ensures gives { (n : ℕ) → ⟦<Worker<A, D> as Future>⟧.gives self.new n → ⟦<Worker<A, D> as Future>⟧.gives self.old n }
+        ensures waits { OnPending result (0 < self.new.resting.count → Covers cx.new (RestingNeed self.new.resting.lines)) }
         ensures kept { Keeps cx.old cx.new }
     {
+        if self.resting.len() == 0 {
+            return Poll::Pending;
+        }
         if self.lines.reserve(1).is_err() {
             return Poll::Ready(());
         }
         match self.resting.poll_woken(cx) {
-            Poll::Ready(Some(line)) => {
-                let _ = self.lines.push(line);
+            Poll::Ready(Ok(line)) => {
+                self.lines.push_reserved(line);
                 Poll::Ready(())
             }
-            Poll::Ready(None) => {
+            Poll::Ready(Err(_)) => {
                 self.ended = self.ended.saturating_add(1);
                 Poll::Ready(())
             }
@@ -119,90 +128,123 @@ impl<R: ReadPart, W: WriteParts, A: Stream<Item = Line<R, W>>, D: Desk> Worker<A
         }
     }
 
+    /// Gives each line a turn, one line behind the other, so that the replies of one go out while the next is answered. Those that
+    /// end are dropped, and the others are registered for what they need.
+    fn take_turns(&mut self, cx: &mut Context<'_>)
+        ensures arrivals { (self.new.arrivals ≡ self.old.arrivals) × (self.new.is_closed ≡ self.old.is_closed) }
+        ensures resting { self.new.resting ≡ self.old.resting }
+        ensures gives { (n : ℕ) → ⟦<Worker<A, D> as Future>⟧.gives self.new n → ⟦<Worker<A, D> as Future>⟧.gives self.old n }
+        ensures armed { All (λ line. Covers cx.new (LineNeeds R.needs W.needs line)) self.new.lines.items }
+        ensures kept { Keeps cx.old cx.new }
+    {
+        let mut place = 0;
+        while place < self.lines.len() {
+            match self.lines[place].turn(cx, &mut self.desk) {
+                Poll::Pending => place += 1,
+                Poll::Ready(_) => {
+                    let _ = self.lines.swap_remove(place);
+                    self.ended = self.ended.saturating_add(1);
+                }
+            }
+        }
+    }
+
+    /// Looks once for an arrival and for lines that were woken, and gives each line that doesn't rest one turn. Says whether there
+    /// was an arrival or a woken line, or may be.
+    fn round(&mut self, cx: &mut Context<'_>) -> bool
+        requires { self.old.is_closed ≡ false → A.can_poll self.old.arrivals }
+        ensures can { self.new.is_closed ≡ false → A.can_poll self.new.arrivals }
+        ensures gives { (n : ℕ) → ⟦<Worker<A, D> as Future>⟧.gives self.new n → ⟦<Worker<A, D> as Future>⟧.gives self.old n }
+        ensures waits { result ≡ false → self.new.is_closed ≡ false → Covers cx.new (A.needs self.new.arrivals) }
+        ensures rests { result ≡ false → 0 < self.new.resting.count → Covers cx.new (RestingNeed self.new.resting.lines) }
+        ensures armed { All (λ line. Covers cx.new (LineNeeds R.needs W.needs line)) self.new.lines.items }
+        ensures kept { Keeps cx.old cx.new }
+    {
+        let has_come = self.poll_arrival(cx);
+        let has_woken = self.wake(cx);
+        self.take_turns(cx);
+        has_come || has_woken
+    }
+
+    /// Whether a line has a frame that may be answered.
+    fn has_frame(&self) -> bool {
+        for line in &self.lines {
+            if line.has_frame() {
+                return true;
+            }
+        }
+        false
+    }
+
+    /// Lets the lines rest that wait for their readers alone, until few are left that have turns. Says whether there was such a line.
+    fn rest_all(&mut self) -> bool
+        ensures arrivals { (self.new.arrivals ≡ self.old.arrivals) × (self.new.is_closed ≡ self.old.is_closed) }
+        ensures gives { (n : ℕ) → ⟦<Worker<A, D> as Future>⟧.gives self.new n → ⟦<Worker<A, D> as Future>⟧.gives self.old n }
+        ensures none { result ≡ false → self.new ≡ self.old }
+    {
+        let mut has_rested = false;
+        let mut place = 0;
+        while place < self.lines.len() && FEW_LINES < self.lines.len() {
+            if !self.lines[place].is_quiet() {
+                place += 1;
+                continue;
+            }
+            if let Err(line) = self.resting.rest(self.lines.swap_remove(place)) {
+                self.lines.push_reserved(line);
+                return true;
+            }
+            has_rested = true;
+        }
+        has_rested
+    }
+
+    /// How many lines have ended.
+    fn ended_lines(&self) -> u64
+        ensures value { result ≡ self.now.ended }
+        ensures small { result < 2 ^ 64 }
+    {
+        self.ended
+    }
+
     /// Whether arrivals have ended and no line is left.
     fn is_done(&self) -> bool
-        ensures { result ≡ false → self.now.is_closed ≡ true → (0 < length self.now.lines.items) ⊎ (0 < resting_count self.now.resting.lines) }
+        ensures yes { result ≡ true → (self.now.is_closed ≡ true) × (self.now.lines.items ≡ []) × (self.now.resting.count ≡ 0) }
+        ensures no { result ≡ false → self.now.is_closed ≡ true → (0 < length self.now.lines.items) ⊎ (0 < self.now.resting.count) }
     {
         self.is_closed && self.lines.is_empty() && self.resting.len() == 0
     }
 }
 
 impl<R: ReadPart, W: WriteParts, A: Stream<Item = Line<R, W>>, D: Desk> Future for Worker<A, D> {
-    ghost use Rattle.link_futures.specs.Workers.{WorkerNeeds};
+    ghost use Rattle.link_futures.specs.Workers.{WorkerNeeds, WorkerGives};
 
     type Output = u64;
 
     ghost can_poll = { λ w. w.is_closed ≡ false → A.can_poll w.arrivals };
 
-    ghost needs = { λ w. WorkerNeeds A.needs R.needs W.needs w.arrivals w.is_closed w.lines.items w.resting.lines };
+    ghost needs = { λ w. WorkerNeeds A.needs R.needs W.needs w.arrivals w.is_closed w.lines.items w.resting.lines w.resting.count };
 
-    /// Looks once for an arrival, and gives each line that doesn't rest one turn.
+    ghost gives = { λ w. WorkerGives R.reads R.is_at_end R.faults W.writes W.faults W.stalls D.answers
+        (EndsIf w.is_closed (A.yields w.arrivals)) w.lines.items w.resting.lines w.resting.count w.ended };
+
+    /// Makes a round, and further ones while a line has a frame.
     fn poll(&mut self, cx: &mut Context<'_>) -> Poll<u64> {
-        let has_come = self.poll_arrival(cx);
-        let has_woken = self.wake(cx);
-        let before = self.lines.len();
-        take_turns(&mut self.lines, cx, &mut self.desk);
-        let ended = before.saturating_sub(self.lines.len());
-        self.ended = self.ended.saturating_add(ended as u64);
-        let has_rested = rest_all(&mut self.lines, &mut self.resting);
-        if has_come || has_woken || has_rested {
+        let mut has_news = self.round(cx);
+        for _ in 1..MOST_ROUNDS {
+            if !self.has_frame() {
+                break;
+            }
+            has_news = self.round(cx);
+        }
+        if has_news {
+            return cx.yield_now();
+        }
+        if self.rest_all() {
             return cx.yield_now();
         }
         if self.is_done() {
-            return Poll::Ready(self.ended);
+            return Poll::Ready(self.ended_lines());
         }
         Poll::Pending
-    }
-}
-
-/// Lets the lines rest that wait for their readers alone, until few are left that have turns. Says whether there was such a
-/// line.
-fn rest_all<R: ReadPart, W: WriteParts>(
-    lines: &mut Vec<Line<R, W>>,
-    resting: &mut Resting<Line<R, W>>,
-) -> bool
-    ensures { result ≡ false → (lines.new.items ≡ lines.old.items) × (resting.new.lines ≡ resting.old.lines) }
-{
-    let mut has_rested = false;
-    let mut place = 0;
-    while place < lines.len() && FEW_LINES < lines.len() {
-        if lines[place].is_quiet() {
-            if let Err(line) = resting.rest(lines.swap_remove(place)) {
-                keep(lines, line);
-                return true;
-            }
-            has_rested = true;
-        } else {
-            place += 1;
-        }
-    }
-    has_rested
-}
-
-/// Puts a line back from which memory was short.
-fn keep<L: Drop>(lines: &mut Vec<L>, line: Option<L>) {
-    if let Some(line) = line {
-        let _ = lines.push(line);
-    }
-}
-
-/// Gives each line a turn, one line behind the other, so that the replies of one go out while the next is answered. Those that end
-/// are dropped, and the others are registered for what they need.
-fn take_turns<R: ReadPart, W: WriteParts, D: Desk>(
-    lines: &mut Vec<Line<R, W>>,
-    cx: &mut Context<'_>,
-    desk: &mut D,
-)
-    ensures armed { All (λ line. Covers cx.new (LineNeeds R.needs W.needs line)) lines.new.items }
-    ensures kept { Keeps cx.old cx.new }
-{
-    let mut place = 0;
-    while place < lines.len() {
-        match lines[place].turns(cx, desk, MOST_FRAMES) {
-            Poll::Pending => place += 1,
-            Poll::Ready(_) => {
-                let _ = lines.swap_remove(place);
-            }
-        }
     }
 }

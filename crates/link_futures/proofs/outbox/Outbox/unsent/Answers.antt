@@ -1,8 +1,8 @@
 use Rattle.std.proofs.Common.{arith}
-use Rattle.link_futures.proofs.QueueLemmas.{unwritten_length}
+use Rattle.link_futures.proofs.QueueLemmas.{unsent_length}
 use Rattle.link_futures.proofs.outbox.Outbox.unsent.Goals as goal
 
 pub returns : goal.returns
 returns c =
     let o = c.self.inside in
-    omega (arith, unwritten_length o.replies.items o.bytes.items o.written c.self.invariant.0 c.args.self.now c.self.view_is, c.self.invariant.0, c.len.ensures, o.bytes.ok.0)
+    omega (arith, unsent_length o.replies.items o.buffers.items o.tail.items c.self.invariant.0 c.args.self.now c.self.view_is, c.self.invariant.1)

@@ -1,31 +1,24 @@
-use Rattle.std.proofs.Common.{◌≡◌, ◌∙◌, ◌++◌, [], length, take, drop, ap, sym, arith}
-use Rattle.std.specs.Io.Slices.{io_slice_bytes}
-use Rattle.link_futures.specs.Buffers.{bytes_of_all}
+use Rattle.std.proofs.Common.{◌≡◌, ◌∙◌, length, take, drop, ap, sym, arith}
+use Rattle.link_futures.specs.Buffers.{bytes_of_all, bytes_in, joined}
 use Rattle.link_futures.specs.Parts.{count_of}
-use Rattle.link_futures.proofs.QueueLemmas.{waiting_length, bytes_offered}
+use Rattle.link_futures.proofs.QueueLemmas.{waiting_length, bytes_dropped, bytes_written}
 use Rattle.link_futures.proofs.outbox.Outbox.write.Goals as goal
 
-pub unsent_by-requires-clause-there : goal.unsent_by-requires-clause-there
-unsent_by-requires-clause-there g c =
-    omega (arith, c.requires, ap length c.self.view_is, waiting_length c.self.inside.replies.items (drop c.self.inside.written c.self.inside.bytes.items))
-
-pub drop_written-requires : goal.drop_written-requires
-drop_written-requires g c =
+pub unsent_by-most-requires-clause-there : goal.unsent_by-most-requires-clause-there
+unsent_by-most-requires-clause-there g c =
     let o = c.self.inside in
-    let offered =
-    bytes_offered o.replies.items o.bytes.items o.written c.self.invariant.0 c.args.self.now c.self.view_is (io_slice_bytes c.new.result) c.unsent_by.result (count_of c.poll_write_parts-part.result)
-    (rw c.deref.ensures.value at c.new.ensures) c.poll_write_parts-part.ensures.bound in
-    omega (arith, c.count.ensures, offered.0)
+    omega (arith, c.requires, ap length c.end_tail.ensures, ap length c.self.view_is, waiting_length o.replies.items (joined o.buffers.items o.tail.items))
 
 pub returns-clause-bytes : goal.returns-clause-bytes
 returns-clause-bytes g c =
     let o = c.self.inside in
-    let count = count_of c.poll_write_parts-part.result in
-    let offered =
-    bytes_offered o.replies.items o.bytes.items o.written c.self.invariant.0 c.args.self.now c.self.view_is (io_slice_bytes c.new.result) c.unsent_by.result count
-    (rw c.deref.ensures.value at c.new.ensures) c.poll_write_parts-part.ensures.bound in
-    let left : bytes_of_all c.drop_written.new.self ≡ drop count (bytes_of_all c.args.self.now) = c.drop_written.ensures ∙ ap (λ n. drop n (bytes_of_all c.args.self.now)) c.count.ensures in (
-      take count (io_slice_bytes c.new.result ++ []),
-      c.poll_write_parts-part.ensures.bytes,
-      offered.1 ∙ ap (λ xs. take count (io_slice_bytes c.new.result ++ []) ++ xs) (sym left),
+    let waiting = c.end_tail.new.self in
+    let count = count_of c.write_front-part.result in
+    let there = c.write_front-part.ensures.bound in
+    let dropped : bytes_in c.drop_bytes.new.buffers.items ≡ drop count (bytes_in o.buffers.items) = c.drop_bytes.ensures.bytes ∙ ap (λ n. drop n (bytes_in o.buffers.items)) c.count-written.ensures in
+    let left = bytes_dropped o.replies.items o.buffers.items o.tail.items c.self.invariant.0 waiting c.self.view_is c.drop_replies.new.replies.items c.drop_bytes.new.buffers.items count there dropped (omega (arith, c.drop_replies.ensures.unsent, c.count-written.ensures)) in (
+      take count (bytes_in o.buffers.items),
+      c.write_front-part.ensures.bytes,
+      ap bytes_of_all (sym c.end_tail.ensures)
+          ∙ bytes_written o.replies.items o.buffers.items o.tail.items c.self.invariant.0 waiting c.self.view_is (bytes_of_all c.give_room_back.new.self) count there (ap bytes_of_all c.give_room_back.ensures ∙ left.1),
     )

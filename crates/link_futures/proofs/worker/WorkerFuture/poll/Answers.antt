@@ -1,20 +1,20 @@
-use Rattle.std.proofs.Common.{◌≡◌, ◌<◌, ◌⊎◌, ◌∙◌, true, length}
-use Rattle.link_futures.specs.Workers.{resting_count}
-use Rattle.link_futures.proofs.TurnLemmas.{Covers_kept}
+use Rattle.std.proofs.Common.{◌≡◌, ◌<◌, ◌⊎◌, true, arith, length, refl}
+use Rattle.futures.specs.Runs.{EndsIf}
 use Rattle.link_futures.proofs.WorkerLemmas.{WorkerNeeds_covered}
+use Rattle.link_futures.proofs.GivesLemmas.{gives_all}
 use Rattle.link_futures.proofs.worker.WorkerFuture.poll.Goals as goal
 
 pub returns-clause-registered : goal.returns-clause-registered
 returns-clause-registered g c =
-    let looked = c.poll_arrival-has_come.new in
-    let woken = c.wake-has_woken in
-    let same = woken.ensures.arrivals in
-    let rests = c.rest_all-has_rested.ensures c.if-has_rested.false in
-    let some : looked.self.is_closed ≡ true → (0 < length c.take_turns.new.lines.items) ⊎ (0 < resting_count woken.new.self.resting.lines) = λ closed. rw (← rests.0, ← rests.1) (c.is_done.ensures c.if-is_done.false (same.1 ∙ closed)) in
-    rw (same.0, same.1, rests.0, rests.1)
-    (WorkerNeeds_covered g.A.Stream.needs g.R.AsyncRead.needs g.W.AsyncWrite.needs looked.self.is_closed c.take_turns.new.lines.items woken.new.self.resting.lines looked.self.arrivals looked.cx c.take_turns.new.cx
-    (c.poll_arrival-has_come.ensures.waits c.if-has_come.false)
-    (λ fact held. c.take_turns.ensures.kept fact (woken.ensures.kept fact held))
-    c.take_turns.ensures.armed
-    (λ any. Covers_kept woken.new.cx c.take_turns.new.cx _ (woken.ensures.waits c.if-has_woken.false any) c.take_turns.ensures.kept)
-    some)
+    let kept = c.loop.invariant in
+    let same = c.rest_all.ensures.none c.if-rest_all.false in
+    let some : c.loop.self.is_closed ≡ true → (0 < length c.loop.self.lines.items) ⊎ (0 < c.loop.self.resting.count) = rw same at (c.is_done.ensures.no c.if-is_done.false) in
+    rw same
+    (WorkerNeeds_covered g.A.Stream.needs g.R.AsyncRead.needs g.W.AsyncWrite.needs c.loop.self.is_closed c.loop.self.lines.items c.loop.self.resting.lines c.loop.self.resting.count c.loop.self.arrivals c.loop.cx
+    (kept.1 c.if-has_news.false) kept.3 (kept.2 c.if-has_news.false) some)
+
+pub returns-then-is_done-clause-value : goal.returns-then-is_done-clause-value
+returns-then-is_done-clause-value g c =
+    let done = c.is_done.ensures.yes c.if-is_done.true in
+    rw c.ended_lines.ensures.value
+    (c.round-has_news.ensures.gives c.rest_all.new.self.ended (c.loop.invariant.5 c.rest_all.new.self.ended (c.rest_all.ensures.gives c.rest_all.new.self.ended (rw (done.0, done.1, done.2) (gives_all g.R.AsyncRead.reads g.R.AsyncRead.is_at_end g.R.ReadPart.faults g.W.AsyncWrite.writes g.W.WriteParts.faults g.W.WriteParts.stalls g.D.Desk.answers _ c.rest_all.new.self.ended (EndsIf true (g.A.Stream.yields c.rest_all.new.self.arrivals)) (refl, refl) (omega (arith, c.ended_lines.ensures.value, c.ended_lines.ensures.small)))))))

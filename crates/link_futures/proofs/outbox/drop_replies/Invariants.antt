@@ -1,6 +1,6 @@
 use Rattle.std.proofs.Common.{◌≡◌, ◌+◌, ◌<◌, ◌≤◌, All, deque_len}
 use Rattle.link_futures.specs.Buffers.{unsent_of}
-use Rattle.link_futures.proofs.outbox.drop_front.Given as goal
+use Rattle.link_futures.proofs.outbox.drop_replies.Given as goal
 
 abbrev pub invariant-loop-reply : goal.invariant-loop-reply
 invariant-loop-reply l =

@@ -2,7 +2,7 @@ use Rattle.std.proofs.Common.{◌<◌, length, refl, arith}
 use Rattle.std.proofs.lemmas.List.Elements.{All-drop}
 use Rattle.link_futures.specs.declared.outbox.Reply.{Reply}
 use Rattle.link_futures.proofs.QueueLemmas.{front_and_rest}
-use Rattle.link_futures.proofs.outbox.drop_front.Goals as goal
+use Rattle.link_futures.proofs.outbox.drop_replies.Goals as goal
 
 pub loop-reply-preserved : goal.loop-reply-preserved
 loop-reply-preserved c =

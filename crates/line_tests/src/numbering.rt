@@ -1,0 +1,49 @@
+//! A desk that numbers the frames that it answers, over all its lines.
+ghost use Rattle.std.specs.Prelude.{⊤};
+
+use link_futures::{Answered, Desk, Stamp};
+use std::alloc::AllocError;
+
+/// A desk that answers each frame with the number of frames that it has answered by then, of whichever line: the first with 1.
+#[derive(Drop)]
+pub struct Numbering {
+    answered: u8,
+}
+
+impl Numbering {
+    /// A desk that has answered no frame.
+    pub fn new() -> Numbering {
+        Numbering { answered: 0 }
+    }
+}
+
+impl Desk for Numbering {
+    ghost answers = { λ _ _ _ _ _. ⊤ };
+
+    ghost lacks = { λ _ _. ⊤ };
+
+    fn answer(
+        &mut self,
+        _body: &[u8],
+        _stamp: Stamp,
+        out: &mut Vec<u8>,
+    ) -> Result<Answered, AllocError> {
+        let number = self.answered.wrapping_add(1);
+        out.extend_from_slice(&[0, 0, 0, 1, number])?;
+        self.answered = number;
+        Ok(Answered::Replied)
+    }
+}
+
+/// Puts the numbers of replies, behind a bar where others stand before them.
+pub fn put_numbers(replies: &[u8], out: &mut String) -> Result<(), AllocError> {
+    if !out.is_empty() {
+        out.push_str(" | ")?;
+    }
+    let mut between = "";
+    for reply in replies.chunks(5) {
+        write!(out, "{between}{}", reply.last().copied().unwrap_or(0))?;
+        between = " ";
+    }
+    Ok(())
+}
