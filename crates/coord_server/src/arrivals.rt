@@ -1,15 +1,17 @@
 //! The lines of one worker.
-ghost use Rattle.std.specs.Prelude.{◌≡◌, ◌%◌, IfSome, IfOk};
+ghost use Rattle.std.specs.Prelude.{◌≡◌, ◌+◌, ◌%◌, vec_len, IfSome, IfOk, OnOk};
 ghost use Rattle.futures.specs.Channel.{unbounded_readable_source};
 ghost use Rattle.link_futures.specs.Stream.{place_of};
+ghost use Rattle.coord_server.specs.Posts.{ArePosts};
 
 use crate::connection::Connection;
+use crate::fault::ServerFault;
 use crate::handed::{Handed, Post};
 use futures::Stream;
 use futures::channel::mpsc::{UnboundedReceiver, unbounded};
 use futures::task::{Context, Poll};
 use link_futures::{Line, ReadPart, WriteParts};
-use std::alloc::{AllocError, Global};
+use std::alloc::Global;
 use std::io;
 use std::marker::PhantomData;
 use tokio::reactor::Handle;
@@ -26,31 +28,34 @@ pub struct Arrivals<K: Drop, I: Drop, O: Drop> {
     opens: PhantomData<(I, O)>,
 }
 
-/// The way of connections to the worker with this number, of so many, and their lines at its event loop.
+/// The lines at an event loop of the worker that follows those to whom the ways lead, of so many. The way of connections to it is put
+/// behind theirs.
 pub fn arrivals_of<K: Drop, I: Drop, O: Drop>(
     alloc: Global,
-    handle: Handle,
-    worker: usize,
+    handle: &Handle,
+    posts: &mut Vec<Post<K>>,
     workers: usize,
-) -> Result<(Post<K>, Arrivals<K, I, O>), AllocError>
-    ensures post { IfOk result (λ ends. (ends.0.worker ≡ worker) × (ends.0.workers ≡ workers)) }
-    ensures arrivals { IfOk result (λ ends. (ends.1.worker ≡ worker) × (ends.1.workers ≡ workers)) }
+) -> Result<Arrivals<K, I, O>, ServerFault>
+    ensures more { OnOk result (vec_len posts.new ≡ vec_len posts.old + 1) }
+    ensures placed { ArePosts workers posts.old.items → OnOk result (ArePosts workers posts.new.items) }
+    ensures arrivals { IfOk result (λ lines. (lines.worker ≡ vec_len posts.old) × (lines.workers ≡ workers)) }
 {
+    let handle = handle.clone()?;
     let (sender, handed) = unbounded(alloc)?;
-    let post = Post {
+    let worker = posts.len();
+    posts.push(Post {
         sender,
         worker,
         workers,
-    };
-    let arrivals = Arrivals {
+    })?;
+    Ok(Arrivals {
         handed,
         handle,
         worker,
         workers,
         alloc,
         opens: PhantomData,
-    };
-    Ok((post, arrivals))
+    })
 }
 
 impl<K: Connection<I, O>, I: ReadPart, O: WriteParts> Arrivals<K, I, O> {

@@ -7,11 +7,15 @@
 #![tactic(auto)]
 
 mod acceptor;
+mod added;
+mod announce;
 mod arrivals;
 mod bell;
 mod clock;
 mod connection;
+mod crew;
 mod desk;
+mod desks;
 mod entrance;
 mod expiry;
 mod fault;
@@ -26,12 +30,15 @@ mod timed;
 mod works;
 
 pub use acceptor::Acceptor;
+pub use announce::Announce;
 pub use arrivals::Arrivals;
 pub use bell::Bell;
 pub use clock::ClockMoments;
 pub use connection::{Connection, SocketReader, SocketWriter};
 pub use coord_shards::{AlwaysOpen, Gate, Image, Moment, Shards, Stamp};
+pub use crew::Crew;
 pub use desk::ShardsDesk;
+pub use desks::Desks;
 pub use entrance::{Accepted, Entrance, Incoming, Watch};
 pub use expiry::Expiry;
 pub use fault::ServerFault;

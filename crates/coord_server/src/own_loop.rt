@@ -15,8 +15,11 @@ use std::thread::Promise;
 use std::time::Clock;
 use tokio::runtime::LocalRuntime;
 
-/// What a future with a loop of its own gives: how many connections have ended, or its fault, unless it was told to stop.
-pub type Outcome = Result<Result<u64, ServerFault>, Aborted>;
+/// What a worker or an expiry worker ends with: how many connections have ended, or its fault.
+pub type Ended = Result<u64, ServerFault>;
+
+/// What a future with a loop of its own gives: what it ends with, unless it was told to stop.
+pub type Outcome = Result<Ended, Aborted>;
 
 /// A future, the event loop that is to run it, and the bell by which its end is heard.
 #[derive(Drop)]
@@ -26,12 +29,12 @@ pub struct OwnLoop<'a, B> {
     pub bell: &'a Bell,
 }
 
-/// That what a thread gives is what its future gives.
+/// That what a thread ends with is what its future gives.
 #[derive(Drop)]
 pub struct Gives<B>(pub Snapshot<B>);
 
-impl<B: Future<Output = Outcome>> Promise<Result<Option<u64>, ServerFault>> for Gives<B> {
-    ghost kept_by = { λ p r. IfOk r (λ ended. IfSome ended (λ n. B.gives p.0.value (Ok (Ok n)))) };
+impl<B: Future<Output = Ended>> Promise<Result<Option<u64>, ServerFault>> for Gives<B> {
+    ghost kept_by = { λ p r. IfOk r (λ ended. IfSome ended (λ n. B.gives p.0.value (Ok n))) };
 }
 
 impl<'a, B: Future<Output = Outcome>> OwnLoop<'a, B> {

@@ -1,6 +1,5 @@
 //! How large a server is, and when it ends.
-ghost use Rattle.std.specs.Prelude.{◌≡◌};
-ghost use Rattle.coord_server.specs.Plans.{clock_count};
+ghost use Rattle.std.specs.Prelude.{◌<◌};
 
 /// How large a server is, and when it ends.
 #[derive(Clone, Copy, Debug)]
@@ -11,9 +10,13 @@ pub struct Plan {
     pub connections: u64,
     /// Whether an expiry worker runs.
     pub expires: bool,
+    pub ghost some: { 0 < workers },
 }
 
 impl Plan {
+    ghost use Rattle.std.specs.Prelude.{◌≡◌};
+    ghost use Rattle.coord_server.specs.Plans.{clock_count};
+
     /// How many expiry workers run.
     pub fn clocks(self) -> usize
         ensures { result ≡ clock_count self.expires }

@@ -2,7 +2,8 @@
 ghost use Rattle.std.specs.Prelude.{◌≡◌, ◌+◌, ◌≤◌, ◌<◌, true, IfOk};
 
 use coord_server::{
-    AlwaysOpen, ClockMoments, Moments, Plan, ServerFault, Shards, ShardsDesk, serve_sockets,
+    AlwaysOpen, Announce, ClockMoments, Moments, Plan, ServerFault, Shards, ShardsDesk,
+    serve_sockets,
 };
 use scenario_lines::service::Service;
 use std::alloc::{AllocGlobal, Global};
@@ -76,9 +77,11 @@ where
         Ok(moments) => moments,
         Err(error) => return Err(ServeFault::Clock(error)),
     };
-    let port = u64::from(service.port);
-    let announce = || print(writer, "listening", port);
-    let served = serve_socket(rt, &service, keys, socket, &moments, announce)?;
+    let listening = Listening {
+        writer: &mut *writer,
+        port: service.port,
+    };
+    let served = serve_socket(rt, &service, keys, socket, &moments, listening)?;
     Ok(print(writer, "served", served)?)
 }
 
@@ -94,18 +97,17 @@ where
 }
 
 /// Serves the connections of a socket over new shards, whose salt is the first moment. Gives their number.
-fn serve_socket<R, F>(
+fn serve_socket<R, N>(
     rt: &R,
     service: &Service,
     keys: RandomState,
     socket: TcpListener,
     moments: &ClockMoments<'_, R>,
-    announce: F,
+    announce: N,
 ) -> Result<u64, ServerFault>
 where
     R: Wait + Threads + Clock + Net + RandomSource + AllocGlobal + Sync,
-    F: FnOnce() -> io::Result<()>,
-    requires { F.pre announce }
+    N: Announce,
     ensures { IfOk result (λ served. served ≡ service.now.connections) }
 {
     let (salt, shards) = (moments.first().millis(), service.shards as u64);
@@ -116,7 +118,7 @@ where
 }
 
 /// Serves the connections of a socket over new shards with a salt. Gives their number.
-fn serve_over<A, C, M, R, F>(
+fn serve_over<A, C, M, R, N>(
     rt: &R,
     service: &Service,
     keys: RandomState,
@@ -125,15 +127,14 @@ fn serve_over<A, C, M, R, F>(
     moments: &M,
     entries: Blank,
     calls: Blank,
-    announce: F,
+    announce: N,
 ) -> Result<u64, ServerFault>
 where
     A: Ledger + Send + Sync,
     C: Ledger + Send + Sync,
     M: Moments + Clone + Send,
     R: Wait + Threads + Clock + Net + RandomSource + AllocGlobal + Sync,
-    F: FnOnce() -> io::Result<()>,
-    requires announce { F.pre announce }
+    N: Announce,
     requires entries { (entries.name ≡ A.name) × (entries.parts ≡ A.parts) × (entries.parts ≡ service.now.shards) }
     requires calls { (calls.name ≡ C.name) × (calls.parts ≡ C.parts) × (calls.parts ≡ 256 + service.now.shards) }
     ensures { IfOk result (λ served. served ≡ service.now.connections) }
@@ -192,6 +193,19 @@ where
     let mut desk = ShardsDesk::new(rt, rt.alloc(), shards, moments)?;
     desk.set_image(image)?;
     Ok(())
+}
+
+/// Prints that the server listens on a port.
+#[derive(Drop)]
+struct Listening<'a, W> {
+    writer: &'a mut W,
+    port: u16,
+}
+
+impl<'a, W: Write> Announce for Listening<'a, W> {
+    fn announce(self) -> io::Result<()> {
+        print(self.writer, "listening", u64::from(self.port))
+    }
 }
 
 /// Prints a line of a word and a number, and flushes it.

@@ -2,7 +2,7 @@
 ghost use Rattle.std.specs.Prelude.{◌≡◌, ◌<◌};
 
 use crate::gates::Watched;
-use crate::server::{Told, shards_over};
+use crate::server::{Told, Unheard, shards_over};
 use bytes::BytesMut;
 use coord_server::{
     ClockMoments, Incoming, Moments, Plan, Registry, ServerFault, Shards, Token, serve,
@@ -33,7 +33,6 @@ pub fn over_memory<G, R>(
 where
     G: Watched,
     R: Wait + Threads + Clock + Net + RandomSource + AllocGlobal + Sync,
-    requires { 0 < plan.workers }
 {
     let moments = match ClockMoments::start(rt) {
         Ok(moments) => moments,
@@ -61,7 +60,6 @@ where
     R: Wait + Threads + Clock + Net + RandomSource + AllocGlobal + Sync,
     requires entries { (entries.name ≡ A.name) × (entries.parts ≡ A.parts) × (entries.parts ≡ 2) }
     requires calls { (calls.name ≡ C.name) × (calls.parts ≡ C.parts) × (calls.parts ≡ 258) }
-    requires plan { 0 < plan.workers }
 {
     let shards = shards_over::<A, C, G, _, R>(rt, gate, moments, entries, calls)?;
     let (lines, far_ends) = lines_of(rt.alloc(), frames)?;
@@ -84,9 +82,8 @@ where
     G: Watched,
     M: Moments + Clone + Send,
     R: Wait + Threads + Clock + Net + RandomSource + AllocGlobal + Sync,
-    requires { 0 < plan.workers }
 {
-    serve(rt, shards, Listed { lines }, moments, plan, || Ok(()))
+    serve(rt, shards, Listed { lines }, moments, plan, Unheard)
 }
 
 /// How many of the replies are right that were written into pipes whose other ends are gone.

@@ -4,7 +4,8 @@ ghost use Rattle.std.specs.Prelude.{◌≡◌, ◌<◌};
 use crate::gates::{Crossing, Meeting, Watched};
 use crate::memory::over_memory;
 use coord_server::{
-    AlwaysOpen, ClockMoments, Gate, Moments, Plan, ServerFault, Shards, ShardsDesk, serve_sockets,
+    AlwaysOpen, Announce, ClockMoments, Gate, Moments, Plan, ServerFault, Shards, ShardsDesk,
+    serve_sockets,
 };
 use std::alloc::{AllocError, AllocGlobal, Global};
 use std::collections::hash_map::RandomState;
@@ -50,6 +51,16 @@ const ONE_WORKER: Plan = Plan {
     connections: 2,
     expires: false,
 };
+
+/// Nobody is told that a server serves.
+#[derive(Drop)]
+pub struct Unheard;
+
+impl Announce for Unheard {
+    fn announce(self) -> io::Result<()> {
+        Ok(())
+    }
+}
 
 /// What comes of a server: how many connections it has served, how many of their replies were right, and whether a thread was held up
 /// for too long.
@@ -125,7 +136,6 @@ where
         + RandomSource
         + AllocGlobal
         + Sync,
-    requires { 0 < plan.workers }
 {
     let moments = match ClockMoments::start(rt) {
         Ok(moments) => moments,
@@ -159,7 +169,6 @@ where
         + Sync,
     requires entries { (entries.name ≡ A.name) × (entries.parts ≡ A.parts) × (entries.parts ≡ 2) }
     requires calls { (calls.name ≡ C.name) × (calls.parts ≡ C.parts) × (calls.parts ≡ 258) }
-    requires plan { 0 < plan.workers }
 {
     let shards = shards_over::<A, C, G, _, R>(rt, gate, moments, entries, calls)?;
     let (served, right) = served_over_sockets(rt, &shards, moments, plan, client)?;
@@ -186,7 +195,6 @@ where
         + RandomSource
         + AllocGlobal
         + Sync,
-    requires { 0 < plan.workers }
 {
     let socket = TcpListener::bind(rt, (Ipv4Addr::LOCALHOST, 0))?;
     let address = socket.local_addr()?;
@@ -195,9 +203,7 @@ where
     let reply = frame_of(rt.alloc(), JOINED)?;
     let (served, right) = thread::join(
         rt,
-        move ||
-            requires { 0 < plan.workers }
-        { serve_sockets(rt, shards, socket, moments, plan, || Ok(())) },
+        move || serve_sockets(rt, shards, socket, moments, plan, Unheard),
         move || read_all(gate, connections, reply, order),
     );
     Ok((served?, right?))

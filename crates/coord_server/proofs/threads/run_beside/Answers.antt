@@ -13,12 +13,9 @@ scoped-requires g c = record {
       (
         c.requires.all,
         (
-          c.requires.announce,
-          (
-            record { owned = c.type_bounds.send-B.owned; leaving = λ k. Quiet-if (k (of_param 1)) unseen unseen (λ x w. tt) (λ x w. tt) },
-            record { owned = c.type_bounds.send-E.owned; leaving = λ k. Quiet-if (k (of_param 2)) unseen unseen (λ x w. tt) (λ x w. tt) },
-            record { shared = c.type_bounds.sync-R.shared },
-          ),
+          record { owned = c.type_bounds.send-B.owned; leaving = λ k. Quiet-if (k (of_param 1)) unseen unseen (λ x w. tt) (λ x w. tt) },
+          record { owned = c.type_bounds.send-E.owned; leaving = λ k. Quiet-if (k (of_param 2)) unseen unseen (λ x w. tt) (λ x w. tt) },
+          record { shared = c.type_bounds.sync-R.shared },
         ),
       ),
     ),

@@ -1,23 +1,20 @@
-use Rattle.std.proofs.Common.{◌≡◌, ◌∙◌, ℕ, List, length, sym, subst, arith}
+use Rattle.std.proofs.Common.{◌≡◌, ◌+◌, ◌∙◌, ℕ, vec_len, sym, subst, arith}
 use Rattle.std.proofs.lemmas.Grind.{common_steps}
 use Rattle.std.proofs.lemmas.Iterator.Adapters.{YieldsList-from_vec}
 use Rattle.std.proofs.lemmas.Iterator.Consumers.{YieldsList-end}
-use Rattle.coord_server.specs.declared.handed.Post.{Post}
 use Rattle.coord_server.specs.Posts.{ArePosts}
-use Rattle.coord_server.proofs.PostLemmas.{one_more}
-use Rattle.coord_server.proofs.server.workers_of.Goals as goal
+use Rattle.coord_server.proofs.AddedLemmas.{on_made}
+use Rattle.coord_server.proofs.crew.workers_of.Goals as goal
 
 pub loop-desk-preserved : goal.loop-desk-preserved
 loop-desk-preserved g c =
     let before = c.loop-desk.invariant in
-    let given = c.in_ok-post.ensures in
-    let items = c.in_ok-push.ensures.items in
-    let P : List (Post g.row.K.Denot) → Type 0 = λ posts. ArePosts c.len-workers.result posts in
-    let place : c.len.result ≡ length c.loop-desk.posts.items = grind (arith, common_steps, c.len.ensures) in
+    let added = c.in_ok-add.ensures in
+    let more = on_made (vec_len c.worker_of.new.posts ≡ vec_len c.loop-desk.posts + 1) c.worker_of.result _ _ added.added c.worker_of.ensures.more in
     record {
-      posts = grind (arith, common_steps, before.posts);
-      loops = grind (arith, common_steps, before.loops);
-      placed = subst P (sym items) (one_more _ _ _ before.placed (given.0 ∙ place) given.1);
+      posts = grind (arith, common_steps, before.posts, more);
+      workers = grind (arith, common_steps, before.workers, added.more);
+      placed = on_made (ArePosts c.len-number.result c.worker_of.new.posts.items) c.worker_of.result _ _ added.added (c.worker_of.ensures.placed before.placed);
     }
 
 pub returns-clause-posts : goal.returns-clause-posts
@@ -26,13 +23,13 @@ returns-clause-posts g c =
     let ended = YieldsList-end (YieldsList-from_vec c.args.desks.items gives.0 (gives.1 ∙ c.args.desks.ok.0)) c.loop-desk.yielded c.loop-desk.desk-iterator c.loop-desk.yielded_by c.next.result c.next.new.self c.in-None.is c.next.ensures.steps in
     c.loop-desk.invariant.posts ∙ (ended.1 ∙ sym c.args.desks.ok.0)
 
-pub returns-clause-loops : goal.returns-clause-loops
-returns-clause-loops g c =
+pub returns-clause-workers : goal.returns-clause-workers
+returns-clause-workers g c =
     let gives = c.into_iter-desk-iterator.ensures.into_iter_gives in
     let ended = YieldsList-end (YieldsList-from_vec c.args.desks.items gives.0 (gives.1 ∙ c.args.desks.ok.0)) c.loop-desk.yielded c.loop-desk.desk-iterator c.loop-desk.yielded_by c.next.result c.next.new.self c.in-None.is c.next.ensures.steps in
-    c.loop-desk.invariant.loops ∙ (ended.1 ∙ sym c.args.desks.ok.0)
+    c.loop-desk.invariant.workers ∙ (ended.1 ∙ sym c.args.desks.ok.0)
 
 pub returns-clause-placed : goal.returns-clause-placed
 returns-clause-placed g c =
     let P : ℕ → Type 0 = λ workers. ArePosts workers c.loop-desk.posts.items in
-    subst P c.len-workers.ensures c.loop-desk.invariant.placed
+    subst P c.len-number.ensures c.loop-desk.invariant.placed
