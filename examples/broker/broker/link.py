@@ -35,7 +35,11 @@ class Coordinator:
 
     async def connect(self) -> Optional[Connection]:
         """A new connection, or None where the coordinator can't be reached."""
-        connection = socket.socket()
+        try:
+            connection = socket.socket()
+        except OSError as why:
+            say(f"a client's connection is closed, since none to the coordinator can be made for it: {why}")
+            return None
         connection.setblocking(False)
         try:
             await within(OPEN_SECONDS, asyncio.get_running_loop().sock_connect(connection, (self.host, self.port)))

@@ -10,7 +10,7 @@ import unittest
 from typing import List, Optional, Tuple
 from unittest import mock
 
-from broker import relay
+from broker import link, relay
 from broker.frames import framed
 from broker.link import Coordinator
 from tests.support import HOST, Client, accept_all, data, front, small_cluster
@@ -41,6 +41,7 @@ NO_REQUESTS = [
     ("0000000a 0000 0003 00000001 ffff", "it asked for Produce, which nobody can do here"),
     ("0000000b 000a 0000 00000001 ffff 00", "FindCoordinator version 0: a field of 2 bytes at byte 10, where 1 are left"),
     ("0000000c 0044 0000 00000001 ffff 00 00", "ConsumerGroupHeartbeat version 0: a field of -1 bytes at byte 12, where 0 are left"),
+    ("0000001f 0009 0009 00000001 ffff 00 02 02 'g' 00 ffffffff 02 02 't' 03 00000000 00000000", "OffsetFetch version 9: it asks for one offset twice"),
 ]
 
 
@@ -151,6 +152,14 @@ class Relay(unittest.IsolatedAsyncioTestCase):
             self.assertIsNotNone(await (await it.client()).ask(VERSIONS.format(1)))
         said = it.said()
         self.assertEqual((len(said), "can't be reached" in said[0], "is there again" in said[1]), (2, True, True))
+
+    async def test_where_no_file_is_left_for_the_coordinator_the_client_is_closed(self) -> None:
+        no_files = mock.Mock(**{"socket.side_effect": OSError("Too many open files")})
+        async with front() as it:
+            with mock.patch.object(link, "socket", no_files):
+                self.assertIsNone(await (await it.client()).body())
+            self.assertIsNotNone(await (await it.client()).ask(VERSIONS.format(1)))
+            self.assertIn("none to the coordinator can be made for it: Too many open files", it.said()[0])
 
     async def test_the_end_waits_for_nobody(self) -> None:
         async def ask_on(client: Client) -> None:
