@@ -33,8 +33,9 @@ WITH_REGEX = "0044 0001 00000009 0001 'c' 00 02 'g' 02 'm' 00000000 00 00 000493
 REGEX_REFUSAL = "00000009 00 00000000 002a 26 'regular expressions are not supported' 00 00000000 00000000 ff 00"
 # Bytes that close their connection, and a part of why.
 NO_REQUESTS = [
-    ("474554202f20485454502f312e310d0a", "which is no size of 8 to 8388608 bytes"),
-    ("00000000", "which is no size of 8 to 8388608 bytes"),
+    ("474554202f20485454502f312e310d0a", "which is no size of 8 to 1048576 bytes"),
+    ("00100001", "which is no size of 8 to 1048576 bytes"),
+    ("00000000", "which is no size of 8 to 1048576 bytes"),
     ("00000008 0063 0000 00000001", "a field of 2 bytes at byte 8, where 0 are left"),
     ("0000000a 0063 0000 00000001 ffff", "API key 99 isn't spoken here"),
     ("0000000a 0003 0008 00000001 ffff", "Metadata version 8 isn't spoken here"),
