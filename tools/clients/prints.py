@@ -35,7 +35,7 @@ def partitions_of(it: Print) -> List[str]:
 
 def spans(prints: Iterable[Print], ends: Dict[str, List[float]], faults: List[str]) -> List[Span]:
     """Who owned what. What a consumer has ends at its moments of `ends`: it was killed or stopped, or knows by its own clock that
-    it is out. A consumer that is closing owns nothing of what it is still assigned. What can't be is told in `faults`."""
+    it is out. What it is assigned while it closes isn't counted, since it reads nothing of it. What can't be is told in `faults`."""
     found: List[Span] = []
     open_since: Dict[Tuple[str, str], float] = {}
     closing: Set[str] = set()
@@ -63,6 +63,20 @@ def spans(prints: Iterable[Print], ends: Dict[str, List[float]], faults: List[st
     for name, partition in [*open_since]:
         close(name, partition, FOREVER)
     return found
+
+
+def assigned_while_closing(prints: Iterable[Print]) -> int:
+    """How many partitions were assigned to consumers that were closing."""
+    count = 0
+    closing: Set[str] = set()
+    for it in sorted(prints):
+        if it.kind == "CLOSING":
+            closing.add(it.name)
+        elif it.kind in ("START", "CLOSED"):
+            closing.discard(it.name)
+        elif it.kind == "ASSIGN" and it.name in closing:
+            count += len(partitions_of(it))
+    return count
 
 
 def overlaps(found: Iterable[Span]) -> List[Tuple[Span, Span]]:

@@ -87,6 +87,8 @@ def play_clients(it: Conversation, program: str) -> None:
         clients = Clients(stand.port)
         try:
             clients.play(it.of("client"), it.paced)
+        except Differs as why:
+            raise Differs("\n    ".join([str(why), *stand.complaints()])) from None
         finally:
             clients.close()
             stand.end()

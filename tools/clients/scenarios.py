@@ -32,6 +32,7 @@ SCENARIOS: Dict[str, Scenario] = {
     "killed": Scenario(faults.killed, EVERY),
     "stopped": Scenario(faults.stopped, EVERY),
     "late": Scenario(faults.late, EVERY),
+    "late-join": Scenario(faults.late_join, EVERY),
     "late-acknowledgement": Scenario(faults.late_acknowledgement, ("sid",)),
     "mixed": Scenario(many.mixed, BOTH_RELEASES),
     "static-away-too-long": Scenario(members.static_away_too_long, EVERY),

@@ -14,8 +14,8 @@ from typing import Dict, List, Optional, Sequence
 HERE = pathlib.Path(__file__).resolve().parent
 FRONT_END = HERE.parent.parent / "examples/broker"
 HOST = "127.0.0.1"
-# Below the ports that Linux gives to clients, so that none takes one of them meanwhile.
-PORTS = range(20_000, 32_000)
+# Below the ports that Linux gives to clients, so that none takes one of them meanwhile. A stand has a block of them.
+PORTS, BLOCK = range(20_000, 32_000), 16
 START_SECONDS = 60
 END_SECONDS = 5
 
@@ -34,20 +34,30 @@ class Failed(Exception):
     """Something didn't start, or didn't answer."""
 
 
-def free_ports(count: int) -> List[int]:
-    """Ports in a row that nobody listens on."""
-    while True:
-        first = random.choice(PORTS[:-count])
-        sockets = []
+class Ports:
+    """Ports in a row that nobody listens on. They are this object's until it is closed: no other one on this machine has them."""
+
+    def __init__(self, count: int) -> None:
+        for first in random.sample(PORTS[::BLOCK], len(PORTS[::BLOCK])):
+            self.lock = socket.socket(socket.AF_UNIX)
+            if self._takes(first, count):
+                self.numbers = [*range(first, first + count)]
+                return
+            self.lock.close()
+        raise Failed("no ports are left")
+
+    def _takes(self, first: int, count: int) -> bool:
+        """A name that begins with a null byte is of no file, and only one socket can have it."""
         try:
+            self.lock.bind(f"\0clients-ports-{first}")
             for port in range(first, first + count):
-                sockets.append(socket.create_server((HOST, port)))
-            return [*range(first, first + count)]
+                socket.create_server((HOST, port)).close()
+            return True
         except OSError:
-            continue
-        finally:
-            for it in sockets:
-                it.close()
+            return False
+
+    def close(self) -> None:
+        self.lock.close()
 
 
 class Stand:
@@ -64,7 +74,8 @@ class Stand:
     ) -> None:
         self.program, self.topics, self.folder = program, topics, folder
         self.running: Dict[str, subprocess.Popen] = {}
-        ports = free_ports(4 * coordinators + 1)
+        self.ports = Ports(4 * coordinators + 1)
+        ports = self.ports.numbers
         self.backs, taps, fronts, doors = (ports[at * coordinators : (at + 1) * coordinators] for at in range(4))
         self.tap, self.front, self.control = taps[0], fronts[0], ports[-1]
         self.port = fronts[0] if relay is None else doors[0]
@@ -74,25 +85,28 @@ class Stand:
             sides = [f"coordinator:{tap}:{back}" for tap, back in zip(taps, self.backs)]
             sides += [f"client:{door}:{front}" for door, front in zip(doors, fronts)]
             record = ["--record", str(folder / "frames.log"), "--control", str(self.control)]
-            self.start("relay", [sys.executable, "-B", str(HERE / "relay.py"), *record, *relay, *sides])
+            self.start("relay", "listening", [sys.executable, "-B", str(HERE / "relay.py"), *record, *relay, *sides])
         several = [word for port in (self.backs if relay is None else taps) for word in ("--coordinator", f"{HOST}:{port}")]
-        self.start("front-end", [sys.executable, "-B", "-m", "broker", *several, "--port", str(fronts[0]), *front_end, *self.topic_words()])
+        words = [sys.executable, "-B", "-m", "broker", *several, "--port", str(fronts[0]), *front_end]
+        self.start("front-end", f"listening {HOST}:{fronts[0]} ", [*words, *self.topic_words()])
 
     def topic_words(self) -> List[str]:
         return [topic.word() for topic in self.topics]
 
     def serve(self, number: int = 0) -> None:
         """Starts a coordinator, for the first time or again."""
-        words = [self.program, "serve", "--port", str(self.backs[number]), "--workers", "4", "--shards", "4", "--connections", "1000000"]
-        self.start(f"coordinator-{number}", [*words, *self.topic_words()])
+        port = self.backs[number]
+        words = [self.program, "serve", "--port", str(port), "--workers", "4", "--shards", "4", "--connections", "1000000"]
+        self.start(f"coordinator-{number}", f"listening {port}\n", [*words, *self.topic_words()])
 
-    def start(self, name: str, words: List[str]) -> None:
+    def start(self, name: str, line: str, words: List[str]) -> None:
+        """Starts a program, and waits until it prints a line that begins so."""
         path = self.folder / f"{name}.txt"
         with open(path, "w", encoding="utf-8") as printed:
             process = subprocess.Popen(words, cwd=FRONT_END, stdin=subprocess.DEVNULL, stdout=printed, stderr=subprocess.STDOUT)
         self.running[name] = process
         until = time.monotonic() + START_SECONDS
-        while "listening" not in path.read_text(encoding="utf-8"):
+        while not any(it.startswith(line) for it in path.read_text(encoding="utf-8").splitlines(keepends=True)):
             if process.poll() is not None or time.monotonic() > until:
                 self.end()
                 raise Failed(f"{name} doesn't listen: {path.read_text(encoding='utf-8').strip()}")
@@ -122,6 +136,12 @@ class Stand:
             connection.sendall(frame)
             return connection.recv(1 << 16)
 
+    def complaints(self) -> List[str]:
+        """What the front end said on standard error, and the programs that have ended."""
+        said = (self.folder / "front-end.txt").read_text(encoding="utf-8").splitlines()
+        gone = [f"{name} has ended" for name, process in self.running.items() if process.poll() is not None]
+        return [line for line in said if line.startswith("broker: ")] + gone
+
     def end(self) -> List[str]:
         """Ends all programs. Names those that had ended before."""
         gone = [name for name, process in self.running.items() if process.poll() is not None]
@@ -133,4 +153,5 @@ class Stand:
             except subprocess.TimeoutExpired:
                 process.kill()
                 process.wait()
+        self.ports.close()
         return gone

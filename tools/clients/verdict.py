@@ -5,7 +5,7 @@ from typing import Dict, List, Sequence, Tuple, Union
 
 from clients.holds import Holds
 from clients.log import Beat, Committing
-from clients.prints import Print, overlaps, records_read, spans
+from clients.prints import Print, assigned_while_closing, overlaps, records_read, spans
 from clients.trial import Trial
 
 Exchanges = List[Union[Beat, Committing]]
@@ -29,6 +29,9 @@ def judge_owners(trial: Trial, by_group: Dict[str, List[Print]]) -> None:
     counts = collections.Counter(it.kind for it in trial.prints)
     seen = f"{counts['ASSIGN']} assigns, {counts['REVOKE']} revokes, {counts['LOST']} losses"
     trial.check(not pairs, f"no two consumers of a group owned one partition at a time, by their prints ({seen}){told(pairs)}")
+    late = assigned_while_closing(trial.prints)
+    if late:
+        trial.note(f"consumers that were closing were assigned {late} partitions, which isn't counted")
     trial.check(not faults, f"each gave up what it had, and was assigned what it hadn't{told(faults)}")
 
 

@@ -4,6 +4,7 @@ from __future__ import annotations
 
 import asyncio
 import contextlib
+import io
 import os
 import resource
 import signal
@@ -30,6 +31,9 @@ WANTED_FILES = 10_000
 
 def main(words: List[str]) -> int:
     options = parse(words)
+    if isinstance(sys.stdout, io.TextIOWrapper):
+        # Names of groups may have characters that the terminal's encoding hasn't.
+        sys.stdout.reconfigure(errors="backslashreplace")
     raise_file_limit()
     try:
         return asyncio.run(until_signalled(options))

@@ -63,7 +63,10 @@ class EmbeddedLink(Link):
 
     async def ask(self, body: bytes) -> bytes:
         self._frames += 1
-        reply: Optional[bytes] = self._coordinator.inside.answer(body, self._number, self._frames, now())
+        try:
+            reply: Optional[bytes] = self._coordinator.inside.answer(body, self._number, self._frames, now())
+        except MemoryError:
+            raise CoordinatorClosed("the coordinator is out of memory") from None
         if reply is None:
             raise CoordinatorClosed("the coordinator closed the connection instead of an answer")
         return reply[SIZE:]

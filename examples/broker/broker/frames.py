@@ -10,22 +10,22 @@ from typing import Optional
 from broker.fields import NO_TAGS, Reader, Unreadable, int32
 from broker.versions import API_VERSIONS, SPOKEN
 
-LONGEST_BODY = 8 << 20
-# API key, API version and correlation id.
-LEAST_REQUEST = 8
+# A request begins with API key, API version and correlation id. While a long one is read all other connections wait.
+REQUEST_SIZES = range(8, (1 << 20) + 1)
+REPLY_SIZES = range(4, (8 << 20) + 1)
 
 
 class BadFrame(Exception):
     """Bytes that are no frame, and why. What comes behind them can't be read either."""
 
 
-async def read_body(stream: asyncio.StreamReader, least: int = LEAST_REQUEST) -> Optional[bytes]:
+async def read_body(stream: asyncio.StreamReader, sizes: range = REQUEST_SIZES) -> Optional[bytes]:
     """The body of the next frame, or None where the stream ends before it. Raises BadFrame, and ConnectionError."""
     try:
         first = await stream.readexactly(4)
         size = struct.unpack(">i", first)[0]
-        if not least <= size <= LONGEST_BODY:
-            raise BadFrame(f"a frame begins with {first!r}, which is no size of {least} to {LONGEST_BODY} bytes")
+        if size not in sizes:
+            raise BadFrame(f"a frame begins with {first!r}, which is no size of {sizes[0]} to {sizes[-1]} bytes")
         return await stream.readexactly(size)
     except asyncio.IncompleteReadError as end:
         if not end.partial and end.expected == 4:

@@ -7,13 +7,12 @@ import functools
 import socket
 from typing import Awaitable, Callable, Optional
 
-from broker.frames import BadFrame, framed, read_body
+from broker.frames import REPLY_SIZES, BadFrame, framed, read_body
 from broker.streams import within
 from broker.words import say
 
 OPEN_SECONDS = 5
 ANSWER_SECONDS = 60
-LEAST_REPLY = 4
 # A connection that was opened: its link is made where it is served.
 Connection = Callable[[], Awaitable["Link"]]
 
@@ -35,7 +34,11 @@ class Coordinator:
 
     async def connect(self) -> Optional[Connection]:
         """A new connection, or None where the coordinator can't be reached."""
-        connection = socket.socket()
+        try:
+            connection = socket.socket()
+        except OSError as why:
+            say(f"a client's connection is closed, since none to the coordinator can be made for it: {why}")
+            return None
         connection.setblocking(False)
         try:
             await within(OPEN_SECONDS, asyncio.get_running_loop().sock_connect(connection, (self.host, self.port)))
@@ -67,7 +70,7 @@ class Link:
 
     async def _read(self) -> Optional[bytes]:
         try:
-            return await read_body(self._reader, LEAST_REPLY)
+            return await read_body(self._reader, REPLY_SIZES)
         except (BadFrame, OSError):
             return None
 

@@ -6,6 +6,7 @@ import asyncio
 import contextlib
 import dataclasses
 import socket
+from typing import Iterator
 
 from broker.link import Coordinator
 from broker.streams import within
@@ -49,7 +50,11 @@ class Started:
 
 async def start(program: str, topics: Topics) -> Started:
     """Starts it, and waits until it listens. (Where the launcher has to build it first that takes long; it says so.)"""
-    port = _free_port()
+    with free_port() as port:
+        return await _start(program, port, topics)
+
+
+async def _start(program: str, port: int, topics: Topics) -> Started:
     numbers = {"--port": port, "--workers": WORKERS, "--shards": SHARDS, "--connections": CONNECTIONS}
     words = [word for option, number in numbers.items() for word in (option, str(number))]
     words += [topic.word() for topic in topics]
@@ -72,7 +77,11 @@ async def start(program: str, topics: Topics) -> Started:
         raise
 
 
-def _free_port() -> int:
-    with socket.create_server((HOST, 0)) as listener:
-        port: int = listener.getsockname()[1]
-        return port
+@contextlib.contextmanager
+def free_port() -> Iterator[int]:
+    """A port that nobody has, and that nobody gets by chance until the block ends. (Several sockets may be bound to it, and one may listen.)"""
+    with socket.socket() as holder:
+        holder.setsockopt(socket.SOL_SOCKET, socket.SO_REUSEADDR, 1)
+        holder.bind((HOST, 0))
+        port: int = holder.getsockname()[1]
+        yield port

@@ -17,6 +17,7 @@ import unittest
 import urllib.request
 from typing import IO, Iterator, List, Optional
 
+from broker.starter import free_port
 from tests.support import HOST, ORDERS, SECONDS, data
 
 FOLDER = pathlib.Path(__file__).resolve().parents[1]
@@ -91,13 +92,13 @@ def broker(*words: str) -> Iterator[Broker]:
 @contextlib.contextmanager
 def coordinator(*words: str) -> Iterator[int]:
     """The port of `coord serve`."""
-    with socket.create_server((HOST, 0)) as listener:
-        port: int = listener.getsockname()[1]
-    command = [PROGRAM, "serve", "--port", str(port), "--workers", "1", "--shards", "1", *words]
-    process = subprocess.Popen(command, stdout=subprocess.PIPE, text=True)
-    assert process.stdout is not None
+    with free_port() as port:
+        command = [PROGRAM, "serve", "--port", str(port), "--workers", "1", "--shards", "1", *words]
+        process = subprocess.Popen(command, stdout=subprocess.PIPE, text=True)
+        assert process.stdout is not None
+        listens = process.stdout.readline() == f"listening {port}\n"
     try:
-        if process.stdout.readline() != f"listening {port}\n":
+        if not listens:
             raise AssertionError("coord serve doesn't listen")
         yield port
     finally:

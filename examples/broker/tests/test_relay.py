@@ -10,7 +10,7 @@ import unittest
 from typing import List, Optional, Tuple
 from unittest import mock
 
-from broker import relay
+from broker import link, relay
 from broker.frames import framed
 from broker.link import Coordinator
 from tests.support import HOST, Client, accept_all, data, front, small_cluster
@@ -33,14 +33,16 @@ WITH_REGEX = "0044 0001 00000009 0001 'c' 00 02 'g' 02 'm' 00000000 00 00 000493
 REGEX_REFUSAL = "00000009 00 00000000 002a 26 'regular expressions are not supported' 00 00000000 00000000 ff 00"
 # Bytes that close their connection, and a part of why.
 NO_REQUESTS = [
-    ("474554202f20485454502f312e310d0a", "which is no size of 8 to 8388608 bytes"),
-    ("00000000", "which is no size of 8 to 8388608 bytes"),
+    ("474554202f20485454502f312e310d0a", "which is no size of 8 to 1048576 bytes"),
+    ("00100001", "which is no size of 8 to 1048576 bytes"),
+    ("00000000", "which is no size of 8 to 1048576 bytes"),
     ("00000008 0063 0000 00000001", "a field of 2 bytes at byte 8, where 0 are left"),
     ("0000000a 0063 0000 00000001 ffff", "API key 99 isn't spoken here"),
     ("0000000a 0003 0008 00000001 ffff", "Metadata version 8 isn't spoken here"),
     ("0000000a 0000 0003 00000001 ffff", "it asked for Produce, which nobody can do here"),
     ("0000000b 000a 0000 00000001 ffff 00", "FindCoordinator version 0: a field of 2 bytes at byte 10, where 1 are left"),
     ("0000000c 0044 0000 00000001 ffff 00 00", "ConsumerGroupHeartbeat version 0: a field of -1 bytes at byte 12, where 0 are left"),
+    ("0000001f 0009 0009 00000001 ffff 00 02 02 'g' 00 ffffffff 02 02 't' 03 00000000 00000000", "OffsetFetch version 9: it asks for one offset twice"),
 ]
 
 
@@ -151,6 +153,14 @@ class Relay(unittest.IsolatedAsyncioTestCase):
             self.assertIsNotNone(await (await it.client()).ask(VERSIONS.format(1)))
         said = it.said()
         self.assertEqual((len(said), "can't be reached" in said[0], "is there again" in said[1]), (2, True, True))
+
+    async def test_where_no_file_is_left_for_the_coordinator_the_client_is_closed(self) -> None:
+        no_files = mock.Mock(**{"socket.side_effect": OSError("Too many open files")})
+        async with front() as it:
+            with mock.patch.object(link, "socket", no_files):
+                self.assertIsNone(await (await it.client()).body())
+            self.assertIsNotNone(await (await it.client()).ask(VERSIONS.format(1)))
+            self.assertIn("none to the coordinator can be made for it: Too many open files", it.said()[0])
 
     async def test_the_end_waits_for_nobody(self) -> None:
         async def ask_on(client: Client) -> None:

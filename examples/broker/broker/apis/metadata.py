@@ -35,7 +35,9 @@ async def answer(call: Call) -> bytes:
         asked = [Asked(topic.id, topic.name) for topic in cluster.topics]
     reply = int32(0) + compact_array(_broker(node) for node in cluster.nodes)
     reply += compact_string(CLUSTER_ID) + int32(cluster.nodes[0].id)
-    reply += compact_array(_topic(cluster, each, version) for each in asked)
+    # (Kafka's broker, too, answers once for a topic that is asked for twice.)
+    each_once = {it.id if it.name is None else it.name: it for it in asked}.values()
+    reply += compact_array(_topic(cluster, each, version) for each in each_once)
     return call.request.reply(reply + (NOT_TOLD if version <= 10 else b"") + NO_TAGS)
 
 

@@ -2,11 +2,11 @@
 
 from __future__ import annotations
 
-from typing import List, NamedTuple, Optional
+from typing import List, NamedTuple, Optional, Sequence
 
 from broker import codes
 from broker.call import Call
-from broker.fields import NO_TAGS, Reader, compact_array, compact_nullable_string, compact_string, int16, int32, int64
+from broker.fields import NO_TAGS, Reader, Unreadable, compact_array, compact_nullable_string, compact_string, int16, int32, int64
 from broker.offsets import Committed
 
 
@@ -25,6 +25,7 @@ class AskedGroup(NamedTuple):
 async def answer(call: Call) -> bytes:
     fields = call.request.fields
     groups = fields.compact_array(lambda: _group(fields))
+    _want_apart([group.name for group in groups])
     # (Whether offsets of open transactions are to be waited for: there are no transactions.)
     _wants_stable = fields.boolean()
     fields.tags()
@@ -36,14 +37,22 @@ def _group(fields: Reader) -> AskedGroup:
     # (The coordinator alone could judge these two, which librdkafka leaves out.)
     _member, _member_epoch = fields.compact_nullable_string(), fields.int32()
     topics = fields.compact_nullable_array(lambda: _topic(fields))
+    _want_apart([topic.name for topic in topics or ()])
     fields.tags()
     return AskedGroup(name, topics)
 
 
 def _topic(fields: Reader) -> AskedTopic:
     topic = AskedTopic(fields.compact_string(), fields.compact_array(fields.int32))
+    _want_apart(topic.partitions)
     fields.tags()
     return topic
+
+
+def _want_apart(keys: Sequence[object]) -> None:
+    """Refuses a request that asks for something twice, so that no reply is much longer than what is stored."""
+    if len({*keys}) < len(keys):
+        raise Unreadable("it asks for one offset twice")
 
 
 def _group_reply(call: Call, group: AskedGroup) -> bytes:
