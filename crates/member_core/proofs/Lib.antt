@@ -5,3 +5,4 @@ pub mod Beside
 pub mod Reports
 pub mod ShortRequests
 pub mod Sizes
+pub mod Answered

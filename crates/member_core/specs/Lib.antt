@@ -19,3 +19,4 @@ pub mod Growth
 pub mod Outcomes
 pub mod Next
 pub mod Standing
+pub mod Existence

@@ -1,4 +1,5 @@
 //! Laws of the client machine, proved where nothing runs.
+ghost use Rattle.member_core.specs.Existence.{AsksAreMade, RepliesHaveAnOutcome};
 ghost use Rattle.member_core.specs.Laws.{FencedMembersOwnNothing, MembersOwnOnlyInside, OneOutcomeAReply, ReleasesLeaveTheRest, RepliesAreTakenOnce};
 
 use kip_msgs::one_reply_a_body;
@@ -29,3 +30,15 @@ pub fn releases_leave_the_rest()
 pub fn members_own_only_inside()
     ensures { MembersOwnOnlyInside }
 {}
+
+/// What a member may ask for it asks: there is the request, where what the member knows has a spelling.
+pub fn asks_are_made()
+    ensures { AsksAreMade }
+{}
+
+/// Whatever bytes a member is given, it takes them or leaves them; with `one_outcome_a_reply` it does exactly one thing.
+pub fn replies_have_an_outcome()
+    ensures { RepliesHaveAnOutcome }
+{
+    one_reply_a_body();
+}

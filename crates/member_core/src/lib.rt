@@ -26,8 +26,8 @@ pub use fault::BeatFault;
 pub use group_types::{EpochNumber, PartSet, Partition};
 pub use kip_msgs::{Array, CommitRequestTopic};
 pub use laws::{
-    fenced_members_own_nothing, members_own_only_inside, one_outcome_a_reply,
-    releases_leave_the_rest, replies_are_taken_once,
+    asks_are_made, fenced_members_own_nothing, members_own_only_inside, one_outcome_a_reply,
+    releases_leave_the_rest, replies_are_taken_once, replies_have_an_outcome,
 };
 pub use member::{Member, Next, Released};
 pub use settings::Settings;

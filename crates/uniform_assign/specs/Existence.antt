@@ -6,8 +6,7 @@ use Rattle.group_types.specs.Owners.{Spread}
 use Rattle.group_types.specs.Uniform.{IsUniform}
 
 -- Whatever the topics and the former owners, there is a spread under uniform. Of the members it is asked that no two have
--- one id, as the records of a group have it: where two members had one, each would own what the other owns, and a move
--- between them would change nothing.
+-- one id, as the records of a group have it: that the levelling ends is counted member by member.
 abbrev pub UniformHasASpread : Type 0
 UniformHasASpread =
     (view : Topics) (subs : List Subscriber) (former : Spread) → IdsAreApart subs → (spread : Spread) × IsUniform view subs former spread

@@ -89,7 +89,7 @@ unfolding request_body request_header_fields signed
 some_bytes header v = zero-lt-suc _
 
 -- a heartbeat whose body fits a frame is a request
-heartbeat_is_request : (header : RequestHeaderValue) (v : HeartbeatRequestValue) (body : List ℕ) → SpellsRequest (heartbeat_request header v) body → length body ≤ LARGEST_BODY
+pub heartbeat_is_request : (header : RequestHeaderValue) (v : HeartbeatRequestValue) (body : List ℕ) → SpellsRequest (heartbeat_request header v) body → length body ≤ LARGEST_BODY
     → IsRequest (heartbeat_request header v) body
 heartbeat_is_request header v body spells most =
     record { least = subst (λ (b : List ℕ). 1 ≤ length b) (sym spells.bytes) (some_bytes header v); most = most; spells = spells }

@@ -62,3 +62,7 @@ pub mod SceneMessages
 pub mod SceneAnswers
 pub mod Takers
 pub mod Replies
+pub mod SomeOutcome
+pub mod NewWorlds
+pub mod LiveActs
+pub mod LiveRuns

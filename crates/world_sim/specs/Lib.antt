@@ -24,3 +24,4 @@ pub mod Acting
 pub mod Passing
 pub mod Viewing
 pub mod Places
+pub mod Existence

@@ -2,6 +2,7 @@
 //! asked for anything, and that an act has one outcome.
 ghost use Rattle.world_sim.specs.Convergence.{Convergence};
 ghost use Rattle.world_sim.specs.Examples.{SomebodyHolds, SomeCommitIsTaken, SomeReplyShows, SomeRoundsMove, SomeTargetIsRenewed, SomeWorldCanSettle, TwoHold};
+ghost use Rattle.world_sim.specs.Existence.{ActsHaveAnOutcome, ActsLeaveLiveWorlds, NewWorldsAreLive, RunsOfActsExist};
 ghost use Rattle.world_sim.specs.Exclusivity.{ActsLawfully, Always, BringsHeld, CommitHeld, HoldApart, HoldGranted, ShowGranted, SinceGranted};
 ghost use Rattle.world_sim.specs.Invariant.{Keeps};
 ghost use Rattle.world_sim.specs.Laws.{OneOutcomeAnAct, OneRunOfActs};
@@ -9,9 +10,10 @@ ghost use Rattle.world_sim.specs.Underway.{RoundsGo, RoundsKeepClients};
 ghost use Rattle.world_sim.specs.Viewing.{RepliesAreSpelled};
 
 use coord_node::{one_answer, steps_are_sound};
+use group_core::heartbeats_have_an_answer;
 use group_types::every_group_is_sound;
 use kip_msgs::{one_body_a_message, one_reply_a_body, one_request_a_body};
-use member_core::one_outcome_a_reply;
+use member_core::{asks_are_made, one_outcome_a_reply};
 use range_assign::range_is_lawful;
 use uniform_assign::uniform_is_lawful;
 
@@ -77,6 +79,39 @@ pub fn an_act_has_one_outcome()
     one_reply_a_body();
     one_answer();
     one_outcome_a_reply();
+}
+
+/// An act leaves a live world live, as long as its clients own no more partitions than the count of an array can say.
+pub fn acts_leave_live_worlds()
+    ensures { ActsLeaveLiveWorlds }
+{
+    steps_are_sound();
+}
+
+/// Whatever acts are done from clients that haven't asked for anything yet, each has its outcome, as long as no acts make a
+/// client own more partitions than the count of an array can say.
+pub fn runs_of_acts_exist()
+    ensures { RunsOfActsExist }
+{
+    acts_have_an_outcome();
+    acts_leave_live_worlds();
+}
+
+/// A new world, of clients whose settings a request can say, is live.
+pub fn new_worlds_are_live()
+    ensures { NewWorldsAreLive }
+{}
+
+/// An act has an outcome in a live world: one whose coordinator serves, whose clients can say what they know, and whose
+/// messages are what their pools are for. With `an_act_has_one_outcome` it has exactly one.
+pub fn acts_have_an_outcome()
+    ensures { ActsHaveAnOutcome }
+{
+    every_group_is_sound();
+    steps_are_sound();
+    heartbeats_have_an_answer();
+    asks_are_made();
+    one_reply_a_body();
 }
 
 /// Three rounds in which no message is lost settle everything: each member then owns its target, at the target's epoch.

@@ -26,9 +26,10 @@ pub use coord_node::{Image, Moment};
 pub use fault::WorldFault;
 pub use frame::Frame;
 pub use laws::{
-    an_act_has_one_outcome, commits_are_taken_while_held, every_act_keeps_the_invariant,
-    members_hold_apart, replies_show_what_is_granted, rounds_go_on, targets_are_renewed_lawfully,
-    the_laws_are_met, three_rounds_settle,
+    acts_have_an_outcome, acts_leave_live_worlds, an_act_has_one_outcome,
+    commits_are_taken_while_held, every_act_keeps_the_invariant, members_hold_apart,
+    new_worlds_are_live, replies_show_what_is_granted, rounds_go_on, runs_of_acts_exist,
+    targets_are_renewed_lawfully, the_laws_are_met, three_rounds_settle,
 };
 pub use member_core::{Array, CommitRequestTopic, Kind, Partition, Quit, Settings};
 pub use shown::Shown;

@@ -1,0 +1,84 @@
+-- That every act has an outcome.
+use Rattle.std.specs.Prelude.{◌≡◌, ℕ, List, All, Some, length}
+use Rattle.std.specs.List.{Contains}
+use Rattle.kip_msgs.specs.Values.{CommitRequestTopicValue, CommitRequestValue, HeartbeatReplyValue, HeartbeatRequestValue, RequestHeaderValue, ResponseHeaderValue, commit_request, heartbeat_reply, heartbeat_request}
+use Rattle.kip_msgs.specs.Spelling.{FitsCommitRequestTopic, SpellsReply}
+use Rattle.flex_wire.specs.Composed.{FitsArray}
+use Rattle.flex_wire.specs.Spelling.{FitsCount}
+use Rattle.coord_node.specs.Existence.{AreNodeTopics, IsServing}
+use Rattle.coord_node.specs.Steps.{IsRequest}
+use Rattle.group_types.specs.Sets.{size}
+use Rattle.member_core.specs.Client.{Client}
+use Rattle.member_core.specs.Existence.{CanSay}
+use Rattle.member_core.specs.Settings.{FitsSettings, Settings}
+use Rattle.world_sim.specs.World.{World, Request, Reply, Commit, new_world, numbered}
+use Rattle.world_sim.specs.Acts.{Act, Asks, GivesUp, Deliver, Take, Release, Commits, Bring, Clock, Passes, Sees, Outcome, ActStep, Run}
+
+-- a pooled request is a heartbeat, and its sender is there
+pub record IsPooled (clients : List Client) (q : Request) : Type 0 where
+  pub client : Client
+  pub sender : numbered clients q.sender ≡ Some client
+  pub header : RequestHeaderValue
+  pub heartbeat : HeartbeatRequestValue
+  pub is : IsRequest (heartbeat_request header heartbeat) q.body
+
+-- a pooled reply is one to a heartbeat, and its taker is there
+pub record CanBeTaken (clients : List Client) (r : Reply) : Type 0 where
+  pub client : Client
+  pub taker : numbered clients r.request.sender ≡ Some client
+  pub header : ResponseHeaderValue
+  pub reply : HeartbeatReplyValue
+  pub spells : SpellsReply (heartbeat_reply header reply) r.body
+
+-- a pooled commit is one
+pub record IsCommit (k : Commit) : Type 0 where
+  pub header : RequestHeaderValue
+  pub commit : CommitRequestValue
+  pub is : IsRequest (commit_request header commit) k.body
+
+-- A world whose coordinator serves, whose clients can say what they know, and whose messages are what their pools are for.
+pub record IsLive (w : World) : Type 0 where
+  pub serving : IsServing w.coordinator
+  pub clients : (n : ℕ) (c : Client) → numbered w.clients n ≡ Some c → CanSay c
+  pub requests : (q : Request) → Contains w.requests q → IsPooled w.clients q
+  pub replies : (r : Reply) → Contains w.replies r → CanBeTaken w.clients r
+  pub commits : (k : Commit) → Contains w.commits k → IsCommit k
+
+-- clients that haven't asked for anything yet, and whose settings a request can say, make a live world
+abbrev pub NewWorldsAreLive : Type 0
+NewWorldsAreLive = (salt : ℕ) (clients : List Settings) → All (λ s. FitsSettings s × FitsCount (length s.names)) clients → IsLive (new_world salt clients)
+
+-- what can be committed has an encoding, and images are images
+abbrev pub IsPossible : Act → Type 0
+IsPossible (Asks n ask) = Unit {0}
+IsPossible (GivesUp n) = Unit {0}
+IsPossible (Deliver k) = Unit {0}
+IsPossible (Take j) = Unit {0}
+IsPossible (Release n p) = Unit {0}
+IsPossible (Commits n topics) = FitsArray FitsCommitRequestTopic topics
+IsPossible (Bring k) = Unit {0}
+IsPossible (Clock moment) = Unit {0}
+IsPossible (Passes moment) = Unit {0}
+IsPossible (Sees image) = AreNodeTopics image
+
+-- an act has an outcome in a live world
+abbrev pub ActsHaveAnOutcome : Type 0
+ActsHaveAnOutcome = (w : World) (act : Act) → IsLive w → IsPossible act → (outcome : Outcome) × (new : World) × ActStep w act outcome new
+
+-- each client owns no more partitions than the count of an array can say
+abbrev pub OwnFew : World → Type 0
+OwnFew w = (n : ℕ) (c : Client) → numbered w.clients n ≡ Some c → FitsCount (size c.own)
+
+-- an act leaves a live world live, as long as its clients own few partitions
+abbrev pub ActsLeaveLiveWorlds : Type 0
+ActsLeaveLiveWorlds =
+    (w : World) (act : Act) (outcome : Outcome) (new : World) → ActStep w act outcome new → IsLive w → IsPossible act → OwnFew new → IsLive new
+
+-- Whatever acts are done from clients that haven't asked for anything yet, each has its outcome, as long as no such acts make
+-- a client own more partitions than the count of an array can say.
+abbrev pub RunsOfActsExist : Type 0
+RunsOfActsExist =
+    (salt : ℕ) (clients : List Settings) (acts : List Act)
+    → All (λ s. FitsSettings s × FitsCount (length s.names)) clients → All IsPossible acts
+    → ((before : List Act) (outcomes : List Outcome) (w : World) → All IsPossible before → Run (new_world salt clients) before outcomes w → OwnFew w)
+    → (outcomes : List Outcome) × (new : World) × Run (new_world salt clients) acts outcomes new
