@@ -16,12 +16,12 @@ returns-clause-sendable c =
     let h : Arrival = arrival_of (heartbeat_request_value c.args.request.now) c.args.stamp c.args.now c.args.image.now in
     record {
       id = HasShortId-step c.args.self.now.group h (answer_of c.in_ok-outcome.outcome) c.heartbeat_over.new.self c.requires.id c.in_ok-outcome.ensures.step;
-      few = c.in_ok-outcome.ensures.few;
-      room = c.in_ok-outcome.ensures.room;
+      few = c.in_ok-outcome.ensures.response.few;
+      room = c.in_ok-outcome.ensures.response.room;
     }
 
 pub returns-clause-kept : goal.returns-clause-kept
 returns-clause-kept c =
     let h : Arrival = arrival_of (heartbeat_request_value c.args.request.now) c.args.stamp c.args.now c.args.image.now in
     IsKept-heartbeat c.args.generation c.args.image.now c.args.self.now _ c.requires.kept h (answer_of c.in_ok-outcome.outcome)
-    c.in_ok-outcome.ensures.step c.in_ok-outcome.ensures.current c.known_after-self.ensures
+    c.in_ok-outcome.ensures.step c.in_ok-outcome.ensures.response.current c.known_after-self.ensures
