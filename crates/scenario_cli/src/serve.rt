@@ -204,7 +204,8 @@ struct Listening<'a, W> {
 
 impl<'a, W: Write> Announce for Listening<'a, W> {
     fn announce(self) -> io::Result<()> {
-        print(self.writer, "listening", u64::from(self.port))
+        let Listening { writer, port } = self;
+        print(writer, "listening", u64::from(port))
     }
 }
 
