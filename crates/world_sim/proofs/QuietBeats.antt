@@ -16,7 +16,7 @@ use Rattle.group_types.specs.Checks.{Verdict, Accepted, are_granted, checks_of, 
 use Rattle.group_types.specs.HeartbeatStep.{Arrival, Replied, Reply, BeatsWith, ByVerdict, Draft, GoesOn, HeartbeatStep, RepliesTo, RepliesWith, StepOf, TakesIn, assignment_of, draft_of_beat, epoch_number, is_news, sent_after, shown}
 use Rattle.group_types.proofs.MadeIds.{length-made_id}
 use Rattle.group_types.proofs.Orders.{text_cmp_total, text_cmp-IsAntisymmetric}
-use Rattle.group_core.proofs.Senders.{record_under-get}
+use Rattle.group_epochs.proofs.Senders.{record_under-get}
 use Rattle.group_core.proofs.Single.{get-inserted, insert-insert}
 use Rattle.group_core.proofs.Views.{view_for-insert}
 use Rattle.world_sim.proofs.FullBeats.{first_none}
