@@ -75,11 +75,15 @@ const BEATS: &str = "
 
 #[test]
 fn members_take_replies(rt: HostRuntime) -> Result<(), Fail> {
-    let beats = beating(&rt)?;
-    let rows = numbered_rows(rt.alloc(), BEATS)?;
-    let wrong = wrong_rows(rt.alloc(), &beats, rows.as_str())?;
+    let wrong = wrong_beats(&rt)?;
     assert_eq!(rt; wrong.as_str(), "");
     Ok(())
+}
+
+fn wrong_beats<R: RandomSource + AllocGlobal>(rt: &R) -> Result<String, Fail> {
+    let beats = beating(rt)?;
+    let rows = numbered_rows(rt.alloc(), BEATS)?;
+    Ok(wrong_rows(rt.alloc(), &beats, rows.as_str())?)
 }
 
 fn beating<R: RandomSource + AllocGlobal>(rt: &R) -> Result<Beats, Fail> {
@@ -246,12 +250,17 @@ fn put_next<S: Idle>(
 fn steady_of<S: Idle>(next: Next<S>) -> Option<Member<Steady>> {
     match next {
         Next::Steady(member) => Some(member),
-        other => no_member(other),
+        Next::Releasing(member) => let_go(member),
+        Next::Outside(member) => let_go(member),
+        Next::Gone(member, _) => let_go(member),
+        Next::Kept(member, _) => let_go(member),
+        Next::Still(member) => let_go(member),
+        Next::NoMemory(member) => let_go(member),
     }
 }
 
 /// Lets a member go that isn't steady.
-fn no_member<S: Idle>(_next: Next<S>) -> Option<Member<Steady>> {
+fn let_go<S: Stage>(_member: Member<S>) -> Option<Member<Steady>> {
     None
 }
 
