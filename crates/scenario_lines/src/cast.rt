@@ -1,18 +1,19 @@
 //! The names of a script's clients.
-ghost use Rattle.std.specs.Prelude.{◌≡◌, ◌<◌, ◌++◌, ◌∷◌, [], map, length, bytes_eq, string_bytes, IfSome, IfOk, IfErr, OnOk, OnErr};
-ghost use Rattle.std.specs.List.{position};
+ghost use Rattle.std.specs.Prelude.{◌≡◌, ◌++◌, ◌∷◌, [], map, string_bytes, IfOk, IfErr, OnOk, OnErr};
 ghost use Rattle.scenario_lines.specs.Scripts.{IsClient, number_in};
 ghost use Rattle.scenario_lines.specs.Words.{IsName};
 
 use crate::fault::LineFault;
 use crate::words;
+use indexmap::IndexSet;
 use std::alloc::{AllocError, Global};
+use std::collections::hash_map::RandomState;
 use std::marker::Model;
 
 /// The names of a script's clients, in the order of their numbers from 1.
 #[derive(Drop)]
 pub struct Cast {
-    names: Vec<String>,
+    names: IndexSet<String, RandomState>,
 }
 
 impl Model for Cast {
@@ -20,16 +21,16 @@ impl Model for Cast {
 
     ghost Value = { List (List ℕ) };
 
-    ghost view = { λ cast. map string_bytes cast.names.items };
+    ghost view = { λ cast. map string_bytes cast.names.keys };
 }
 
 impl Cast {
     /// Nobody. Takes no memory.
-    pub fn new(alloc: Global) -> Cast
+    pub fn new(alloc: Global, hasher: RandomState) -> Cast
         ensures { result ≡ [] }
     {
         Cast {
-            names: Vec::new(alloc),
+            names: IndexSet::with_hasher(alloc, hasher),
         }
     }
 
@@ -37,8 +38,8 @@ impl Cast {
     pub fn number_of(&self, name: &str) -> usize
         ensures { result ≡ number_in self.now name.now }
     {
-        let names = self.names();
-        match place_of(names, name) {
+        let _ = self.names.len();
+        match self.names.get_index_of(name) {
             Some(place) => place + 1,
             None => 0,
         }
@@ -57,11 +58,12 @@ impl Cast {
         }
     }
 
-    /// One name more, behind the others.
+    /// One name more, behind the others, of whom nobody has it.
     pub fn add(&mut self, alloc: Global, name: &str) -> Result<(), AllocError>
+        requires { number_in self.old name.now ≡ 0 }
         ensures { OnOk result (self.new ≡ self.old ++ name.now ∷ []) }
     {
-        self.names.push(String::from_str(alloc, name)?)?;
+        self.names.insert(String::from_str(alloc, name)?)?;
         Ok(())
     }
 
@@ -71,12 +73,4 @@ impl Cast {
     {
         self.names.as_slice()
     }
-}
-
-/// The first place of a name.
-fn place_of(names: &[String], name: &str) -> Option<usize>
-    ensures place { result ≡ position (λ other. bytes_eq name.now (string_bytes other)) names.now }
-    ensures bound { IfSome result (λ place. place < length names.now) }
-{
-    names.iter().position(|other| name == other.as_str())
 }

@@ -69,7 +69,7 @@ impl Player {
         Player {
             alloc,
             hasher,
-            cast: Cast::new(alloc),
+            cast: Cast::new(alloc, hasher),
             stage: Stage::Before(Vec::new(alloc)),
         }
     }

@@ -1,5 +1,20 @@
--- A list that is mapped from its front.
-use Rattle.std.proofs.Common.{◌≡◌, ℕ, zero, suc, ◌+◌, ◌<◌, ◌≤◌, List, [], ◌∷◌, ◌++◌, length, map, set, take, drop, get_or, refl, sym, ap, ◌∙◌, add-one, arith}
+-- A set with what it has in common with another, and a list that is mapped from its front.
+use Rattle.std.proofs.Common.{◌≡◌, Bool, true, false, ◌&&◌, IsTrue, subst, ℕ, zero, suc, ◌+◌, ◌<◌, ◌≤◌, List, [], ◌∷◌, ◌++◌, length, map, set, take, drop, get_or, refl, sym, ap, ◌∙◌, add-one, arith}
+use Rattle.group_types.specs.declared.partition.Partition.{Partition}
+use Rattle.group_types.specs.Sets.{common, has}
+use Rattle.group_types.specs.Partition.{Partitions}
+use Rattle.group_types.proofs.Orders.{partition_cmp_total, partition_cmp-IsAntisymmetric}
+use Rattle.group_types.proofs.SetLemmas.{has-common, same_set}
+
+pub common_within : (s t : Partitions) → ((p : Partition) → IsTrue (has s p) → IsTrue (has t p)) → common s t ≡ s
+common_within s t within = same_set partition_cmp_total partition_cmp-IsAntisymmetric _ _ (λ p. has-common partition_cmp_total s t p ∙ by (has s p) (has t p) (within p))
+  where
+    by : (a b : Bool) → (IsTrue a → IsTrue b) → (a && b) ≡ a
+    by true b so = so refl
+    by false b so = refl
+
+pub common_same : (s t : Partitions) → s ≡ t → s ≡ common s t
+common_same s t same = sym (common_within s t (λ p there. subst (λ (x : Partitions). IsTrue (has x p)) same there))
 
 module _ {X : Type 0} where
   abbrev pub front : (X → X) → ℕ → List X → List X

@@ -41,10 +41,10 @@ group_is c name g is = ap (λ (o : Option Group). unwrap_or o (new_group c.salt)
 pub group_none : (c : Coordinator) (name : Text) → finite.get c.groups name ≡ None → group_at c name ≡ new_group c.salt
 group_none c name is = ap (λ (o : Option Group). unwrap_or o (new_group c.salt)) is
 
-put_here : (c : Coordinator) (name : Text) (g : Group) → group_at (with_group c name g) name ≡ g
+pub put_here : (c : Coordinator) (name : Text) (g : Group) → group_at (with_group c name g) name ≡ g
 put_here c name g = ap (λ (o : Option Group). unwrap_or o (new_group c.salt)) (get-inserted c.groups name g)
 
-put_other : (c : Coordinator) (name : Text) (g : Group) (other : Text) → eq_by_cmp text_cmp other name ≡ false → group_at (with_group c name g) other ≡ group_at c other
+pub put_other : (c : Coordinator) (name : Text) (g : Group) (other : Text) → eq_by_cmp text_cmp other name ≡ false → group_at (with_group c name g) other ≡ group_at c other
 put_other c name g other apart = ap (λ (o : Option Group). unwrap_or o (new_group c.salt)) (get-insert_other c.groups name g other apart)
 
 -- each group under a name is sound
@@ -121,7 +121,7 @@ get_ticked groups moment name =
     ∙ find_mapped (λ g. ticked g moment) (finite.entries groups) name
     ∙ ap (option_map (λ g. ticked g moment)) (sym (finite.get-entries groups name))
 
-abbrev after_tick : Coordinator → ℕ → Coordinator
+abbrev pub after_tick : Coordinator → ℕ → Coordinator
 after_tick c moment = record c { groups = all_ticked c.groups moment }
 
 pub ticked_all : (c : Coordinator) (moment : ℕ) → AllPass c (record c { groups = all_ticked c.groups moment })

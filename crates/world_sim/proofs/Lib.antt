@@ -17,6 +17,7 @@ pub mod Takes
 pub mod Exclusive
 pub mod Messages
 pub mod Groups
+pub mod Granted
 pub mod Coordinators
 pub mod Deliveries
 pub mod Changes

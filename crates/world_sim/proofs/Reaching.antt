@@ -8,7 +8,7 @@ use Rattle.world_sim.specs.declared.shown.Shown.{Shown}
 use Rattle.world_sim.specs.declared.fault.WorldFault.{WorldFault}
 use Rattle.world_sim.specs.World.{World, new_world}
 use Rattle.world_sim.specs.Acts.{Act, Outcome, ActStep, Run}
-use Rattle.world_sim.specs.Exclusivity.{ActsLawfully, Always, RenewsLawfully, target_epoch_of}
+use Rattle.world_sim.specs.Exclusivity.{ActsLawfully, Always, HoldsOn, RenewsLawfully, target_epoch_of}
 use Rattle.world_sim.specs.Acting.{Acted}
 use Rattle.world_sim.specs.Reached.{IsReached}
 use Rattle.world_sim.specs.Running.{AllActed, Answers, StaysLawful, StaysSo}
@@ -31,12 +31,21 @@ reached_by w new act outcome reached step =
       run = one_act_more reached.acts reached.outcomes _ w new act outcome reached.run step;
     }
 
+pub run_reaches : (acts : List Act) (outcomes : List Outcome) (w new : World) → IsReached w → Run w acts outcomes new → IsReached new
+run_reaches [] [] w new reached is = subst IsReached (sym is) reached
+run_reaches [] (outcome ∷ outcomes) w new reached is = absurd is
+run_reaches (act ∷ acts) [] w new reached is = absurd is
+run_reaches (act ∷ acts) (outcome ∷ outcomes) w new reached (middle, step, later) = run_reaches acts outcomes middle new (reached_by w middle act outcome reached step) later
+
 pub acted_reaches : (w new : World) (act : Act) (result : Result Shown WorldFault) → IsReached w → Acted w act result new → IsReached new
 acted_reaches w new act (Ok shown) reached acted = reached_by w new act acted.0 reached acted.1
 acted_reaches w new act (Err fault) reached acted = subst IsReached (sym acted.1) reached
 
 pub always : (Holds : World → Type 0) → Always Holds → (w : World) → IsReached w → Holds w
 always Holds so w reached = so reached.salt reached.clients reached.acts reached.outcomes w reached.run
+
+pub holds_on : (Holds : World → Type 0) → Always Holds → (w : World) → IsReached w → HoldsOn Holds w
+holds_on Holds so w reached acts outcomes new run = always Holds so new (run_reaches acts outcomes w new reached run)
 
 -- what stays as it is is renewed lawfully: no target epoch is another
 same_lawfully : (w : World) → RenewsLawfully w w

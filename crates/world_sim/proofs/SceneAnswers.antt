@@ -22,6 +22,7 @@ use Rattle.world_sim.specs.Scene.{scene_view}
 use Rattle.world_sim.specs.Acting.{Acted, IsShown}
 use Rattle.world_sim.specs.Passing.{Answered, AnswersOne, IsHeartbeat}
 use Rattle.world_sim.proofs.Delivered.{answered, closed, commit_is_request, never_closed, replied}
+use Rattle.world_sim.proofs.Granted.{brought_grants, uncut}
 use Rattle.world_sim.proofs.Numbered.{numbered_in}
 use Rattle.world_sim.proofs.SceneLemmas.{replied_world}
 
@@ -71,15 +72,15 @@ module _ (one : OneRequestABody) (s : Scene) where
         (header_of made.number) (commit_value k.group k.id k.epoch made.topics) refl
 
     pub commit_brought : before ≡ [] → node.Answers s.node (Frame k.body no_stamp s.clock) kinds.Replied c before after
-        → (frame : List ℕ) (commits : List Commit) → frame ≡ drop 4 after → commits ≡ map (cut c) s.commits.items
-        → Acted w (Bring n) (Ok (shows.Answered frame)) (record w { coordinator = c; commits = commits })
-    commit_brought empty answers frame commits framed now =
+        → (frame : List ℕ) → frame ≡ drop 4 after → Acted w (Bring n) (Ok (shows.Answered frame)) (record w { coordinator = c })
+    commit_brought empty answers frame framed =
         let made = keeps.commits k (numbered_in s.commits.items n k pooled) in
+        let same = uncut w keeps c (brought_grants one w.coordinator c k w.clients made no_stamp w.clock answers.answer answers.step) in
         let it = answered one w k (commit_request (header_of made.number) (commit_value k.group k.id k.epoch made.topics))
         (commit_is_request (header_of made.number) (commit_value k.group k.id k.epoch made.topics) k.body made.spells small) c before after empty answers
         (header_of made.number) (commit_value k.group k.id k.epoch made.topics) refl in (
           it.0,
-          subst (λ (o : Option Commit). BringStep o w it.0 (record w { coordinator = c; commits = commits })) (sym pooled)
-              (subst (λ (ks : List Commit). BringStep (Some k) w it.0 (record w { coordinator = c; commits = ks })) (sym now) it.1),
+          subst (λ (o : Option Commit). BringStep o w it.0 (record w { coordinator = c })) (sym pooled)
+              (subst (λ (ks : List Commit). BringStep (Some k) w it.0 (record w { coordinator = c; commits = ks })) same it.1),
           subst (λ (f : List ℕ). IsShown (shows.Answered f) it.0) (sym framed) it.2,
         )

@@ -22,15 +22,9 @@ use Rattle.world_sim.specs.Exclusivity.{Always}
 use Rattle.world_sim.specs.Underway.{HasBegun, IsBetween, IsUnderway, RoundsGo, TurnGoes}
 use Rattle.world_sim.proofs.Numbered.{Place, at, elsewhere, numbered_itself, numbered_other, place}
 use Rattle.world_sim.proofs.Performs as performs
-use Rattle.world_sim.proofs.Reaching.{always, reached_by}
+use Rattle.world_sim.proofs.Reaching.{always, reached_by, run_reaches}
 
 -- ---- what a turn leads to is reached
-
-run_reaches : (acts : List Act) (outcomes : List Outcome) (w new : World) → IsReached w → Run w acts outcomes new → IsReached new
-run_reaches [] [] w new reached is = subst IsReached (sym is) reached
-run_reaches [] (outcome ∷ outcomes) w new reached is = absurd is
-run_reaches (act ∷ acts) [] w new reached is = absurd is
-run_reaches (act ∷ acts) (outcome ∷ outcomes) w new reached (middle, step, later) = run_reaches acts outcomes middle new (reached_by w middle act outcome reached step) later
 
 pub heard_reaches : (w new : World) (n : ℕ) → IsReached w → IsHeard w n new → IsReached new
 heard_reaches w new n reached heard =
@@ -293,7 +287,7 @@ settling_reaches w new (Ok done) reached (can, settles) = rounds_reach 3 w new r
 settling_reaches w new (Err faults.NoSuchClient) reached never = absurd never
 settling_reaches w new (Err faults.NoSuchMessage) reached never = absurd never
 settling_reaches w new (Err faults.WrongState) reached (cannot, same) = subst IsReached (sym same) reached
-settling_reaches w new (Err faults.NoMemory) reached stops = leaving_reaches stops.at new stops.client (comes_reach w stops.at stops.client reached stops.comes) stops.leaves
+settling_reaches w new (Err faults.NoMemory) reached (can, stops) = leaving_reaches stops.at new stops.client (comes_reach w stops.at stops.client reached stops.comes) stops.leaves
 settling_reaches w new (Err faults.TooLarge) reached (can, stops) = comes_reach w new stops.client reached stops.comes
 settling_reaches w new (Err faults.Forgotten) reached never = absurd never
 
@@ -358,13 +352,15 @@ pub stops_settling : (w now new : World) (rounds : ℕ) (fault : WorldFault) →
 stops_settling w now new rounds faults.NoSuchClient can few same made never = absurd never
 stops_settling w now new rounds faults.NoSuchMessage can few same made never = absurd never
 stops_settling w now new rounds faults.WrongState can few same made never = absurd never
-stops_settling w now new rounds faults.NoMemory can few same made (turns, middle, below, turned, leaves) =
-    record {
-      client = suc turns;
-      at = middle;
-      comes = record { rounds = rounds; below = few; round = now; made = made; turns = turns; client = refl; is_client = subst (λ k. turns < k) same below; turned = turned };
-      leaves = leaves;
-    }
+stops_settling w now new rounds faults.NoMemory can few same made (turns, middle, below, turned, leaves) = (
+  can,
+  record {
+    client = suc turns;
+    at = middle;
+    comes = record { rounds = rounds; below = few; round = now; made = made; turns = turns; client = refl; is_client = subst (λ k. turns < k) same below; turned = turned };
+    leaves = leaves;
+  },
+)
 stops_settling w now new rounds faults.TooLarge can few same made (turns, below, turned, refused) = (
   can,
   record {

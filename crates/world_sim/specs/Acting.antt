@@ -76,12 +76,25 @@ IsTooLarge w (Clock moment) = ⊥
 IsTooLarge w (Passes moment) = ⊥
 IsTooLarge w (Sees image) = ⊥
 
+-- the act may want memory, and the others never do
+abbrev pub TakesMemory : Act → Type 0
+TakesMemory (Asks n ask) = Unit {0}
+TakesMemory (GivesUp n) = ⊥
+TakesMemory (Deliver k) = Unit {0}
+TakesMemory (Take j) = Unit {0}
+TakesMemory (Release n p) = ⊥
+TakesMemory (Commits n topics) = Unit {0}
+TakesMemory (Bring k) = Unit {0}
+TakesMemory (Clock moment) = ⊥
+TakesMemory (Passes moment) = ⊥
+TakesMemory (Sees image) = ⊥
+
 -- why an act is refused
 abbrev pub IsRefusedFor : WorldFault → World → Act → Type 0
 IsRefusedFor faults.NoSuchClient w act = ActStep w act (IsRefused NoSuchClient) w
 IsRefusedFor faults.NoSuchMessage w act = ActStep w act (IsRefused NoSuchMessage) w
 IsRefusedFor faults.WrongState w act = ActStep w act (IsRefused WrongState) w
-IsRefusedFor faults.NoMemory w act = Unit {0}
+IsRefusedFor faults.NoMemory w act = TakesMemory act
 IsRefusedFor faults.TooLarge w act = IsTooLarge w act
 IsRefusedFor faults.Forgotten w act = ActStep w act (IsRefused Forgotten) w
 

@@ -69,6 +69,10 @@ RenewsLawfully w new =
     (name : Text) (g : Group) → finite.get new.coordinator.groups name ≡ Some g
     → target_epoch_of (finite.get w.coordinator.groups name) ≢ g.target_epoch → HasLawfulTarget g
 
+-- each act renews targets lawfully
+abbrev pub ActsLawfully : World → Type 0
+ActsLawfully w = (act : Act) (outcome : Outcome) (new : World) → ActStep w act outcome new → RenewsLawfully w new
+
 -- a partition has the code in the reply to a commit
 pub record HasCode (reply : CommitReplyValue) (code : ℤ) : Type 0 where
   pub topic : CommitReplyTopicValue
@@ -90,13 +94,24 @@ BringsHeld w =
     → numbered w.commits number ≡ Some k → ActStep w (Bring number) (IsAnswered reply) new
     → HasCode reply code → IsOfTaken code → IsTrue (has k.own p) → IsTrue (has k.since p)
 
+-- ---- all of it
+
+pub record IsExclusive (w : World) : Type 0 where
+  pub apart : HoldApart w
+  pub granted : HoldGranted w
+  pub shown : ShowGranted w
+  pub commits : CommitHeld w
+  pub since : SinceGranted w
+  pub brought : BringsHeld w
+  pub lawful : ActsLawfully w
+
+-- so it is in a world, and in every world to which acts lead from it
+abbrev pub HoldsOn : (World → Type 0) → World → Type 0
+HoldsOn Holds w = (acts : List Act) (outcomes : List Outcome) (new : World) → Run w acts outcomes new → Holds new
+
 -- ---- after every list of acts, from clients that haven't asked for anything
 
 abbrev pub Always : (World → Type 0) → Type 0
 Always Holds =
     (salt : ℕ) (clients : List Settings) (acts : List Act) (outcomes : List Outcome) (w : World)
     → Run (new_world salt clients) acts outcomes w → Holds w
-
--- each act renews targets lawfully
-abbrev pub ActsLawfully : World → Type 0
-ActsLawfully w = (act : Act) (outcome : Outcome) (new : World) → ActStep w act outcome new → RenewsLawfully w new

@@ -20,7 +20,7 @@ IsSettling w (Ok done) new = CanSettle w × Settles w new
 IsSettling w (Err NoSuchClient) new = ⊥
 IsSettling w (Err NoSuchMessage) new = ⊥
 IsSettling w (Err WrongState) new = (¬ CanSettle w) × (new ≡ w)
-IsSettling w (Err NoMemory) new = StopsShort w new
+IsSettling w (Err NoMemory) new = CanSettle w × StopsShort w new
 IsSettling w (Err TooLarge) new = CanSettle w × StopsTooLarge w new
 IsSettling w (Err Forgotten) new = ⊥
 

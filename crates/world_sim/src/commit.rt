@@ -1,7 +1,7 @@
 //! Commits that were made.
 ghost use Rattle.std.specs.Prelude.{◌≡◌, [], IfOk, unwrap_or};
 ghost use Rattle.std.specs.Option.{option_copied};
-ghost use Rattle.group_types.specs.Sets.{nothing};
+ghost use Rattle.group_types.specs.Sets.{common, nothing};
 ghost use Rattle.world_sim.specs.World.{cut, granted};
 
 use crate::frame::Frame;
@@ -75,9 +75,19 @@ impl Commit {
         ensures { self.new ≡ cut node.now self.old }
     {
         match granted(node, self.group.as_str(), self.id.as_str()) {
-            Some(set) => self.since.retain_common(set),
+            Some(set) => keep_common(&mut self.since, set),
             None => self.since.clear(),
         }
+    }
+}
+
+#[tactic(auto, using(crate::proofs::Cutting::common_same))]
+/// Keeps the partitions that the other set has too. Most often the two are the same, which is soon seen.
+fn keep_common(since: &mut PartSet, other: &PartSet)
+    ensures { since.new ≡ common since.old other.now }
+{
+    if !since.equals(other) {
+        since.retain_common(other);
     }
 }
 

@@ -88,6 +88,17 @@ pub(crate) fn place_of(number: usize, count: usize) -> Option<usize>
     Some(number - 1)
 }
 
+/// Leaves of each commit's `since` only what is granted still, where a tick removed so many members: it takes back only
+/// what they held. Takes no memory.
+fn cut_after(commits: &mut Vec<Commit>, node: &Node, removed: usize)
+    requires { removed ≡ 0 → map (cut node.now) commits.old.items ≡ commits.old.items }
+    ensures { commits.new.items ≡ map (cut node.now) commits.old.items }
+{
+    if removed > 0 {
+        cut_all(commits, node);
+    }
+}
+
 /// Leaves of each commit's `since` only what is granted still. Takes no memory.
 fn cut_all(commits: &mut Vec<Commit>, node: &Node)
     ensures { commits.new.items ≡ map (cut node.now) commits.old.items }

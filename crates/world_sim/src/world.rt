@@ -5,7 +5,7 @@ ghost use Rattle.member_core.specs.Client.{new_client};
 ghost use Rattle.member_core.specs.Views.{settings_value, HasShortTexts};
 ghost use Rattle.world_sim.specs.World.{new_world, numbered};
 ghost use Rattle.world_sim.specs.Acting.{act_value, Acted, HasShortTopics};
-ghost use Rattle.world_sim.specs.Exclusivity.{ActsLawfully, BringsHeld, CommitHeld, HoldApart, HoldGranted, RenewsLawfully, ShowGranted, SinceGranted};
+ghost use Rattle.world_sim.specs.Exclusivity.{ActsLawfully, BringsHeld, CommitHeld, HoldApart, HoldGranted, HoldsOn, IsExclusive, RenewsLawfully, ShowGranted, SinceGranted};
 ghost use Rattle.world_sim.specs.Invariant.{Keeps};
 ghost use Rattle.world_sim.specs.Convergence.{IsSettled};
 ghost use Rattle.world_sim.specs.Running.{AfterEachAct, HasRun, InEachAct, StaysLawful, StaysSo};
@@ -77,7 +77,7 @@ impl World {
     /// most 32,767 bytes, and its tagged fields rise.
     ///
     /// Faults, judged in this order: `NoSuchClient` or `NoSuchMessage`; `WrongState`; `TooLarge`; of a delivery `Forgotten`;
-    /// or `NoMemory`.
+    /// or `NoMemory`, but never of an act that takes none: giving up, a release, the clock, a tick and an image.
     ///
     /// After the act no two members of a group hold one partition, each holds what it is granted, a reply that may still be
     /// taken shows what is granted, and a commit that would be taken has been granted all that its maker held.
@@ -103,7 +103,7 @@ impl World {
     ///
     /// Fails with `NoMemory` alone, and then no act was done.
     ///
-    /// After each act the laws hold that [`World::act`] names.
+    /// After each act the laws hold that [`World::act`] names, and of a commit that the first act brings too.
     pub fn run<'a>(
         &mut self,
         alloc: Global,
@@ -117,6 +117,7 @@ impl World {
         ensures commits { IfOk result (λ answers. AfterEachAct CommitHeld self.old (map act_value acts.entry.items) answers.items) }
         ensures since { IfOk result (λ answers. AfterEachAct SinceGranted self.old (map act_value acts.entry.items) answers.items) }
         ensures brought { IfOk result (λ answers. AfterEachAct BringsHeld self.old (map act_value acts.entry.items) answers.items) }
+        ensures brought_first { BringsHeld self.old }
         ensures lawful { IfOk result (λ answers. InEachAct RenewsLawfully self.old (map act_value acts.entry.items) answers.items) }
     {
         self.hold_on();
@@ -136,8 +137,11 @@ impl World {
     /// has nor had last, or has fewer than three requests left; where a record has no client, or is away; or where a group is at
     /// its greatest epoch. Nothing has changed then. `TooLarge` where a heartbeat has more bytes than a frame may have, and
     /// `NoMemory`: the acts before that were done, and a client that waited has given up.
+    ///
+    /// In every world on the way the laws hold that [`World::act`] names, and in every act that leads from one to the next.
     pub fn settle(&mut self, alloc: Global) -> Result<(), WorldFault>
         ensures rounds { IsSettling self.old result self.new }
+        ensures on_the_way { HoldsOn IsExclusive self.old }
         ensures settled { IfOk result (λ _. IsSettled self.new) }
         ensures apart { HoldApart self.new }
         ensures granted { HoldGranted self.new }
@@ -146,6 +150,7 @@ impl World {
         ensures since { SinceGranted self.new }
     {
         three_rounds_settle();
+        self.hold_on();
         self.hold();
         if !self.scene.may_settle() {
             return Err(WorldFault::WrongState);
@@ -194,6 +199,7 @@ impl World {
         ensures since { StaysSo SinceGranted self.now }
         ensures brought { StaysSo BringsHeld self.now }
         ensures lawful { StaysLawful self.now }
+        ensures all { HoldsOn IsExclusive self.now }
     {
         members_hold_apart();
         replies_show_what_is_granted();

@@ -4,7 +4,7 @@ ghost use Rattle.world_sim.specs.Acting.{Acted};
 ghost use Rattle.world_sim.specs.Invariant.{Keeps};
 ghost use Rattle.world_sim.specs.Scene.{scene_view};
 
-use super::{Scene, cut_all, place_of};
+use super::{Scene, place_of};
 use crate::fault::WorldFault;
 use crate::frame::Frame;
 use crate::shown::Shown;
@@ -19,8 +19,7 @@ const NO_STAMP: Stamp = Stamp {
 };
 
 impl Scene {
-    #[tactic(auto, using(crate::proofs::MailLemmas::small_cut))]
-    /// A commit is brought to the coordinator. Its reply isn't kept.
+    /// A commit is brought to the coordinator. Its reply isn't kept. Nothing that is granted is taken back.
     pub(crate) fn bring(&mut self, alloc: Global, number: usize) -> Result<Shown, WorldFault>
         requires { Keeps (scene_view self.old) }
         ensures { Acted (scene_view self.old) (Bring number) result (scene_view self.new) }
@@ -34,7 +33,6 @@ impl Scene {
         let answered = self
             .node
             .answer(alloc, body, NO_STAMP, self.clock, &mut out)?;
-        cut_all(&mut self.commits, &self.node);
         match answered {
             Answered::Replied => Ok(Shown::Answered {
                 reply: Frame::of(out),

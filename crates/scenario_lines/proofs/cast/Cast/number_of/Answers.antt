@@ -4,8 +4,7 @@ use Rattle.scenario_lines.proofs.cast.Cast.number_of.Goals as goal
 
 pub returns-in-Some : goal.returns-in-Some
 returns-in-Some c =
-    add-one c.in-Some.place ∙ numbered_at c.names-names.result.now c.args.self.now c.args.name.now (Some c.in-Some.place) c.names-names.ensures c.in-Some.ensures.place
+    add-one c.in-Some.place ∙ numbered_at c.self.inside.names.keys c.args.self.now c.args.name.now (Some c.in-Some.place) c.self.view_is c.in-Some.ensures.index
 
 pub returns-in-None : goal.returns-in-None
-returns-in-None c =
-    numbered_at c.names-names.result.now c.args.self.now c.args.name.now None c.names-names.ensures c.in-None.ensures.place
+returns-in-None c = numbered_at c.self.inside.names.keys c.args.self.now c.args.name.now None c.self.view_is c.in-None.ensures.index

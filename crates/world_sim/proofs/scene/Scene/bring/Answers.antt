@@ -6,7 +6,6 @@ use Rattle.coord_node.specs.declared.event.Answered.{Answered}
 use Rattle.coord_node.specs.Coordinator.{Coordinator, Frame}
 use Rattle.coord_node.specs.Answers as node
 use Rattle.world_sim.specs.Acts.{no_stamp}
-use Rattle.world_sim.proofs.MailLemmas.{small_cut}
 use Rattle.world_sim.proofs.Numbered.{numbered_in}
 use Rattle.world_sim.proofs.Performs.{no_commit}
 use Rattle.world_sim.proofs.SceneActs.{nobody}
@@ -37,8 +36,4 @@ returns c =
     let step = subst (λ (b : List ℕ). node.Answers c.args.self.now.node (Frame b no_stamp c.args.self.now.clock) c.in_ok-answered.answered c.answer.new.self c.new-out.result.items c.answer.new.out.items) c.body-body.ensures c.in_ok-answered.ensures.step in
     let replies = subst (λ (a : Answered). node.Answers c.args.self.now.node (Frame k.body no_stamp c.args.self.now.clock) a c.answer.new.self c.new-out.result.items c.answer.new.out.items) c.in-Replied.is step in
     commit_brought c.one_request_a_body.ensures c.args.self.now c.requires c.args.number k pooled (c.args.self.now.small k (numbered_in c.args.self.now.commits.items c.args.number k pooled)) c.answer.new.self c.new-out.result.items c.answer.new.out.items
-    c.new-out.ensures.items replies c.of.result c.cut_all.new.commits.items c.of.ensures c.cut_all.ensures
-
-pub invariant_of-self-2 : goal.invariant_of-self-2
-invariant_of-self-2 c =
-    record { named = c.args.self.now.named; small = small_cut c.answer.new.self c.args.self.now.commits.items c.cut_all.new.commits.items c.args.self.now.small c.cut_all.ensures }
+    c.new-out.ensures.items replies c.of.result c.of.ensures

@@ -1,4 +1,4 @@
-use Rattle.std.proofs.Common.{◌∙◌, ◌<◌, ◌≤◌, ◌++◌, ◌∷◌, [], List, length, map, sym, subst, arith, length-append}
+use Rattle.std.proofs.Common.{◌∙◌, ◌<◌, ◌≤◌, ◌++◌, ◌∷◌, [], List, length, map, refl, sym, subst, arith, length-append}
 use Rattle.std.proofs.lemmas.Iterator.Adapters.{YieldsList-from_vec}
 use Rattle.std.proofs.lemmas.Iterator.Consumers.{YieldsList-end}
 use Rattle.world_sim.specs.declared.act.Act as code
@@ -34,3 +34,9 @@ returns-clause-steps c =
     let gives = c.into_iter-act-iterator.ensures.into_iter_gives in
     let ended = YieldsList-end (YieldsList-from_vec c.args.acts.items gives.0 (gives.1 ∙ c.args.acts.ok.0)) c.loop-act.yielded c.loop-act.act-iterator c.loop-act.yielded_by c.next.result c.next.new.self c.in-None.is c.next.ensures.steps in
     subst (λ (acts : List code.Act). AllActed c.args.self.now (map act_value acts) c.loop-act.answers.items c.loop-act.self) (no_more _ _ _ c.loop-act.invariant.parts ended.1) c.loop-act.invariant.steps
+
+pub returns-in_err-answers-clause-brought_first : goal.returns-in_err-answers-clause-brought_first
+returns-in_err-answers-clause-brought_first c = (c.hold_on.ensures.all [] [] c.args.self.now refl).brought
+
+pub returns-clause-brought_first : goal.returns-clause-brought_first
+returns-clause-brought_first c = (c.hold_on.ensures.all [] [] c.args.self.now refl).brought
