@@ -139,7 +139,6 @@ pub record ExplainsScript {State : Type 0} (does : Effect State) (takes : Gramma
   pub bytes : List ℕ
   pub is_input : IfSome input (λ known. bytes ≡ known)
   pub ends : EndsExplained does takes closes old (lines_of bytes) output errors status
-  pub too_long : IsTooLong input → (status ≡ 1) × Keeps output.0 output.1
 
 -- Nothing is printed at the end.
 abbrev pub PrintsNothing : {State : Type 0} → Closing State

@@ -1,7 +1,9 @@
 //! `--explain`: why lines are bad, and why they come to nothing.
-ghost use Rattle.std.specs.Prelude.{◌≡◌, ◌⊎◌};
+ghost use Rattle.std.specs.Prelude.{◌≡◌};
+ghost use Rattle.std.specs.Io.KnownBytes.{Keeps};
 ghost use Rattle.scenario_lines.specs.Commands.{DoesReplyLine, IsReplyLine, new_interpreter};
 ghost use Rattle.scenario_lines.specs.FrameLines.{SpellsBytes};
+ghost use Rattle.scenario_lines.specs.Inputs.{IsTooLong};
 ghost use Rattle.scenario_lines.specs.Lines.{lines_of};
 ghost use Rattle.scenario_lines.specs.Plays.{DoesScriptLine, IsScriptLine, PrintsStandings, new_play};
 ghost use Rattle.scenario_lines.specs.Reporters.{new_reporter};
@@ -36,19 +38,13 @@ pub fn explained_reply_lines<R: Read, W: Write, E: Write>(
     writer: &mut W,
     faults: &mut E,
 ) -> u8
-    ensures { ExplainsLines DoesReplyLine IsReplyLine (new_interpreter alloc) (R.remaining reader.old)
+    ensures ends { ExplainsLines DoesReplyLine IsReplyLine (new_interpreter alloc) (R.remaining reader.old)
         (W.contents writer.old, W.contents writer.new) (E.contents faults.old, E.contents faults.new) result }
+    ensures too_long { IsTooLong (R.remaining reader.old) → (result ≡ 1) × Keeps (W.contents writer.old) (W.contents writer.new) }
 {
     let mut interpreter = Interpreter::new(alloc, hasher);
     let mut again = Interpreter::new(alloc, hasher);
-    explained_lines(
-        alloc,
-        &mut interpreter,
-        &mut again,
-        reader,
-        writer,
-        faults,
-    )
+    explained_lines(alloc, &mut interpreter, &mut again, reader, writer, faults)
 }
 
 /// Does what [`run_lines`](crate::run_lines) does, and tells then of each line that closed, was refused or was bad why.
@@ -59,8 +55,9 @@ pub fn explained_run_lines<R: Read, W: Write, E: Write>(
     writer: &mut W,
     faults: &mut E,
 ) -> u8
-    ensures { ExplainsScript DoesScriptLine IsScriptLine PrintsStandings new_play (R.remaining reader.old)
+    ensures ends { ExplainsScript DoesScriptLine IsScriptLine PrintsStandings new_play (R.remaining reader.old)
         (W.contents writer.old, W.contents writer.new) (E.contents faults.old, E.contents faults.new) result }
+    ensures too_long { IsTooLong (R.remaining reader.old) → (result ≡ 1) × Keeps (W.contents writer.old) (W.contents writer.new) }
 {
     let mut player = Player::new(alloc, hasher);
     let mut again = Player::new(alloc, hasher);
@@ -74,19 +71,13 @@ pub fn explained_frame_lines<R: Read, W: Write, E: Write>(
     writer: &mut W,
     faults: &mut E,
 ) -> u8
-    ensures { ExplainsLines (DoesFrameLine {State = Reporting}) SpellsBytes (new_reporter alloc) (R.remaining reader.old)
+    ensures ends { ExplainsLines (DoesFrameLine {State = Reporting}) SpellsBytes (new_reporter alloc) (R.remaining reader.old)
         (W.contents writer.old, W.contents writer.new) (E.contents faults.old, E.contents faults.new) result }
+    ensures too_long { IsTooLong (R.remaining reader.old) → (result ≡ 1) × Keeps (W.contents writer.old) (W.contents writer.new) }
 {
     let mut reporter = Reporter::new(alloc);
     let mut again = Reporter::new(alloc);
-    explained_lines(
-        alloc,
-        &mut reporter,
-        &mut again,
-        reader,
-        writer,
-        faults,
-    )
+    explained_lines(alloc, &mut reporter, &mut again, reader, writer, faults)
 }
 
 /// Does the lines of the reader with one worker, and then again with another that is at the same place, which tells of each line
@@ -99,8 +90,9 @@ fn explained_lines<L: Explains, R: Read, W: Write, E: Write>(
     writer: &mut W,
     faults: &mut E,
 ) -> u8
-    ensures { ExplainsScript L.does L.takes L.closes worker.old (R.remaining reader.old)
+    ensures ends { ExplainsScript L.does L.takes L.closes worker.old (R.remaining reader.old)
         (W.contents writer.old, W.contents writer.new) (E.contents faults.old, E.contents faults.new) result }
+    ensures too_long { IsTooLong (R.remaining reader.old) → (result ≡ 1) × Keeps (W.contents writer.old) (W.contents writer.new) }
 {
     match read_whole(alloc, reader) {
         Ok(input) => explained_input(alloc, worker, again, input.as_slice(), writer, faults),
@@ -120,13 +112,27 @@ fn explained_input<L: Explains, W: Write, E: Write>(
     ensures { EndsExplained L.does L.takes L.closes worker.old (lines_of input.now)
         (W.contents writer.old, W.contents writer.new) (E.contents faults.old, E.contents faults.new) result }
 {
-    let status = match do_input(alloc, worker, input, writer) {
-        Ok(()) => 0,
-        Err(fault) => tell(alloc, fault, faults),
-    };
+    let status = status_of_input(alloc, worker, input, writer, faults);
     match explain(alloc, again, input, faults) {
         Ok(()) => status,
         Err(_) => tell(alloc, Fault::NoMemory, faults),
+    }
+}
+
+/// Does the lines of an input. A fault is told.
+fn status_of_input<L: Explains, W: Write, E: Write>(
+    alloc: Global,
+    worker: &mut L,
+    input: &[u8],
+    writer: &mut W,
+    faults: &mut E,
+) -> u8
+    ensures { EndsExplained L.does L.takes L.closes worker.old (lines_of input.now)
+        (W.contents writer.old, W.contents writer.new) (E.contents faults.old, E.contents faults.new) result }
+{
+    match do_input(alloc, worker, input, writer) {
+        Ok(()) => 0,
+        Err(fault) => tell(alloc, fault, faults),
     }
 }
 
