@@ -1,4 +1,4 @@
--- Bytes that are spelled in hex, two digits each.
+-- Lines that are bytes spelled in hex, two digits each.
 use Rattle.std.proofs.Common.{All, get_or, Bool, true, false, IfOk, ◌==◌, ◌≡◌, ◌≢◌, ◌⊎◌, inl, inr, ℕ, ◌+◌, ◌*◌, ◌<◌, ◌≤◌, List, [], ◌∷◌, length, Option, Some, None, Result, Ok, Err, unwrap_or, refl, sym, ap, ◌∙◌, subst, arith}
 use Rattle.std.specs.Prelude.{IsErr, IfSome}
 use Rattle.std.specs.List.{AllPass, join_with_byte}
@@ -13,57 +13,10 @@ use Rattle.hex.proofs.HexLemmas.{decode_of-ok}
 use Rattle.uuid.specs.Text.{by_index}
 use Rattle.uuid.proofs.TextLemmas.{by_index_at}
 use Rattle.hex.specs.Hex.{hex_digit_value, is_hex_digit, digit_or_error, pair_value, decode_of, ◌>>=◌}
-use Rattle.scenario_lines.specs.Words.{digit_value, is_space, words_of}
+use Rattle.scenario_lines.specs.Words.{is_space, words_of}
 use Rattle.scenario_lines.specs.FrameLines.{IsFrameLine, SpellsBytes}
 use Rattle.hex.specs.declared.error.FromHexError.{FromHexError}
 use Rattle.hex.specs.declared.error.FromHexError.TheVariants.{InvalidHexCharacter}
-
-abbrev digit_table : List ℕ
-digit_table = 255 ∷ 255 ∷ 255 ∷ 255 ∷ 255 ∷ 255 ∷ 255 ∷ 255 ∷ 255 ∷ 255 ∷ 255 ∷ 255 ∷ 255 ∷ 255 ∷ 255 ∷ 255 ∷ 255 ∷ 255 ∷ 255 ∷ 255 ∷ 255 ∷ 255 ∷ 255 ∷ 255 ∷ 255 ∷ 255 ∷ 255 ∷ 255 ∷ 255 ∷ 255 ∷ 255 ∷ 255 ∷ 255 ∷ 255 ∷ 255 ∷ 255 ∷ 255 ∷ 255 ∷ 255 ∷ 255 ∷ 255 ∷ 255 ∷ 255 ∷ 255 ∷ 255 ∷ 255 ∷ 255 ∷ 255 ∷ 0 ∷ 1 ∷ 2 ∷ 3 ∷ 4 ∷ 5 ∷ 6 ∷ 7 ∷ 8 ∷ 9 ∷ 255 ∷ 255 ∷ 255 ∷ 255 ∷ 255 ∷ 255 ∷ 255 ∷ 10 ∷ 11 ∷ 12 ∷ 13 ∷ 14 ∷ 15 ∷ 255 ∷ 255 ∷ 255 ∷ 255 ∷ 255 ∷ 255 ∷ 255 ∷ 255 ∷ 255 ∷ 255 ∷ 255 ∷ 255 ∷ 255 ∷ 255 ∷ 255 ∷ 255 ∷ 255 ∷ 255 ∷ 255 ∷ 255 ∷ 255 ∷ 255 ∷ 255 ∷ 255 ∷ 255 ∷ 255 ∷ 10 ∷ 11 ∷ 12 ∷ 13 ∷ 14 ∷ 15 ∷ 255 ∷ 255 ∷ 255 ∷ 255 ∷ 255 ∷ 255 ∷ 255 ∷ 255 ∷ 255 ∷ 255 ∷ 255 ∷ 255 ∷ 255 ∷ 255 ∷ 255 ∷ 255 ∷ 255 ∷ 255 ∷ 255 ∷ 255 ∷ 255 ∷ 255 ∷ 255 ∷ 255 ∷ 255 ∷ 255 ∷ 255 ∷ 255 ∷ 255 ∷ 255 ∷ 255 ∷ 255 ∷ 255 ∷ 255 ∷ 255 ∷ 255 ∷ 255 ∷ 255 ∷ 255 ∷ 255 ∷ 255 ∷ 255 ∷ 255 ∷ 255 ∷ 255 ∷ 255 ∷ 255 ∷ 255 ∷ 255 ∷ 255 ∷ 255 ∷ 255 ∷ 255 ∷ 255 ∷ 255 ∷ 255 ∷ 255 ∷ 255 ∷ 255 ∷ 255 ∷ 255 ∷ 255 ∷ 255 ∷ 255 ∷ 255 ∷ 255 ∷ 255 ∷ 255 ∷ 255 ∷ 255 ∷ 255 ∷ 255 ∷ 255 ∷ 255 ∷ 255 ∷ 255 ∷ 255 ∷ 255 ∷ 255 ∷ 255 ∷ 255 ∷ 255 ∷ 255 ∷ 255 ∷ 255 ∷ 255 ∷ 255 ∷ 255 ∷ 255 ∷ 255 ∷ 255 ∷ 255 ∷ 255 ∷ 255 ∷ 255 ∷ 255 ∷ 255 ∷ 255 ∷ 255 ∷ 255 ∷ 255 ∷ 255 ∷ 255 ∷ 255 ∷ 255 ∷ 255 ∷ 255 ∷ 255 ∷ 255 ∷ 255 ∷ 255 ∷ 255 ∷ 255 ∷ 255 ∷ 255 ∷ 255 ∷ 255 ∷ 255 ∷ 255 ∷ 255 ∷ 255 ∷ 255 ∷ 255 ∷ 255 ∷ 255 ∷ 255 ∷ 255 ∷ 255 ∷ 255 ∷ 255 ∷ 255 ∷ 255 ∷ 255 ∷ 255 ∷ 255 ∷ 255 ∷ 255 ∷ 255 ∷ 255 ∷ 255 ∷ 255 ∷ 255 ∷ 255 ∷ 255 ∷ 255 ∷ 255 ∷ 255 ∷ 255 ∷ 255 ∷ 255 ∷ 255 ∷ 255 ∷ 255 ∷ []
-
-digit_table-by_index : digit_table ≡ by_index 256 digit_value
-unfolding by_index
-digit_table-by_index = refl
-
--- the table has the value of every byte
-pub table_value : (c : ℕ) → c < 256 → get_or digit_table c 0 ≡ digit_value c
-table_value c within = ap (λ (l : List ℕ). get_or l c 0) digit_table-by_index ∙ by_index_at 256 digit_value c 0 within
-
-is_digit : (o : Option ℕ) (v : ℕ) → v ≡ unwrap_or o 255 → v < 16 → o ≡ Some v
-is_digit None v same small = absurd (omega arith)
-is_digit (Some x) v same small = ap Some (sym same)
-
-digit_below : (c : ℕ) → IfSome (hex_digit_value c) (λ v. v < 16)
-digit_below c = grind (arith, nat_tests)
-
-no_digit : (o : Option ℕ) (v : ℕ) → IfSome o (λ x. x < 16) → v ≡ unwrap_or o 255 → 16 ≤ v → o ≡ None
-no_digit None v below same large = refl
-no_digit (Some x) v below same large = absurd (omega arith)
-
--- two digits are a byte
-pub pair_ok : (a b i h l : ℕ) → h ≡ digit_value a → l ≡ digit_value b → h < 16 → l < 16 → pair_value a b i ≡ Ok (h * 16 + l)
-pair_ok a b i h l high low high_small low_small =
-    let one = is_digit (hex_digit_value a) h high high_small in
-    let two = is_digit (hex_digit_value b) l low low_small in
-    ap (λ o. digit_or_error a i o >>= (λ x. digit_or_error b (i + 1) (hex_digit_value b) >>= (λ y. Ok (x * 16 + y)))) one
-    ∙ ap (λ o. digit_or_error b (i + 1) o >>= (λ y. Ok (h * 16 + y))) two
-
-second : (o : Option ℕ) (a b i : ℕ) → hex_digit_value b ≡ None
-    → (e : FromHexError) × ((digit_or_error a i o >>= (λ x. digit_or_error b (i + 1) (hex_digit_value b) >>= (λ y. Ok (x * 16 + y)))) ≡ Err e)
-second None a b i none = (InvalidHexCharacter a i, refl)
-second (Some x) a b i none =
-    (InvalidHexCharacter b (i + 1), ap (λ o. digit_or_error b (i + 1) o >>= (λ y. Ok (x * 16 + y))) none)
-
--- and other bytes are none
-pub pair_bad : (a b i h l : ℕ) → h ≡ digit_value a → l ≡ digit_value b → (16 ≤ h) ⊎ (16 ≤ l) → (e : FromHexError) × (pair_value a b i ≡ Err e)
-pair_bad a b i h l high low (inl large) =
-    let none = no_digit (hex_digit_value a) h (digit_below a) high large in
-    (InvalidHexCharacter a i, ap (λ o. digit_or_error a i o >>= (λ x. digit_or_error b (i + 1) (hex_digit_value b) >>= (λ y. Ok (x * 16 + y)))) none)
-pair_bad a b i h l high low (inr large) =
-    let none = no_digit (hex_digit_value b) l (digit_below b) low large in
-    second (hex_digit_value a) a b i none
-
--- ---- a line of digits
 
 digit_below_128 : (c : ℕ) → is_hex_digit c ≡ true → c < 128
 digit_below_128 c is = grind (arith, nat_tests)

@@ -33,12 +33,12 @@ performs cast stage taken old w new verb act answer text view same is acted show
 
 -- ---- where the clients stand
 
-pub stands : (cast : List Text) (stage taken : Stage) (old : Play) (w : World) (page before after : List ℕ)
-    → play cast (world_at stage) (has_begun stage) ≡ old → taken ≡ stage → w ≡ world_at taken → page ≡ standings_text cast w.clients
+pub stands : (cast : List Text) (stage taken : Stage) (old : Play) (page before after : List ℕ)
+    → play cast (world_at stage) (has_begun stage) ≡ old → taken ≡ stage → page ≡ standings_text cast (world_at taken).clients
     → after ≡ before ++ page → Prints (PrintsStandings old) before after
-stands cast stage taken old w page before after view same is put printed =
+stands cast stage taken old page before after view same put printed =
     subst (λ p. Prints (PrintsStandings p) before after) view
-    (record { text = page; is_text = put ∙ ap (λ (v : World). standings_text cast v.clients) (is ∙ ap world_at same); printed = printed })
+    (record { text = page; is_text = put ∙ ap (λ (s : Stage). standings_text cast (world_at s).clients) same; printed = printed })
 
 -- ---- clients
 

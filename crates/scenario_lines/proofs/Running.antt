@@ -1,13 +1,14 @@
 -- A run that goes on line by line.
 use Rattle.std.proofs.Common.{◌≡◌, inl, inr, Result, Ok, Err, OnOk, ℕ, ◌+◌, List, [], ◌∷◌, ◌++◌, length, Option, Some, None, IfSome, unwrap_or, refl, sym, ap, ◌∙◌, subst, append_assoc, append-nil, arith, length-append}
-use Rattle.std.specs.Prelude.{IfErr, OnErr, MatchResult}
+use Rattle.std.specs.Prelude.{◌⊎◌, IfErr, OnErr, MatchResult}
 use Rattle.std.specs.Result.{result_err}
 use Rattle.std.specs.Io.KnownBytes.{Appends}
 use Rattle.std.proofs.KnownBytes.{Appends-nil, Appends-trans, Keeps-refl}
 use Rattle.scenario_lines.specs.declared.fault.Fault.{Fault}
 use Rattle.scenario_lines.specs.declared.fault.Fault.TheVariants.{BadLine, Read, TooLong, Write, NoMemory}
-use Rattle.scenario_lines.specs.Writing.{WritesPart}
-use Rattle.scenario_lines.specs.Runs.{Effect, Grammar, Closing, AreDone, WritesLines, WritesPartOfLines, WritesAll, WritesPartOfAll, StopsAtBadLine, Prints, IsOfReading, IsWrite, Ends, LineEnds, EndEnds}
+use Rattle.scenario_lines.specs.Writing.{Grows, WritesPart}
+use Rattle.scenario_lines.specs.Runs.{Effect, Grammar, Closing, AreDone, WritesLines, WritesPartOfLines, WritesAll, WritesPartOfAll, StopsAtBadLine, Prints, IsOfReading, IsWrite, IsStatus, Ends, EndsExplained, LineEnds, EndEnds}
+use Rattle.scenario_lines.proofs.Written.{Grows-trans}
 
 -- the first lines are done, and of their text the front is written and the rest is held
 pub record HasDone {State : Type 0} (does : Effect State) (lines left : List (List ℕ)) (count : ℕ) (old now : State) (held : List ℕ) (before after : Option (List ℕ)) : Type 0 where
@@ -189,3 +190,15 @@ EndEnds-by_write closes old held printed before after (Ok done) written (Write e
 EndEnds-by_write closes old held printed before after (Err fault) written (Write error) prints kept was is part =
     inl (subst (WritesPart before after) kept part)
 EndEnds-by_write closes old held printed before after ended written NoMemory prints kept was is part = absurd is
+
+-- ---- a run with reasons
+
+-- reasons may come behind a run, and memory may be out for them
+pub EndsExplained-more : {State : Type 0} (does : Effect State) (takes : Grammar State) (closes : Closing State) (old : State) (lines : List (List ℕ))
+    (before after errors told more : Option (List ℕ)) (status last : ℕ)
+    → EndsExplained does takes closes old lines (before, after) (errors, told) status → Grows told more → (last ≡ status) ⊎ (last ≡ 1)
+    → EndsExplained does takes closes old lines (before, after) (errors, more) last
+EndsExplained-more does takes closes old lines before after errors told more status last run grown (inl same) =
+    record { fault = run.fault; ends = run.ends; is_status = subst (λ n. IsStatus run.fault n ⊎ (n ≡ 1)) (sym same) run.is_status; told = Grows-trans errors told more run.told grown }
+EndsExplained-more does takes closes old lines before after errors told more status last run grown (inr one) =
+    record { fault = run.fault; ends = run.ends; is_status = inr one; told = Grows-trans errors told more run.told grown }

@@ -1,8 +1,9 @@
 -- What a writer took of a piece of the bytes.
-use Rattle.std.proofs.Common.{◌≡◌, ℕ, ◌≤◌, List, ◌++◌, length, take, drop, Option, sym, ◌∙◌, ap, subst, append_assoc, take-append-drop}
+use Rattle.std.proofs.Common.{◌≡◌, ℕ, ◌≤◌, List, [], ◌++◌, length, take, drop, Option, sym, ◌∙◌, ap, subst, append_assoc, take-append-drop}
 use Rattle.std.proofs.lemmas.List.{take-append-le}
 use Rattle.std.specs.Io.KnownBytes.{Appends, Keeps}
-use Rattle.std.proofs.KnownBytes.{Appends-trans, Appends-kept}
+use Rattle.std.proofs.KnownBytes.{Appends-nil, Appends-trans, Appends-kept}
+use Rattle.scenario_lines.specs.Writing.{Grows}
 
 take-take : (n m : ℕ) (bytes : List ℕ) → n ≤ length (take m bytes) → take n (take m bytes) ≡ take n bytes
 take-take n m bytes within =
@@ -25,3 +26,11 @@ pub none_written : (a b c : Option (List ℕ)) (bytes written rest left : List �
     → left ≡ rest → (more : List ℕ) × Appends a c more × (bytes ≡ more ++ left)
 none_written a b c bytes written rest left before split kept same =
     (written, Appends-kept a b c written before kept, split ∙ ap (λ l. written ++ l) (sym same))
+
+-- ---- only more bytes come
+
+pub Grows-refl : (a : Option (List ℕ)) → Grows a a
+Grows-refl a = record { bytes = []; appends = Appends-nil a }
+
+pub Grows-trans : (a b c : Option (List ℕ)) → Grows a b → Grows b c → Grows a c
+Grows-trans a b c one two = record { bytes = one.bytes ++ two.bytes; appends = Appends-trans a b c one.bytes two.bytes one.appends two.appends }

@@ -126,6 +126,20 @@ pub record RunsScript {State : Type 0} (does : Effect State) (takes : Grammar St
   pub told : Grows errors.0 errors.1
   pub quiet : status ≡ 0 → Keeps errors.0 errors.1
 
+-- A run over lines and what is told behind it, as reasons why lines are bad or come to nothing: no line is done otherwise and
+-- nothing else is printed. The status is the run's, or 1 where memory was out for a reason.
+pub record EndsExplained {State : Type 0} (does : Effect State) (takes : Grammar State) (closes : Closing State) (old : State) (lines : List (List ℕ)) (output errors : Option (List ℕ) × Option (List ℕ)) (status : ℕ) : Type 0 where
+  pub fault : Option Fault
+  pub ends : Ends does takes closes lines old output.0 output.1 fault
+  pub is_status : IsStatus fault status ⊎ (status ≡ 1)
+  pub told : Grows errors.0 errors.1
+
+-- the same of a run of a subcommand
+pub record ExplainsScript {State : Type 0} (does : Effect State) (takes : Grammar State) (closes : Closing State) (old : State) (input : Option (List ℕ)) (output errors : Option (List ℕ) × Option (List ℕ)) (status : ℕ) : Type 0 where
+  pub bytes : List ℕ
+  pub is_input : IfSome input (λ known. bytes ≡ known)
+  pub ends : EndsExplained does takes closes old (lines_of bytes) output errors status
+
 -- Nothing is printed at the end.
 abbrev pub PrintsNothing : {State : Type 0} → Closing State
 PrintsNothing state text = text ≡ []
@@ -134,6 +148,11 @@ PrintsNothing state text = text ≡ []
 abbrev pub RunsLines : {State : Type 0} → Effect State → (List ℕ → Type 0) → State → Option (List ℕ) → Option (List ℕ) × Option (List ℕ) → Option (List ℕ) × Option (List ℕ) → ℕ → Type 0
 RunsLines does takes old input output errors status =
     RunsScript does (λ state. takes) PrintsNothing old input output errors status
+
+-- and such a run with reasons
+abbrev pub ExplainsLines : {State : Type 0} → Effect State → (List ℕ → Type 0) → State → Option (List ℕ) → Option (List ℕ) × Option (List ℕ) → Option (List ℕ) × Option (List ℕ) → ℕ → Type 0
+ExplainsLines does takes old input output errors status =
+    ExplainsScript does (λ state. takes) PrintsNothing old input output errors status
 
 -- How one line ends in a run, by the text that is printed and not yet written before and after it: a line that is done
 -- is printed. What is held is written before the run ends at the line.

@@ -1,7 +1,6 @@
 -- The words of an input line. The forms are this program's own.
-use Rattle.std.specs.Prelude.{◌≢◌, ℕ, ◌≤◌, Bool, ◌==◌, List, [], length, All, IsUtf8, codes, unwrap_or}
+use Rattle.std.specs.Prelude.{◌≢◌, ℕ, ◌≤◌, Bool, ◌==◌, List, [], length, All, IsUtf8, codes}
 use Rattle.std.specs.List.{slice_split}
-use Rattle.hex.specs.Hex.{hex_digit_value}
 use Rattle.group_types.specs.Limits.{LONGEST_STRING}
 
 abbrev pub is_space : ℕ → Bool
@@ -21,7 +20,3 @@ pub record IsName (word : List ℕ) : Type 0 where
   pub short : length word ≤ LONGEST_STRING
   pub plain : All (λ byte. (byte ≢ 44) × (byte ≢ 58)) word
   pub given : word ≢ codes "-"
-
--- the value of a byte that is a digit, and 255 for another byte
-abbrev pub digit_value : ℕ → ℕ
-digit_value byte = unwrap_or (hex_digit_value byte) 255

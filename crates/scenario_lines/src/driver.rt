@@ -75,7 +75,7 @@ fn do_lines<L: LineWorker, R: Read, W: Write>(
 }
 
 /// Does the lines of an input, until the first that can't be done.
-fn do_input<L: LineWorker, W: Write>(
+pub(crate) fn do_input<L: LineWorker, W: Write>(
     alloc: Global,
     worker: &mut L,
     input: &[u8],

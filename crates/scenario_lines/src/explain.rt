@@ -1,19 +1,28 @@
 //! `--explain`: why lines are bad, and why they come to nothing.
-ghost use Rattle.std.specs.Prelude.{◌≤◌};
+ghost use Rattle.std.specs.Prelude.{◌≡◌};
+ghost use Rattle.std.specs.Io.KnownBytes.{Keeps};
+ghost use Rattle.scenario_lines.specs.Commands.{DoesReplyLine, IsReplyLine, new_interpreter};
+ghost use Rattle.scenario_lines.specs.FrameLines.{SpellsBytes};
+ghost use Rattle.scenario_lines.specs.Inputs.{IsTooLong};
+ghost use Rattle.scenario_lines.specs.Lines.{lines_of};
+ghost use Rattle.scenario_lines.specs.Plays.{DoesScriptLine, IsScriptLine, PrintsStandings, new_play};
+ghost use Rattle.scenario_lines.specs.Reporters.{new_reporter};
+ghost use Rattle.scenario_lines.specs.Reports.{DoesFrameLine};
+ghost use Rattle.scenario_lines.specs.Runs.{EndsExplained, ExplainsLines, ExplainsScript};
+ghost use Rattle.scenario_lines.specs.Writing.{Grows};
+ghost use Rattle.scenario_lines.specs.declared.frames.Reporter.{Reporter as Reporting};
 
-use crate::driver::{LineWorker, tell};
+use crate::driver::{LineWorker, do_input, tell};
 use crate::fault::{Fault, LineFault};
-use crate::frames::{Reporter, frame_lines};
+use crate::frames::Reporter;
 use crate::input::read_whole;
 use crate::interpreter::Interpreter;
 use crate::lines::Lines;
-use crate::output::Output;
+use crate::output::{Output, write_whole};
 use crate::player::Player;
-use crate::reply::reply_lines;
-use crate::run::run_lines;
 use std::alloc::{AllocError, Global};
 use std::collections::hash_map::RandomState;
-use std::io::{Cursor, Read, Write};
+use std::io::{Read, Write};
 
 /// A worker that can say why a line comes to nothing.
 pub trait Explains: LineWorker {
@@ -21,7 +30,7 @@ pub trait Explains: LineWorker {
     fn reason(&self, line: &[u8]) -> Result<String, AllocError>;
 }
 
-/// Does what [`reply_lines`] does with the same input, and tells then of each line that closed or was bad why.
+/// Does what [`reply_lines`](crate::reply_lines) does, and tells then of each line that closed or was bad why.
 pub fn explained_reply_lines<R: Read, W: Write, E: Write>(
     alloc: Global,
     hasher: RandomState,
@@ -29,24 +38,16 @@ pub fn explained_reply_lines<R: Read, W: Write, E: Write>(
     writer: &mut W,
     faults: &mut E,
 ) -> u8
-    ensures { result ≤ 2 }
+    ensures ends { ExplainsLines DoesReplyLine IsReplyLine (new_interpreter alloc) (R.remaining reader.old)
+        (W.contents writer.old, W.contents writer.new) (E.contents faults.old, E.contents faults.new) result }
+    ensures too_long { IsTooLong (R.remaining reader.old) → (result ≡ 1) × Keeps (W.contents writer.old) (W.contents writer.new) }
 {
-    let input = match read_whole(alloc, reader) {
-        Ok(input) => input,
-        Err(fault) => return tell(alloc, fault, faults),
-    };
-    let mut lines = Cursor::new(input.as_slice());
-    let status = reply_lines(alloc, hasher, &mut lines, writer, faults);
-    explain(
-        alloc,
-        Interpreter::new(alloc, hasher),
-        input.as_slice(),
-        status,
-        faults,
-    )
+    let mut interpreter = Interpreter::new(alloc, hasher);
+    let mut again = Interpreter::new(alloc, hasher);
+    explained_lines(alloc, &mut interpreter, &mut again, reader, writer, faults)
 }
 
-/// Does what [`run_lines`] does with the same input, and tells then of each line that closed, was refused or was bad why.
+/// Does what [`run_lines`](crate::run_lines) does, and tells then of each line that closed, was refused or was bad why.
 pub fn explained_run_lines<R: Read, W: Write, E: Write>(
     alloc: Global,
     hasher: RandomState,
@@ -54,70 +55,96 @@ pub fn explained_run_lines<R: Read, W: Write, E: Write>(
     writer: &mut W,
     faults: &mut E,
 ) -> u8
-    ensures { result ≤ 2 }
+    ensures ends { ExplainsScript DoesScriptLine IsScriptLine PrintsStandings new_play (R.remaining reader.old)
+        (W.contents writer.old, W.contents writer.new) (E.contents faults.old, E.contents faults.new) result }
+    ensures too_long { IsTooLong (R.remaining reader.old) → (result ≡ 1) × Keeps (W.contents writer.old) (W.contents writer.new) }
 {
-    let input = match read_whole(alloc, reader) {
-        Ok(input) => input,
-        Err(fault) => return tell(alloc, fault, faults),
-    };
-    let mut lines = Cursor::new(input.as_slice());
-    let status = run_lines(alloc, hasher, &mut lines, writer, faults);
-    explain(
-        alloc,
-        Player::new(alloc, hasher),
-        input.as_slice(),
-        status,
-        faults,
-    )
+    let mut player = Player::new(alloc, hasher);
+    let mut again = Player::new(alloc, hasher);
+    explained_lines(alloc, &mut player, &mut again, reader, writer, faults)
 }
 
-/// Does what [`frame_lines`] does with the same input, and tells then of each line that had a fault or was bad why.
+/// Does what [`frame_lines`](crate::frame_lines) does, and tells then of each line that had a fault or was bad why.
 pub fn explained_frame_lines<R: Read, W: Write, E: Write>(
     alloc: Global,
     reader: &mut R,
     writer: &mut W,
     faults: &mut E,
 ) -> u8
-    ensures { result ≤ 2 }
+    ensures ends { ExplainsLines (DoesFrameLine {State = Reporting}) SpellsBytes (new_reporter alloc) (R.remaining reader.old)
+        (W.contents writer.old, W.contents writer.new) (E.contents faults.old, E.contents faults.new) result }
+    ensures too_long { IsTooLong (R.remaining reader.old) → (result ≡ 1) × Keeps (W.contents writer.old) (W.contents writer.new) }
 {
-    let input = match read_whole(alloc, reader) {
-        Ok(input) => input,
-        Err(fault) => return tell(alloc, fault, faults),
-    };
-    let mut lines = Cursor::new(input.as_slice());
-    let status = frame_lines(alloc, &mut lines, writer, faults);
-    explain(
-        alloc,
-        Reporter::new(alloc),
-        input.as_slice(),
-        status,
-        faults,
-    )
+    let mut reporter = Reporter::new(alloc);
+    let mut again = Reporter::new(alloc);
+    explained_lines(alloc, &mut reporter, &mut again, reader, writer, faults)
 }
 
-/// Tells of the lines of an input why they come to nothing, up to the first bad one. Gives the status, which is 1 where memory was short.
-fn explain<L: Explains + Drop, E: Write>(
+/// Does the lines of the reader with one worker, and then again with another that is at the same place, which tells of each line
+/// that comes to nothing why.
+fn explained_lines<L: Explains, R: Read, W: Write, E: Write>(
     alloc: Global,
-    mut worker: L,
-    input: &[u8],
-    status: u8,
+    worker: &mut L,
+    again: &mut L,
+    reader: &mut R,
+    writer: &mut W,
     faults: &mut E,
 ) -> u8
-    requires { status ≤ 2 }
-    ensures { result ≤ 2 }
+    ensures ends { ExplainsScript L.does L.takes L.closes worker.old (R.remaining reader.old)
+        (W.contents writer.old, W.contents writer.new) (E.contents faults.old, E.contents faults.new) result }
+    ensures too_long { IsTooLong (R.remaining reader.old) → (result ≡ 1) × Keeps (W.contents writer.old) (W.contents writer.new) }
 {
-    match explain_lines(alloc, &mut worker, input, faults) {
+    match read_whole(alloc, reader) {
+        Ok(input) => explained_input(alloc, worker, again, input.as_slice(), writer, faults),
+        Err(fault) => tell(alloc, fault, faults),
+    }
+}
+
+/// Does the lines of an input, and tells why they come to nothing.
+fn explained_input<L: Explains, W: Write, E: Write>(
+    alloc: Global,
+    worker: &mut L,
+    again: &mut L,
+    input: &[u8],
+    writer: &mut W,
+    faults: &mut E,
+) -> u8
+    ensures { EndsExplained L.does L.takes L.closes worker.old (lines_of input.now)
+        (W.contents writer.old, W.contents writer.new) (E.contents faults.old, E.contents faults.new) result }
+{
+    let status = status_of_input(alloc, worker, input, writer, faults);
+    match explain(alloc, again, input, faults) {
         Ok(()) => status,
         Err(_) => tell(alloc, Fault::NoMemory, faults),
     }
 }
 
-fn explain_lines<L: Explains, E: Write>(
+/// Does the lines of an input. A fault is told.
+fn status_of_input<L: Explains, W: Write, E: Write>(
+    alloc: Global,
+    worker: &mut L,
+    input: &[u8],
+    writer: &mut W,
+    faults: &mut E,
+) -> u8
+    ensures { EndsExplained L.does L.takes L.closes worker.old (lines_of input.now)
+        (W.contents writer.old, W.contents writer.new) (E.contents faults.old, E.contents faults.new) result }
+{
+    match do_input(alloc, worker, input, writer) {
+        Ok(()) => 0,
+        Err(fault) => tell(alloc, fault, faults),
+    }
+}
+
+/// Tells of the lines of an input why they come to nothing, up to the first bad one.
+fn explain<L: Explains, E: Write>(
     alloc: Global,
     worker: &mut L,
     input: &[u8],
     faults: &mut E,
-) -> Result<(), AllocError> {
+) -> Result<(), AllocError>
+    ensures { Grows (E.contents faults.old) (E.contents faults.new) }
+{
     let mut number = 0_u64;
     for line in Lines::of(input) {
         number = number.saturating_add(1);
@@ -135,30 +162,35 @@ fn explain_line<L: Explains, E: Write>(
     number: u64,
     line: &[u8],
     faults: &mut E,
-) -> Result<bool, AllocError> {
+) -> Result<bool, AllocError>
+    ensures { Grows (E.contents faults.old) (E.contents faults.new) }
+{
     let reason = worker.reason(line)?;
     let mut output = Output::new(alloc);
-    let came = worker.line(line, &mut output);
-    tell_why(number, came, output.as_bytes(), reason.as_str(), faults)
-}
-
-/// Tells why the line of this number came to nothing, where it did. Gives whether there is more to be done.
-fn tell_why<E: Write>(
-    number: u64,
-    came: Result<(), LineFault>,
-    printed: &[u8],
-    reason: &str,
-    faults: &mut E,
-) -> Result<bool, AllocError> {
-    let why = match came {
-        Ok(()) => why_of(printed, reason),
-        Err(LineFault::BadLine) => reason,
+    let (why, goes_on) = match worker.line(line, &mut output) {
+        Ok(()) => (why_of(output.as_bytes(), reason.as_str()), true),
+        Err(LineFault::BadLine) => (reason.as_str(), false),
         Err(LineFault::NoMemory) => return Err(AllocError),
     };
-    if !why.is_empty() {
-        let _ = writeln!(faults, "line {number}: {why}");
+    tell_why(alloc, number, why, faults)?;
+    Ok(goes_on)
+}
+
+/// Tells why the line of this number came to nothing, where there is a reason.
+fn tell_why<E: Write>(
+    alloc: Global,
+    number: u64,
+    why: &str,
+    faults: &mut E,
+) -> Result<(), AllocError>
+    ensures { Grows (E.contents faults.old) (E.contents faults.new) }
+{
+    if why.is_empty() {
+        return Ok(());
     }
-    Ok(came.is_ok())
+    let text = format!(in alloc; "line {number}: {why}\n")?;
+    let _ = write_whole(faults, text.as_bytes());
+    Ok(())
 }
 
 /// Why a line came to nothing that has printed this, or nothing where it came to something.

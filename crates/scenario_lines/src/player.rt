@@ -5,6 +5,7 @@ ghost use Rattle.member_core.specs.Views.{settings_value, HasShortTexts};
 ghost use Rattle.world_sim.specs.Acting.{act_value, HasShortTopics};
 ghost use Rattle.scenario_lines.specs.Plays.{DoesScriptLine, DoesVerb, Entrance, Enters, IsOfAct, IsScriptLine, MayStand, Performs, PrintsStandings, Settles, new_play};
 ghost use Rattle.scenario_lines.specs.Runs.{Prints};
+ghost use Rattle.scenario_lines.specs.Shows.{standings_text};
 ghost use Rattle.scenario_lines.specs.Stages.{IsShortStage, has_begun, world_at};
 
 use crate::act::act_of;
@@ -192,9 +193,7 @@ impl LineWorker for Player {
     /// Prints where every client stands.
     fn end(&mut self, output: &mut Output) -> Result<(), AllocError> {
         let stage = mem::replace(&mut self.stage, Stage::Before(Vec::new(self.alloc)));
-        let world = world_of(self.alloc, self.hasher, stage)?;
-        let mut page = Page::new(self.alloc);
-        put_standings(&mut page, &self.cast, &world)?;
+        let page = standings_of(self.alloc, self.hasher, &self.cast, stage)?;
         output.text(page.as_str())
     }
 }
@@ -203,6 +202,22 @@ impl Explains for Player {
     fn reason(&self, line: &[u8]) -> Result<String, AllocError> {
         reasons::of_run_line(self.alloc, line)
     }
+}
+
+/// Where every client of a stage's world stands.
+fn standings_of(
+    alloc: Global,
+    hasher: RandomState,
+    cast: &Cast,
+    stage: Stage,
+) -> Result<Page, AllocError>
+    requires { IsShortStage stage }
+    ensures { IfOk result (λ page. page ≡ standings_text cast.now (world_at stage).clients) }
+{
+    let world = world_of(alloc, hasher, stage)?;
+    let mut page = Page::new(alloc);
+    put_standings(&mut page, cast, &world)?;
+    Ok(page)
 }
 
 /// One client more, where no act was done.

@@ -24,8 +24,7 @@ pub fn settings_of(alloc: Global, words: &[&str]) -> Result<Settings, LineFault>
         return Err(LineFault::BadLine);
     }
     let rebalance_timeout = timeout_of(rebalance)?;
-    let instance = name_or_none(alloc, instance)?;
-    let assignor = name_or_none(alloc, assignor)?;
+    let (instance, assignor) = names_or_none(alloc, instance, assignor)?;
     let names = names_of(alloc, topics)?;
     let group = String::from_str(alloc, group)?;
     Ok(Settings {
@@ -36,6 +35,21 @@ pub fn settings_of(alloc: Global, words: &[&str]) -> Result<Settings, LineFault>
         names,
         assignor,
     })
+}
+
+/// The names that two words are, each or none where it is `-`.
+fn names_or_none(
+    alloc: Global,
+    one: &str,
+    other: &str,
+) -> Result<(Option<String>, Option<String>), LineFault>
+    ensures one { IfOk result (λ names. SpellsNameIfAny one.now (option_map string_bytes names.0)) }
+    ensures other { IfOk result (λ names. SpellsNameIfAny other.now (option_map string_bytes names.1)) }
+    ensures refused { result ≡ Err LineFault.BadLine → (a b : Option (List ℕ)) → SpellsNameIfAny one.now a → ¬ SpellsNameIfAny other.now b }
+{
+    let first = name_or_none(alloc, one)?;
+    let second = name_or_none(alloc, other)?;
+    Ok((first, second))
 }
 
 /// The timeout that a word spells, in milliseconds: an INT32.

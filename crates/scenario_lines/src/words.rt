@@ -1,13 +1,14 @@
 //! The words of a line, and what they stand for.
-ghost use Rattle.std.specs.Prelude.{◌≡◌, ◌≢◌, ℕ, [], pos, All, ◌^◌, ◌*◌, ◌<◌, ◌↔◌, length, map, decimal, IsTrue, IfOk, OnOk, IsErr, IfSome, IfNone, MatchBool};
-ghost use Rattle.hex.specs.Hex.{decode_of, decode_pairs};
-ghost use Rattle.scenario_lines.specs.Words.{words_of, IsLine, IsName, digit_value};
+ghost use Rattle.std.specs.Prelude.{◌≡◌, ◌≢◌, ℕ, [], pos, All, ◌^◌, ◌<◌, ◌↔◌, length, map, decimal, IsTrue, IfOk, OnOk, IsErr, IfSome, IfNone};
+ghost use Rattle.hex.specs.Hex.{decode_of};
+ghost use Rattle.scenario_lines.specs.Words.{words_of, IsLine, IsName};
 ghost use Rattle.std.specs.Prelude.{ℤ, MatchOption, neg_ℤ, ◌≤◌};
 ghost use Rattle.scenario_lines.specs.Scripts.{SpellsOffset};
 ghost use Rattle.scenario_lines.specs.FrameLines.{IsFrameLine, SpellsBytes};
 
 use crate::fault::LineFault;
 use group_types::limits::LONGEST_STRING;
+use hex::FromHexError;
 use itoa::Buffer;
 use std::alloc::{AllocError, Global};
 
@@ -119,55 +120,9 @@ fn decoded(alloc: Global, digits: &[u8]) -> Result<Vec<u8>, LineFault>
     ensures bytes { IfOk result (λ bytes. decode_of digits.now ≡ Ok bytes.items) }
     ensures refused { result ≡ Err LineFault.BadLine → IsErr (decode_of digits.now) }
 {
-    if digits.len() % 2 != 0 {
-        return Err(LineFault::BadLine);
-    }
-    let mut bytes = vec![in alloc; 0u8; digits.len() / 2]?;
-    if decode_into(digits, bytes.as_mut_slice()) {
-        Ok(bytes)
-    } else {
-        Err(LineFault::BadLine)
+    match hex::decode(alloc, digits) {
+        Ok(bytes) => Ok(bytes),
+        Err(FromHexError::OutOfMemory) => Err(LineFault::NoMemory),
+        Err(_) => Err(LineFault::BadLine),
     }
 }
-
-/// Decodes two digits for each of the bytes, and says whether all were digits.
-fn decode_into(digits: &[u8], bytes: &mut [u8]) -> bool
-    requires { length digits.now ≡ 2 * length bytes.old }
-    ensures { MatchBool result (decode_pairs 0 digits.now ≡ Ok bytes.new) (IsErr (decode_pairs 0 digits.now)) }
-{
-    for i in 0..bytes.len() {
-        let high = digit_value(digits[2 * i]);
-        let low = digit_value(digits[2 * i + 1]);
-        if high >= 16 || low >= 16 {
-            return false;
-        }
-        bytes[i] = high * 16 + low;
-    }
-    true
-}
-
-/// The value of a digit, in either case, and 255 for another byte.
-#[inline]
-fn digit_value(digit: u8) -> u8
-    ensures { result ≡ digit_value digit }
-{
-    DIGIT_VALUES[digit as usize]
-}
-
-/// The values of all bytes as digits. A table has no branch that a processor could guess wrongly.
-const DIGIT_VALUES: [u8; 256] = [
-    255, 255, 255, 255, 255, 255, 255, 255, 255, 255, 255, 255, 255, 255, 255, 255, 255, 255, 255,
-    255, 255, 255, 255, 255, 255, 255, 255, 255, 255, 255, 255, 255, 255, 255, 255, 255, 255, 255,
-    255, 255, 255, 255, 255, 255, 255, 255, 255, 255, 0, 1, 2, 3, 4, 5, 6, 7, 8, 9, 255, 255, 255,
-    255, 255, 255, 255, 10, 11, 12, 13, 14, 15, 255, 255, 255, 255, 255, 255, 255, 255, 255, 255,
-    255, 255, 255, 255, 255, 255, 255, 255, 255, 255, 255, 255, 255, 255, 255, 255, 10, 11, 12, 13,
-    14, 15, 255, 255, 255, 255, 255, 255, 255, 255, 255, 255, 255, 255, 255, 255, 255, 255, 255,
-    255, 255, 255, 255, 255, 255, 255, 255, 255, 255, 255, 255, 255, 255, 255, 255, 255, 255, 255,
-    255, 255, 255, 255, 255, 255, 255, 255, 255, 255, 255, 255, 255, 255, 255, 255, 255, 255, 255,
-    255, 255, 255, 255, 255, 255, 255, 255, 255, 255, 255, 255, 255, 255, 255, 255, 255, 255, 255,
-    255, 255, 255, 255, 255, 255, 255, 255, 255, 255, 255, 255, 255, 255, 255, 255, 255, 255, 255,
-    255, 255, 255, 255, 255, 255, 255, 255, 255, 255, 255, 255, 255, 255, 255, 255, 255, 255, 255,
-    255, 255, 255, 255, 255, 255, 255, 255, 255, 255, 255, 255, 255, 255, 255, 255, 255, 255, 255,
-    255, 255, 255, 255, 255, 255, 255, 255, 255, 255, 255, 255, 255, 255, 255, 255, 255, 255, 255,
-    255, 255, 255,
-];

@@ -31,14 +31,8 @@ returns-in_err-rebalance_timeout-clause-refused c = λ bad s spelled.
 pub returns-in_err-instance-clause-refused : goal.returns-in_err-instance-clause-refused
 returns-in_err-instance-clause-refused c = λ bad s spelled.
     let says = said_five (texts c.args.words.now) (word_at c.args.words.now 0) (word_at c.args.words.now 1) (word_at c.args.words.now 2) (word_at c.args.words.now 3) (word_at c.args.words.now 4) s (five_words c.args.words.now c.in-len5.len_at_least c.in-len5.len_below) spelled in
-    let is_bad : c.name_or_none.result ≡ Err BadLine = search rules in
-    c.name_or_none.ensures.refused is_bad s.instance says.instance
-
-pub returns-in_err-assignor-clause-refused : goal.returns-in_err-assignor-clause-refused
-returns-in_err-assignor-clause-refused c = λ bad s spelled.
-    let says = said_five (texts c.args.words.now) (word_at c.args.words.now 0) (word_at c.args.words.now 1) (word_at c.args.words.now 2) (word_at c.args.words.now 3) (word_at c.args.words.now 4) s (five_words c.args.words.now c.in-len5.len_at_least c.in-len5.len_below) spelled in
-    let is_bad : c.name_or_none-2.result ≡ Err BadLine = search rules in
-    c.name_or_none-2.ensures.refused is_bad s.assignor says.assignor
+    let is_bad : c.names_or_none.result ≡ Err BadLine = search rules in
+    c.names_or_none.ensures.refused is_bad s.instance s.assignor says.instance says.assignor
 
 pub returns-in_err-names-clause-refused : goal.returns-in_err-names-clause-refused
 returns-in_err-names-clause-refused c = λ bad s spelled.
@@ -58,8 +52,8 @@ returns-clause-settings c =
       topics = word_at words 4;
       are = five_words words c.in-len5.len_at_least c.in-len5.len_below ∙ ap (λ w. w ∷ word_at words 1 ∷ word_at words 2 ∷ word_at words 3 ∷ word_at words 4 ∷ []) same;
       group = subst IsName same is_group;
-      instance_is = c.in_ok-instance.ensures.name;
-      assignor_is = c.in_ok-assignor.ensures.name;
+      instance_is = c.in_ok-instance.ensures.one;
+      assignor_is = c.in_ok-instance.ensures.other;
       rebalance_is = c.in_ok-rebalance_timeout.ensures.timeout;
       topics_are = c.in_ok-names.ensures.names;
       no_rack = refl;
