@@ -1,5 +1,6 @@
 //! What `coord serve` is asked for.
 ghost use Rattle.std.specs.Prelude.{◌≡◌, ◌≤◌, ◌<◌, ◌^◌, ◌-◌, IfOk, IfSome};
+ghost use Rattle.std.proofs.Props.{props};
 
 use crate::command_line::{CommandLineFault, escaped};
 use crate::fault::LineFault;
@@ -49,7 +50,7 @@ pub struct Service {
     pub ghost workers_are: { (1 ≤ workers) × (workers ≤ 64) },
     pub ghost shards_are: { (1 ≤ shards) × (shards ≤ 64) },
     pub ghost connections_are: { (1 ≤ connections) × (connections < 2 ^ 64 - 1 → connections ≤ 1000000) },
-    pub ghost idle_is: { IfSome idle (λ seconds. (1 ≤ seconds) × (seconds ≤ 86400)) },
+    pub ghost idle_is: { IfSome idle (λ seconds. (1 ≤ seconds) × (seconds ≤ 86400)) } by { Prim.hlevel props },
 }
 
 /// The subcommand `serve`, with its words.
@@ -58,7 +59,8 @@ pub fn command<'a>(alloc: Global) -> Result<Command<'a>, AllocError> {
     let shards = "How many shards have the groups, 1 to 64 [default: 8]";
     let connections =
         "After how many connections the server ends, 1 to 1000000 [default: without end]";
-    let idle = "After how many seconds without a byte a connection is closed, 1 to 86400 [default: never]";
+    let idle =
+        "After how many seconds without a byte a connection is closed, 1 to 86400 [default: never]";
     Command::new(alloc, "serve")
         .about("Serves connections on 127.0.0.1 until so many have ended")
         .arg(number(alloc, "port", "P", "The port, 1 to 65535 [default: 9092]"))?
