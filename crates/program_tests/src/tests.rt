@@ -189,8 +189,7 @@ impl Runner {
 }
 
 /// Prints the numbers of what the program is to serve, 0 where no connection is to be closed for its silence, and the partitions of the
-/// topic `t`, and serves nothing. Gives 0, or 1 where the
-/// writer fails.
+/// topic `t`, and serves nothing. Gives 0, or 1 where the writer fails.
 fn echo<W: Write>(service: Service, writer: &mut W) -> u8 {
     let (port, workers) = (service.port, service.workers);
     let (shards, connections) = (service.shards, service.connections);
