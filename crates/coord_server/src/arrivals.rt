@@ -14,7 +14,7 @@ use link_futures::{Line, ReadPart, WriteParts};
 use std::alloc::Global;
 use std::io;
 use std::marker::PhantomData;
-use tokio::reactor::Handle;
+use tokio::runtime::Handle;
 
 /// The lines of the connections that are handed to one of so many workers, at its event loop. A connection that can't be taken, for want
 /// of memory, is closed.

@@ -114,12 +114,14 @@ where
     ensures more { OnOk result (vec_len posts.new ≡ vec_len posts.old + 1) }
     ensures placed { ArePosts workers posts.old.items → OnOk result (ArePosts workers posts.new.items) }
 {
-    let arrivals = arrivals_of(alloc, runtime.handle().reactor(), posts, workers)?;
-    Ok(OwnLoop {
-        runtime,
-        future: Works::new(alloc, arrivals, desk),
-        bell,
-    })
+    match arrivals_of(alloc, runtime.handle(), posts, workers) {
+        Ok(arrivals) => Ok(OwnLoop {
+            runtime,
+            future: Works::new(alloc, arrivals, desk),
+            bell,
+        }),
+        Err(fault) => Err(fault),
+    }
 }
 
 /// The expiry workers at these desks.

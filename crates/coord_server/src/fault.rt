@@ -10,10 +10,10 @@ use tokio::time::error::Error as TimerError;
 #[derive(Debug, Drop, Error)]
 pub enum ServerFault {
     /// The shards gave out no seat to a worker.
-    #[error("{0}")]
+    #[error(transparent)]
     Shards(ShardFault),
     /// The system refused something, before the first connection.
-    #[error("{0}")]
+    #[error(transparent)]
     System(io::Error),
     /// The system made no thread.
     #[error("no thread can be made")]

@@ -1,4 +1,5 @@
 //! A listening socket.
+use crate::connection::Socket;
 use crate::entrance::Incoming;
 use mio::net::TcpListener;
 use mio::{Interest, Registry, Token};
@@ -8,27 +9,40 @@ use std::os::fd::OwnedFd;
 
 /// A listening socket. What it accepts is at no event loop, so that it may be handed to any thread.
 #[derive(Drop)]
-pub struct Listener {
+pub struct Listener<'a, R> {
     listener: TcpListener,
+    clock: &'a R,
+    /// After how many seconds a connection is closed that brings no byte.
+    idle: Option<u64>,
 }
 
-impl Listener {
-    /// A socket that listens.
-    pub fn of(socket: std::net::TcpListener) -> io::Result<Listener> {
+impl<'a, R> Listener<'a, R> {
+    /// A socket that listens, whose connections are closed after so many seconds without a byte.
+    pub fn of(
+        clock: &'a R,
+        socket: std::net::TcpListener,
+        idle: Option<u64>,
+    ) -> io::Result<Listener<'a, R>> {
         socket.set_nonblocking(true)?;
         Ok(Listener {
             listener: TcpListener::from_std(socket),
+            clock,
+            idle,
         })
     }
 }
 
-impl Incoming<TcpStream> for Listener {
+impl<'a, R> Incoming<Socket<'a, R>> for Listener<'a, R> {
     fn register(&mut self, registry: &Registry, token: Token) -> io::Result<()> {
         registry.register(&mut self.listener, token, Interest::READABLE)
     }
 
-    fn accept(&mut self) -> io::Result<TcpStream> {
+    fn accept(&mut self) -> io::Result<Socket<'a, R>> {
         let (stream, _) = self.listener.accept()?;
-        Ok(TcpStream::from(OwnedFd::from(stream)))
+        Ok(Socket {
+            stream: TcpStream::from(OwnedFd::from(stream)),
+            clock: self.clock,
+            idle: self.idle,
+        })
     }
 }

@@ -10,6 +10,8 @@ pub struct Plan {
     pub connections: u64,
     /// Whether an expiry worker runs.
     pub expires: bool,
+    /// After how many seconds a socket is closed that brings no byte. None: it isn't closed for that.
+    pub idle: Option<u64>,
     pub ghost some: { 0 < workers },
 }
 

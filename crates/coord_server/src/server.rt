@@ -44,7 +44,7 @@ where
     N: Announce,
     ensures { IfOk result (λ served. served ≡ plan.connections) }
 {
-    let incoming = Listener::of(socket)?;
+    let incoming = Listener::of(rt, socket, plan.idle)?;
     serve(rt, shards, incoming, moments, plan, announce)
 }
 

@@ -111,8 +111,10 @@ where
             requires all { IsPlanned plan (vec_len crew.workers) (vec_len crew.clocks) }
             ensures { IfOk result (λ accepted. accepted ≡ acceptor.entry.most) }
         {
-            let running = start_crew(rt, scope, crew)?;
-            accept_beside(rt, plan, running, acceptor, announce)
+            match start_crew(rt, scope, crew) {
+                Ok(running) => accept_beside(rt, plan, running, acceptor, announce),
+                Err(fault) => Err(fault),
+            }
         },
     )
 }

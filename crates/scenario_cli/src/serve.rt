@@ -144,16 +144,19 @@ where
     serve_sockets(rt, &shards, socket, moments, plan_of(service), announce)
 }
 
-/// How large the server is: as many workers and connections as are asked for, and an expiry worker.
+/// How large the server is: as many workers and connections as are asked for, and an expiry worker; and after what silence a connection
+/// is closed.
 fn plan_of(service: &Service) -> Plan
     ensures workers { result.workers ≡ service.now.workers }
     ensures connections { result.connections ≡ service.now.connections }
     ensures expires { result.expires ≡ true }
+    ensures idle { result.idle ≡ service.now.idle }
 {
     Plan {
         workers: service.workers,
         connections: service.connections,
         expires: true,
+        idle: service.idle,
     }
 }
 

@@ -1,5 +1,6 @@
 //! What `coord serve` is asked for.
-ghost use Rattle.std.specs.Prelude.{◌≡◌, ◌≤◌, ◌<◌, ◌^◌, ◌-◌, IfOk};
+ghost use Rattle.std.specs.Prelude.{◌≡◌, ◌≤◌, ◌<◌, ◌^◌, ◌-◌, IfOk, IfSome};
+ghost use Rattle.std.proofs.Props.{props};
 
 use crate::command_line::{CommandLineFault, escaped};
 use crate::fault::LineFault;
@@ -20,6 +21,9 @@ const MOST_SHARDS: u64 = 64;
 /// The most connections that a server may be asked to wait for.
 const MOST_CONNECTIONS: u64 = 1_000_000;
 
+/// The longest time, in seconds, after which a connection may be closed that brings no byte: a day.
+const MOST_SECONDS: u64 = 86_400;
+
 /// The port, and how many shards there are, where the words don't say.
 const USUAL_PORT: u64 = 9_092;
 
@@ -38,12 +42,15 @@ pub struct Service {
     pub shards: usize,
     /// After how many connections the server ends, or [`WITHOUT_END`].
     pub connections: u64,
+    /// After how many seconds a connection is closed that brings no byte. None: it isn't closed for that.
+    pub idle: Option<u64>,
     /// The topics.
     pub image: Image,
     pub ghost port_is: { (1 ≤ port) × (port ≤ 65535) },
     pub ghost workers_are: { (1 ≤ workers) × (workers ≤ 64) },
     pub ghost shards_are: { (1 ≤ shards) × (shards ≤ 64) },
     pub ghost connections_are: { (1 ≤ connections) × (connections < 2 ^ 64 - 1 → connections ≤ 1000000) },
+    pub ghost idle_is: { IfSome idle (λ seconds. (1 ≤ seconds) × (seconds ≤ 86400)) } by { Prim.hlevel props },
 }
 
 /// The subcommand `serve`, with its words.
@@ -52,12 +59,15 @@ pub fn command<'a>(alloc: Global) -> Result<Command<'a>, AllocError> {
     let shards = "How many shards have the groups, 1 to 64 [default: 8]";
     let connections =
         "After how many connections the server ends, 1 to 1000000 [default: without end]";
+    let idle =
+        "After how many seconds without a byte a connection is closed, 1 to 86400 [default: never]";
     Command::new(alloc, "serve")
         .about("Serves connections on 127.0.0.1 until so many have ended")
         .arg(number(alloc, "port", "P", "The port, 1 to 65535 [default: 9092]"))?
         .arg(number(alloc, "workers", "W", workers))?
         .arg(number(alloc, "shards", "S", shards))?
         .arg(number(alloc, "connections", "C", connections))?
+        .arg(number(alloc, "idle", "SECONDS", idle))?
         .arg(topics(alloc))
 }
 
@@ -91,12 +101,14 @@ pub fn service_of(
     let workers = number_of(matches, "workers", MOST_WORKERS, usual_workers(processors))?;
     let shards = number_of(matches, "shards", MOST_SHARDS, USUAL_SHARDS)?;
     let connections = connections_of(matches)?;
+    let idle = idle_of(matches)?;
     let image = image_of(alloc, matches.get_strs("topics").unwrap_or(&[]))?;
     Ok(Service {
         port: port as u16,
         workers: workers as usize,
         shards: shards as usize,
         connections,
+        idle,
         image,
     })
 }
@@ -116,6 +128,16 @@ fn connections_of(matches: &ArgMatches<'_>) -> Result<u64, CommandLineFault>
         return Ok(WITHOUT_END);
     }
     number_of(matches, "connections", MOST_CONNECTIONS, 1)
+}
+
+/// After how many seconds a connection is closed that brings no byte.
+fn idle_of(matches: &ArgMatches<'_>) -> Result<Option<u64>, CommandLineFault>
+    ensures { IfOk result (λ idle. IfSome idle (λ seconds. (1 ≤ seconds) × (seconds ≤ 86400))) }
+{
+    if !matches.contains_id("idle") {
+        return Ok(None);
+    }
+    Ok(Some(number_of(matches, "idle", MOST_SECONDS, 1)?))
 }
 
 /// The number that is given for a word, 1 to the greatest, or the usual one where none is given.

@@ -38,18 +38,21 @@ const TICKING: Plan = Plan {
     workers: 1,
     connections: 1,
     expires: true,
+    idle: None,
 };
 
 const TWO_WORKERS: Plan = Plan {
     workers: 2,
     connections: 2,
     expires: false,
+    idle: None,
 };
 
 const ONE_WORKER: Plan = Plan {
     workers: 1,
     connections: 2,
     expires: false,
+    idle: None,
 };
 
 /// Nobody is told that a server serves.
