@@ -40,10 +40,11 @@ pub fn put_numbers(replies: &[u8], out: &mut String) -> Result<(), AllocError> {
     if !out.is_empty() {
         out.push_str(" | ")?;
     }
-    let mut between = "";
-    for reply in replies.chunks(5) {
-        write!(out, "{between}{}", reply.last().copied().unwrap_or(0))?;
-        between = " ";
+    for (index, reply) in replies.chunks(5).enumerate() {
+        if index > 0 {
+            out.push_str(" ")?;
+        }
+        write!(out, "{}", reply.last().copied().unwrap_or(0))?;
     }
     Ok(())
 }
