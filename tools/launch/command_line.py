@@ -105,6 +105,12 @@ SUBCOMMANDS = (
                 "C",
                 1_000_000,
             ),
+            Option(
+                "idle",
+                "After how many seconds without a byte a connection is closed, 1 to 86400 [default: never]",
+                "SECONDS",
+                86_400,
+            ),
         ),
         takes_topics=True,
     ),
