@@ -1,15 +1,15 @@
 -- What an answer says of the step: a refusal changed nothing, and the connection closes only where the heartbeat was
 -- overtaken.
-use Rattle.std.proofs.Common.{◌≡◌, ◌≢◌, ◌⊎◌, inl, inr, Bool, true, false, ◌||◌, ◌&&◌, nat_le, Option, Some, None, max, refl, sym, subst, ◌∙◌, cond}
+use Rattle.std.proofs.Common.{◌≡◌, ◌≢◌, ◌⊎◌, inl, inr, Bool, true, false, ◌&&◌, nat_le, Option, Some, None, MatchOption, max, refl, sym, subst, ◌∙◌, cond}
 use Rattle.group_types.specs.declared.code.Code.TheVariants as codes
 use Rattle.group_types.specs.Limits.{GREATEST_EPOCH}
 use Rattle.group_types.specs.Topics.{Topics}
-use Rattle.group_types.specs.Request.{Heartbeat, Kind, Joins, Beats, Leaves, GoesAway, IsNone, LEAVES_AT, GOES_AWAY_AT, kind_of}
+use Rattle.group_types.specs.Request.{Heartbeat, Kind, Joins, Beats, Leaves, GoesAway, MeansNothing, LEAVES_AT, GOES_AWAY_AT, kind_of}
 use Rattle.group_types.specs.Group.{Group, Record}
 use Rattle.group_types.specs.Join.{Name}
 use Rattle.group_types.specs.Renewal.{changed_if, view_for}
 use Rattle.group_types.specs.Checks.{Verdict, Accepted, Refused, Overtaken, Sender, sender_of, verdict_on}
-use Rattle.group_types.specs.HeartbeatStep.{Answer, Replied, Closes, Arrival, Draft, Reply, refusal, farewell, acceptance, assignment_of, is_news, shown, heir_or, draft_of_beat, draft_of_join, ByVerdict, RepliesTo, SettlesAndReplies, GoesOn, TakesIn, JoinsUnder, BeatsWith, GoesAwayWith, StepOf, HeartbeatStep}
+use Rattle.group_types.specs.HeartbeatStep.{Answer, Replied, Closes, Arrival, Draft, Reply, Stages, IsRefused, JoinsAs, refusal, farewell, acceptance, draft_of_beat, draft_under, ByVerdict, TakesIn, BeatsWith, GoesAwayWith, StepOf, HeartbeatStep}
 
 -- It is answered, and where that isn't with success nothing has changed.
 pub record IsAnswered (g : Group) (answer : Answer) (new : Group) : Type 0 where
@@ -20,17 +20,9 @@ pub record IsAnswered (g : Group) (answer : Answer) (new : Group) : Type 0 where
 answered_refusal : (g : Group) (a : Answer) (n : Group) (r : Reply) → (a ≡ Replied r) × (n ≡ g) → IsAnswered g a n
 answered_refusal g a n r is = record { reply = r; is_reply = is.0; unless_success = inr is.1 }
 
-answered_reply : (g after : Group) (d : Draft) (r : Option Record) (full : Bool) (a : Answer) (n : Group) → RepliesTo after d r full a n → IsAnswered g a n
-answered_reply g after d None full a n is = absurd is
-answered_reply g after d (Some r) full a n is =
-    record {
-      reply = acceptance (heir_or d.id d.heir) r (assignment_of (full || is_news r.sent (shown after d.id)) (shown after d.id));
-      is_reply = is.0;
-      unless_success = inl refl;
-    }
-
-answered_settling : (g renewed : Group) (d : Draft) (q : Heartbeat) (a : Answer) (n : Group) → SettlesAndReplies renewed d q a n → IsAnswered g a n
-answered_settling g renewed d q a n is = answered_reply g _ d _ _ a n is
+answered_stages : (g changed : Group) (d : Draft) (q : Heartbeat) (a : Answer) (n : Group) → Stages changed d q a n → IsAnswered g a n
+answered_stages g changed d q a n is =
+    record { reply = acceptance d.id is.kept is.told; is_reply = is.answers; unless_success = inl refl }
 
 by_change : (b : Bool) (Accepts : Answer → Group → Type 0) (g : Group) (a : Answer) (n : Group) → (Accepts a n → IsAnswered g a n)
     → ByVerdict (cond b (Refused codes.CoordinatorNotAvailable) Accepted) Accepts g a n → IsAnswered g a n
@@ -40,14 +32,14 @@ by_change false Accepts g a n accepts is = accepts is
 answered_draft : (g : Group) (d : Draft) (q : Heartbeat) (image : Topics) (a : Answer) (n : Group) → TakesIn g d q image a n → IsAnswered g a n
 answered_draft g d q image a n is =
     let changed : Group = changed_if is.change d.group (view_for image d.group.records) in
-    by_change (is.change && nat_le GREATEST_EPOCH g.epoch) (GoesOn changed d q) g a n
-    (λ goes. answered_settling g goes.renewed d q a n goes.replies) is.step
+    by_change (is.change && nat_le GREATEST_EPOCH g.epoch) (Stages changed d q) g a n (answered_stages g changed d q a n) is.step
 
-answered_join : (name : Option Name) (sender : Sender) (g : Group) (h : Arrival) (a : Answer) (n : Group) → JoinsUnder name sender g h a n → IsAnswered g a n
-answered_join None sender g h a n is = answered_refusal g a n (refusal codes.CoordinatorNotAvailable) is
-answered_join (Some name) sender g h a n is =
-    let named : Group = record g { serial = name.next_serial } in
-    answered_draft g (draft_of_join named (max g.clock h.moment) name.id sender.own sender.other h.heartbeat h.stamp) h.heartbeat h.image a n is
+answered_join : (sender : Sender) (g : Group) (h : Arrival) (a : Answer) (n : Group) → JoinsAs sender g h a n → IsAnswered g a n
+answered_join sender g h a n is = by is.name is.joins
+  where
+    by : (name : Option Name) → MatchOption name (IsRefused codes.CoordinatorNotAvailable g a n) (λ m. TakesIn g (draft_under m sender g h) h.heartbeat h.image a n) → IsAnswered g a n
+    by None refused = answered_refusal g a n (refusal codes.CoordinatorNotAvailable) refused
+    by (Some name) taken = answered_draft g (draft_under name sender g h) h.heartbeat h.image a n taken
 
 answered_beat : (own : Option Record) (g : Group) (h : Arrival) (a : Answer) (n : Group) → BeatsWith own g h a n → IsAnswered g a n
 answered_beat None g h a n is = absurd is
@@ -60,12 +52,12 @@ answered_going (Some r) g h a n is =
     record { reply = farewell h.heartbeat.member GOES_AWAY_AT; is_reply = is.0; unless_success = inl refl }
 
 answered_step : (kind : Kind) (sender : Sender) (g : Group) (h : Arrival) (a : Answer) (n : Group) → StepOf kind sender g h a n → IsAnswered g a n
-answered_step Joins sender g h a n is = answered_join is.name sender g h a n is.joins
+answered_step Joins sender g h a n is = answered_join sender g h a n is
 answered_step (Beats e) sender g h a n is = answered_beat sender.own g h a n is
 answered_step Leaves sender g h a n is =
     record { reply = farewell h.heartbeat.member LEAVES_AT; is_reply = is.0; unless_success = inl refl }
 answered_step GoesAway sender g h a n is = answered_going sender.own g h a n is
-answered_step IsNone sender g h a n is = absurd is
+answered_step MeansNothing sender g h a n is = absurd is
 
 -- ---- by the verdict
 

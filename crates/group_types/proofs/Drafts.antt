@@ -15,12 +15,13 @@ use Rattle.group_types.specs.Members.{without_past}
 use Rattle.group_types.specs.Leave.{last_epoch, last_epoch_at}
 use Rattle.group_types.specs.Join.{Name, IsNamed, joined, record_of_beat, record_of_join, returned, returned_at, updated}
 use Rattle.group_types.specs.Checks.{Member, is_too_many, is_unreleased, other_with, record_under}
-use Rattle.group_types.specs.HeartbeatStep.{Draft, Heir, draft_of_beat, draft_of_join}
+use Rattle.group_types.specs.HeartbeatStep.{Draft, draft_of_beat, draft_of_join, handed_over}
 use Rattle.group_types.specs.Sound.{IsSound}
 use Rattle.group_types.proofs.Orders.{text_cmp_total}
-use Rattle.group_types.proofs.Lookups.{not_none}
+use Rattle.group_types.proofs.Lookups.{get-inserted, not_none}
 use Rattle.group_types.proofs.PastLemmas.{few_without, past_without}
 use Rattle.group_types.proofs.Stored.{IsFit, few_kept, fit_as_before, put_is_sound, put_none}
+use Rattle.group_types.proofs.TakeOvers.{taken_over_is_sound}
 use Rattle.group_types.proofs.Senders.{named_fresh, named_own, no_other, other_is, own_is, own_none}
 
 -- ---- the epoch of a record
@@ -34,10 +35,10 @@ returned_epoch r (At e) is = refl
 returned_epoch r Away is = sym (ap (λ x. last_epoch_at x r) is)
 
 module _ (r : Record) (q : Heartbeat) (stamp : Stamp) (now : ℕ) where
-  beat_epoch : last_epoch (record_of_beat r q stamp now) ≡ last_epoch r
+  pub beat_epoch : last_epoch (record_of_beat r q stamp now) ≡ last_epoch r
   beat_epoch = same_last_epoch r.epoch (record_of_beat r q stamp now) r refl
 
-  join_epoch : last_epoch (record_of_join (Some r) q stamp now) ≡ last_epoch r
+  pub join_epoch : last_epoch (record_of_join (Some r) q stamp now) ≡ last_epoch r
   join_epoch =
       same_last_epoch (returned r).epoch (joined (updated (returned r) q stamp now) q.instance) (returned r) refl
       ∙ returned_epoch r r.epoch refl
@@ -51,16 +52,10 @@ module _ (g : Group) (sound : IsSound g) (m : Text) (after : Record) (fit : IsFi
       (past_without g.records (finite.insert g.records m after) g.past m (put_none g sound m after fit) sound.past)
       (let fewer = few_without g.past m in let most = sound.few_past in omega (arith, fewer, most))
 
--- who takes over has no record, under an id that isn't empty
-abbrev pub IsHeir : Group → Option Heir → Type 0
-IsHeir g None = Unit {0}
-IsHeir g (Some heir) = (finite.get g.records heir.id ≡ None) × (heir.id ≢ [])
-
 -- a draft on which the change, the renewal and the settling can go on
 pub record IsReady (g : Group) (d : Draft) : Type 0 where
   pub sound : IsSound d.group
   pub epoch : d.group.epoch ≡ g.epoch
-  pub heir : IsHeir d.group d.heir
 
 pub beat_is_ready : (g : Group) → IsSound g → (now : ℕ) (r : Record) (q : Heartbeat) (stamp : Stamp) → finite.get g.records q.member ≡ Some r
     → IsReady g (draft_of_beat g now r q stamp)
@@ -70,7 +65,6 @@ beat_is_ready g sound now r q stamp kept =
     record {
       sound = drafted_is_sound g sound q.member after fit (few_kept g sound q.member after fit r kept) now g.serial;
       epoch = refl;
-      heir = tt;
     }
 
 -- ---- a join
@@ -118,7 +112,6 @@ module _ (g : Group) (sound : IsSound g) (now : ℕ) (q : Heartbeat) (stamp : St
       record {
         sound = drafted_is_sound g sound name.id (record_of_join None q stamp now) (new_is_fit is_new has_id own_none none) (few_with_new is_new has_id room) now name.next_serial;
         epoch = refl;
-        heir = tt;
       }
 
   rejoin_is_ready : (r : Record) → finite.get g.records q.member ≡ Some r → name.id ≡ q.member → other_with g.records q.member q.instance ≡ None → (other : Option Member) → IsReady g (Drafted (Some r) other)
@@ -129,18 +122,19 @@ module _ (g : Group) (sound : IsSound g) (now : ℕ) (q : Heartbeat) (stamp : St
       record {
         sound = drafted_is_sound g sound name.id after fit (few_kept g sound name.id after fit r kept_so) now name.next_serial;
         epoch = refl;
-        heir = tt;
       }
 
   take_over_is_ready : (old : Member) → finite.get g.records name.id ≡ None → name.id ≢ [] → other_with g.records q.member q.instance ≡ Some old → IsReady g (Drafted None (Some old))
   take_over_is_ready old is_new has_id is =
       let there = other_is g.records q.member q.instance old is in
+      let over : Group = handed_over g old name.id in
+      let sound_over : IsSound over = taken_over_is_sound g sound old.id name.id old.kept old.kept old.kept.stamp there.0 is_new has_id refl refl in
       let after = record_of_join (Some old.kept) q stamp now in
-      let fit = fit_as_before g sound old.id old.kept after there.0 (join_epoch old.kept q stamp now) (sym there.1) in
+      let kept : finite.get over.records name.id ≡ Some old.kept = get-inserted (finite.remove g.records old.id) name.id old.kept in
+      let fit = fit_as_before over sound_over name.id old.kept after kept (join_epoch old.kept q stamp now) (sym there.1) in
       record {
-        sound = drafted_is_sound g sound old.id after fit (few_kept g sound old.id after fit old.kept there.0) now name.next_serial;
+        sound = drafted_is_sound over sound_over name.id after fit (few_kept over sound_over name.id after fit old.kept kept) now name.next_serial;
         epoch = refl;
-        heir = (put_none g sound old.id after fit name.id (λ same. not_none old.kept (sym is_new ∙ ap (finite.get g.records) same ∙ there.0)) is_new, has_id);
       }
 
   -- by the sender

@@ -1,5 +1,5 @@
 -- A heartbeat leaves a sound group: the draft, the change and the renewal, the settling, and the reply.
-use Rattle.std.proofs.Common.{◌≡◌, ℕ, suc, ◌==◌, Bool, true, false, cond, ◌||◌, ◌&&◌, nat_le, max, Option, Some, None, is_none, refl, sym, ap, subst, ◌∙◌, arith, true≢false}
+use Rattle.std.proofs.Common.{◌≡◌, suc, Bool, true, false, cond, ◌&&◌, nat_le, max, Option, Some, None, MatchOption, is_none, refl, sym, ap, subst, ◌∙◌, arith, true≢false}
 use Rattle.std.specs.FinMap as finite
 use Rattle.std.proofs.lemmas.Bool.{leb-false}
 use Rattle.group_types.specs.declared.code.Code.TheVariants as codes
@@ -7,24 +7,21 @@ use Rattle.group_types.specs.Limits.{GREATEST_EPOCH}
 use Rattle.group_types.specs.Text.{Text}
 use Rattle.group_types.specs.Partition.{Partitions}
 use Rattle.group_types.specs.Topics.{Topics}
-use Rattle.group_types.specs.Request.{Heartbeat, Kind, Joins, Beats, Leaves, GoesAway, IsNone, is_full, kind_of, reported}
-use Rattle.group_types.specs.Group.{Record, Records, Group}
-use Rattle.group_types.specs.Settle.{may_settle, settled, settled_by, settled_record}
-use Rattle.group_types.specs.Renewal.{Renews, RenewsWhere, changed_if, view_for}
+use Rattle.group_types.specs.Request.{Heartbeat, Kind, Joins, Beats, Leaves, GoesAway, MeansNothing, kind_of, reported}
+use Rattle.group_types.specs.Group.{Record, Group}
+use Rattle.group_types.specs.Renewal.{changed_if, view_for}
 use Rattle.group_types.specs.Join.{IsNamed, Name}
 use Rattle.group_types.specs.Leave.{last_epoch}
 use Rattle.group_types.specs.Checks.{Verdict, Accepted, Refused, Overtaken, Sender, sender_of, verdict_on}
-use Rattle.group_types.specs.HeartbeatStep.{Answer, Arrival, Draft, Heir, BeatsWith, ByVerdict, GoesAwayWith, GoesOn, JoinsUnder, RepliesTo, SettlesAndReplies, StepOf, TakesIn, assignment_of, handed_over, is_news, sent_after, shown}
+use Rattle.group_types.specs.HeartbeatStep.{Answer, Arrival, Draft, BeatsWith, ByVerdict, GoesAwayWith, IsRefused, JoinsAs, Stages, StepOf, TakesIn, draft_under, sent_after}
 use Rattle.group_types.specs.Sound.{IsSound}
 use Rattle.group_types.specs.Laws.{HeartbeatsAreSound}
-use Rattle.group_types.proofs.Lookups.{Tie, ties, differs, tie, not_none, get-insert_other}
 use Rattle.group_types.proofs.Soundness.{gone_away_is_sound, left_is_sound}
 use Rattle.group_types.proofs.Stored.{fit_as_before, kept_is_sound}
 use Rattle.group_types.proofs.Settlings.{settled_is_sound}
 use Rattle.group_types.proofs.Renewals.{changed_is_sound, renewed_is_sound}
-use Rattle.group_types.proofs.TakeOvers.{taken_over_is_sound}
 use Rattle.group_types.proofs.Senders.{own_is}
-use Rattle.group_types.proofs.Drafts.{IsHeir, IsReady, beat_is_ready, join_is_ready, same_last_epoch}
+use Rattle.group_types.proofs.Drafts.{IsReady, beat_is_ready, join_is_ready, same_last_epoch}
 
 -- ---- the reply
 
@@ -36,77 +33,39 @@ sent_instance : (r : Record) (o : Option Partitions) → (sent_after r o).instan
 sent_instance r None = refl
 sent_instance r (Some set) = refl
 
-handed_is_sound : (g : Group) → IsSound g → (m : Text) (r : Record) (sent : Option Partitions) → finite.get g.records m ≡ Some r
-    → (heir : Option Heir) → IsHeir g heir → IsSound (handed_over g m (sent_after r sent) heir)
-handed_is_sound g sound m r sent kept None none =
+-- the member was told what it holds
+sent_is_sound : (g : Group) → IsSound g → (m : Text) (r : Record) (sent : Option Partitions) → finite.get g.records m ≡ Some r
+    → IsSound (record g { records = finite.insert g.records m (sent_after r sent) })
+sent_is_sound g sound m r sent kept =
     kept_is_sound g sound m (sent_after r sent) (fit_as_before g sound m r (sent_after r sent) kept (sent_epoch r sent) (sent_instance r sent)) r kept
-handed_is_sound g sound m r sent kept (Some heir) (is_new, has_id) =
-    taken_over_is_sound g sound m heir.id r (sent_after r sent) heir.last kept is_new has_id (sent_epoch r sent) (sent_instance r sent)
 
-replied_is_sound : (g : Group) → IsSound g → (d : Draft) (o : Option Record) → finite.get g.records d.id ≡ o → IsHeir g d.heir
-    → (full : Bool) (answer : Answer) (new : Group) → RepliesTo g d o full answer new → IsSound new
-replied_is_sound g sound d None none heir full answer new is = absurd is
-replied_is_sound g sound d (Some r) kept heir full answer new is =
-    subst IsSound (sym is.1) (handed_is_sound g sound d.id r (assignment_of (full || is_news r.sent (shown g d.id)) (shown g d.id)) kept d.heir heir)
-
--- ---- the settling
-
-settled_by_none : (may : Bool) (g : Group) (m : Text) (o : Option Record) → finite.get g.records m ≡ o → (now : ℕ) (k : Text)
-    → finite.get g.records k ≡ None → finite.get (settled_by may g m o now).records k ≡ None
-settled_by_none may g m None is now k none = none
-settled_by_none may g m (Some r) is now k none = by (tie k m)
-  where
-    by : Tie k m → finite.get (finite.insert g.records m (settled_record may r g.target_epoch now)) k ≡ None
-    by (ties same) = absurd (not_none r (sym none ∙ ap (finite.get g.records) same ∙ is))
-    by (differs other apart) = get-insert_other g.records m (settled_record may r g.target_epoch now) k apart ∙ none
-
-settled_heir : (g : Group) (m : Text) (owned : Option Partitions) (now : ℕ) (heir : Option Heir) → IsHeir g heir → IsHeir (settled g m owned now) heir
-settled_heir g m owned now None is = tt
-settled_heir g m owned now (Some heir) is =
-    (settled_by_none (may_settle g.grants m _ owned) g m (finite.get g.records m) refl now heir.id is.0, is.1)
-
-settles_soundly : (renewed : Group) → IsSound renewed → (d : Draft) → IsHeir renewed d.heir → (q : Heartbeat) (answer : Answer) (new : Group)
-    → SettlesAndReplies renewed d q answer new → IsSound new
-settles_soundly renewed sound d heir q answer new is =
-    let g : Group = settled renewed d.id (reported q) renewed.clock in
-    replied_is_sound g (settled_is_sound renewed sound d.id (reported q) renewed.clock) d (finite.get g.records d.id) refl
-    (settled_heir renewed d.id (reported q) renewed.clock d.heir heir) (is_full q) answer new is
+settles_soundly : (changed : Group) (d : Draft) (q : Heartbeat) (answer : Answer) (new : Group) (stages : Stages changed d q answer new) → IsSound stages.renewed → IsSound new
+settles_soundly changed d q answer new stages sound =
+    let renewed : Group = stages.renewed in
+    let is_sound : IsSound stages.settled = subst IsSound (sym stages.settles) (settled_is_sound renewed sound d.id (reported q) renewed.clock) in
+    subst IsSound (sym stages.leaves) (sent_is_sound stages.settled is_sound d.id stages.kept stages.told stages.is_kept)
 
 -- ---- the change and the renewal
-
-renewed_heir : (g renewed : Group) (heir : Option Heir) → Renews g renewed → IsHeir g heir → IsHeir renewed heir
-renewed_heir g renewed None renews is = tt
-renewed_heir g renewed (Some heir) renews is = (ap (λ (rs : Records). finite.get rs heir.id) (by (g.epoch == g.target_epoch) renews) ∙ is.0, is.1)
-  where
-    by : (b : Bool) → RenewsWhere b g renewed → renewed.records ≡ g.records
-    by true is = ap (λ (x : Group). x.records) is
-    by false (target, is_target, is) = ap (λ (x : Group). x.records) is
 
 module _ (g : Group) (sound : IsSound g) (d : Draft) (ready : IsReady g d) (q : Heartbeat) (image : Topics) (answer : Answer) (new : Group) where
   abbrev View : Topics
   View = view_for image d.group.records
 
-  goes_soundly : (change : Bool) → (change && nat_le GREATEST_EPOCH g.epoch) ≡ false → GoesOn (changed_if change d.group View) d q answer new → IsSound new
-  goes_soundly false room goes =
-      settles_soundly goes.renewed (renewed_is_sound d.group ready.sound goes.renewed goes.renews) d
-      (renewed_heir d.group goes.renewed d.heir goes.renews ready.heir) q answer new goes.replies
-  goes_soundly true room goes =
+  goes_soundly : (change : Bool) → (change && nat_le GREATEST_EPOCH g.epoch) ≡ false → Stages (changed_if change d.group View) d q answer new → IsSound new
+  goes_soundly false room stages =
+      settles_soundly d.group d q answer new stages (renewed_is_sound d.group ready.sound stages.renewed stages.renews)
+  goes_soundly true room stages =
       let below = leb-false GREATEST_EPOCH g.epoch room in
       let same = ready.epoch in
       let target = ready.sound.target_epoch in
-      settles_soundly goes.renewed
-      (changed_is_sound d.group ready.sound (suc d.group.epoch) View goes.renewed (omega (arith, target)) (omega (arith, below, same)) goes.renews) d
-      (renewed_heir (changed_if true d.group View) goes.renewed d.heir goes.renews (changed_heir d.heir ready.heir)) q answer new goes.replies
-    where
-      changed_heir : (heir : Option Heir) → IsHeir d.group heir → IsHeir (changed_if true d.group View) heir
-      changed_heir None is = tt
-      changed_heir (Some heir) is = is
+      settles_soundly (changed_if true d.group View) d q answer new stages
+      (changed_is_sound d.group ready.sound (suc d.group.epoch) View stages.renewed (omega (arith, target)) (omega (arith, below, same)) stages.renews)
 
   taken_in_soundly : TakesIn g d q image answer new → IsSound new
   taken_in_soundly takes = by (takes.change && nat_le GREATEST_EPOCH g.epoch) refl takes.step
     where
       by : (b : Bool) → (takes.change && nat_le GREATEST_EPOCH g.epoch) ≡ b
-          → ByVerdict (cond b (Refused codes.CoordinatorNotAvailable) Accepted) (GoesOn (changed_if takes.change d.group View) d q) g answer new → IsSound new
+          → ByVerdict (cond b (Refused codes.CoordinatorNotAvailable) Accepted) (Stages (changed_if takes.change d.group View) d q) g answer new → IsSound new
       by true stuck is = subst IsSound (sym is.1) sound
       by false room is = goes_soundly takes.change room is
 
@@ -134,15 +93,19 @@ module _ (g : Group) (sound : IsSound g) (a : Arrival) (answer : Answer) (new : 
   abbrev TheSender : Sender
   TheSender = sender_of g.records a.heartbeat
 
-  joins_soundly : verdict_on Joins TheSender g a.heartbeat a.stamp ≡ Accepted → (o : Option Name) → IsNamed g a.heartbeat.member o → JoinsUnder o TheSender g a answer new → IsSound new
-  joins_soundly accepted None named is = subst IsSound (sym is.1) sound
-  joins_soundly accepted (Some name) named is =
-      let valid = passed _ _ _ (refuses codes.InvalidRequest) accepted in
-      let supported = passed _ _ _ (refuses codes.UnsupportedAssignor) valid.1 in
-      let in_time = passed _ _ _ overtakes supported.1 in
-      let released = passed _ _ _ (refuses codes.UnreleasedInstanceId) in_time.1 in
-      let room = passed _ _ _ (refuses codes.GroupMaxSizeReached) released.1 in
-      taken_in_soundly g sound _ (join_is_ready g sound (max g.clock a.moment) a.heartbeat a.stamp name named TheSender.own refl TheSender.other refl released.0 room.0) a.heartbeat a.image answer new is
+  joins_soundly : verdict_on Joins TheSender g a.heartbeat a.stamp ≡ Accepted → JoinsAs TheSender g a answer new → IsSound new
+  joins_soundly accepted joins = by joins.name joins.is_named joins.joins
+    where
+      by : (o : Option Name) → IsNamed g a.heartbeat.member o
+          → MatchOption o (IsRefused codes.CoordinatorNotAvailable g answer new) (λ n. TakesIn g (draft_under n TheSender g a) a.heartbeat a.image answer new) → IsSound new
+      by None named is = subst IsSound (sym is.1) sound
+      by (Some name) named is =
+          let valid = passed _ _ _ (refuses codes.InvalidRequest) accepted in
+          let supported = passed _ _ _ (refuses codes.UnsupportedAssignor) valid.1 in
+          let in_time = passed _ _ _ overtakes supported.1 in
+          let released = passed _ _ _ (refuses codes.UnreleasedInstanceId) in_time.1 in
+          let room = passed _ _ _ (refuses codes.GroupMaxSizeReached) released.1 in
+          taken_in_soundly g sound _ (join_is_ready g sound (max g.clock a.moment) a.heartbeat a.stamp name named TheSender.own refl TheSender.other refl released.0 room.0) a.heartbeat a.image answer new is
 
   beats_soundly : (own : Option Record) → TheSender.own ≡ own → BeatsWith own g a answer new → IsSound new
   beats_soundly None none is = absurd is
@@ -163,11 +126,11 @@ module _ (g : Group) (sound : IsSound g) (a : Arrival) (answer : Answer) (new : 
       subst IsSound (sym is.1) (gone_away_is_sound g sound a.heartbeat.member r (own_is g.records a.heartbeat.member r own) a.stamp a.moment)
 
   steps_soundly : (kind : Kind) → verdict_on kind TheSender g a.heartbeat a.stamp ≡ Accepted → StepOf kind TheSender g a answer new → IsSound new
-  steps_soundly Joins accepted is = joins_soundly accepted is.name is.is_named is.joins
+  steps_soundly Joins accepted is = joins_soundly accepted is
   steps_soundly (Beats n) accepted is = beats_soundly TheSender.own refl is
   steps_soundly Leaves accepted is = leaves_soundly accepted TheSender.own refl is
   steps_soundly GoesAway accepted is = goes_away_soundly TheSender.own refl is
-  steps_soundly IsNone accepted is = absurd is
+  steps_soundly MeansNothing accepted is = absurd is
 
   by_verdict : (kind : Kind) (v : Verdict) → verdict_on kind TheSender g a.heartbeat a.stamp ≡ v → ByVerdict v (StepOf kind TheSender g a) g answer new → IsSound new
   by_verdict kind Accepted accepted is = steps_soundly kind accepted is

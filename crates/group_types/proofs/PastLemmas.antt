@@ -12,7 +12,7 @@ use Rattle.group_types.specs.Sound.{IsPast}
 use Rattle.group_types.proofs.Lookups.{Tie, ties, differs, tie, text_ties, not_none}
 
 -- the first one is another, and the rest hasn't it
-first_differs : (past : Past) (e : Text × Stamp) (m : Text) → past_stamp (e ∷ past) m ≡ None → (eq_by_cmp text_cmp m e.0 ≡ false) × (past_stamp past m ≡ None)
+pub first_differs : (past : Past) (e : Text × Stamp) (m : Text) → past_stamp (e ∷ past) m ≡ None → (eq_by_cmp text_cmp m e.0 ≡ false) × (past_stamp past m ≡ None)
 first_differs past e m none =
     elim (eq_by_cmp text_cmp m e.0) as (λ b. cond b (Some e.1) (past_stamp past m) ≡ None → (b ≡ false) × (past_stamp past m ≡ None)) [
       | true ↦ λ is. absurd (not_none e.1 (sym is))

@@ -39,7 +39,7 @@ find_some test (x ∷ xs) n so there none =
 
 -- ---- instances
 
-instance_of : (j : Text) (o : Option Text) → option_map_or (λ i. bytes_eq i j) o false ≡ true → o ≡ Some j
+pub instance_of : (j : Text) (o : Option Text) → option_map_or (λ i. bytes_eq i j) o false ≡ true → o ≡ Some j
 instance_of j None never = absurd (true≢false (sym never))
 instance_of j (Some i) so = ap Some ((bytes_eq-Decides i j).0 so)
 

@@ -114,7 +114,7 @@ module _ {K : Type 0} {R : K → K → Ordering} (total : IsTotalOrder R) (exact
   pub minus-itself : (s : FinSet R) → minus s s ≡ nothing
   minus-itself s = same_set total exact _ _ (λ q. has-minus total s s q ∙ never_both (has s q) ∙ sym (has-nothing R q))
 
-  nothing_left : (s t : FinSet R) → minus s t ≡ nothing → (q : K) → (has s q && not (has t q)) ≡ false
+  pub nothing_left : (s t : FinSet R) → minus s t ≡ nothing → (q : K) → (has s q && not (has t q)) ≡ false
   nothing_left s t none q = sym (has-minus total s t q) ∙ ap (λ rest. has rest q) none ∙ has-nothing R q
 
   same_of_minus : (s t : FinSet R) → minus s t ≡ nothing → minus t s ≡ nothing → s ≡ t

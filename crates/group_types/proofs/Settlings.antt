@@ -28,23 +28,23 @@ module _ (g : Group) (sound : IsSound g) (m : Text) (r : Record) (kept : finite.
   abbrev Moved : Grants
   Moved = moved g.grants m Part
 
-  moved_other : (n : Text) (p : Partition) → eq_by_cmp text_cmp n m ≡ false → has Moved (n, p) ≡ has g.grants (n, p)
+  pub moved_other : (n : Text) (p : Partition) → eq_by_cmp text_cmp n m ≡ false → has Moved (n, p) ≡ has g.grants (n, p)
   moved_other n p apart =
       has-moved g.grants m Part n p
       ∙ ap (λ b. cond b (has Part p && (has g.grants (m, p) || is_free_for g.grants m p)) (has g.grants (n, p))) apart
 
-  moved_own : (p : Partition) → has Moved (m, p) ≡ (has Part p && (has g.grants (m, p) || is_free_for g.grants m p))
+  pub moved_own : (p : Partition) → has Moved (m, p) ≡ (has Part p && (has g.grants (m, p) || is_free_for g.grants m p))
   moved_own p =
       has-moved g.grants m Part m p
       ∙ ap (λ b. cond b (has Part p && (has g.grants (m, p) || is_free_for g.grants m p)) (has g.grants (m, p))) (text_ties m)
 
   -- what it holds is of its target
-  moved_within : (p : Partition) → IsTrue (has Moved (m, p)) → finite.get g.target p ≡ Some m
+  pub moved_within : (p : Partition) → IsTrue (has Moved (m, p)) → finite.get g.target p ≡ Some m
   moved_within p holds =
       (owns-get g.target m p).0 (sym (has-share_of g.target m p) ∙ first_so (has Part p) _ (sym (moved_own p) ∙ holds))
 
   -- nobody else held it
-  moved_gets : (p : Partition) → IsTrue (has Moved (m, p)) → (n : Text) → IsTrue (has g.grants (n, p)) → n ≡ m
+  pub moved_gets : (p : Partition) → IsTrue (has Moved (m, p)) → (n : Text) → IsTrue (has g.grants (n, p)) → n ≡ m
   moved_gets p there n holds = by (has g.grants (m, p)) refl (second_so (has Part p) _ (sym (moved_own p) ∙ there))
     where
       by : (b : Bool) → has g.grants (m, p) ≡ b → (b || is_free_for g.grants m p) ≡ true → n ≡ m
@@ -91,7 +91,7 @@ module _ (g : Group) (sound : IsSound g) (m : Text) (r : Record) (kept : finite.
 
 -- ---- the member's record
 
-arrived_epoch : (r : Record) (e : Epoch) (t : ℕ) → r.epoch ≡ e → last_epoch (arrived r e t) ≡ t
+pub arrived_epoch : (r : Record) (e : Epoch) (t : ℕ) → r.epoch ≡ e → last_epoch (arrived r e t) ≡ t
 arrived_epoch r Away t is = refl
 arrived_epoch r (At e) t is =
     elim (e == t) as (λ b. (e == t) ≡ b → last_epoch (cond b (record r { release_deadline = None }) (record r { previous_epoch = e; epoch = At t; release_deadline = None })) ≡ t) [
@@ -107,7 +107,7 @@ arrived_instance r (At e) t =
       | false ↦ refl
     ]
 
-asked_epoch : (r : Record) (o : Option ℕ) (now : ℕ) → last_epoch (asked r o now) ≡ last_epoch r
+pub asked_epoch : (r : Record) (o : Option ℕ) (now : ℕ) → last_epoch (asked r o now) ≡ last_epoch r
 asked_epoch r None now = by r.epoch
   where
     by : (e : Epoch) → last_epoch_at e (asked r None now) ≡ last_epoch_at e r

@@ -171,12 +171,12 @@ gone_away_is_sound g sound m r kept stamp moment =
 -- ---- a tick
 
 -- the key is none of theirs
-abbrev Differ : Text → List (Text × Record) → Type 0
+abbrev pub Differ : Text → List (Text × Record) → Type 0
 Differ k [] = Unit {0}
 Differ k (e ∷ es) = (e.0 ≢ k) × Differ k es
 
 -- each has its record, and no id stands twice
-abbrev Leaves : Records → List (Text × Record) → Type 0
+abbrev pub Leaves : Records → List (Text × Record) → Type 0
 Leaves records [] = Unit {0}
 Leaves records (e ∷ es) = (finite.get records e.0 ≡ Some e.1) × Differ e.0 es × Leaves records es
 
@@ -190,7 +190,7 @@ module _ (test : Text × Record → Bool) where
       ]
 
   -- those of the sorted entries that pass
-  leaves_of_sorted : (records : Records) (es : List (Text × Record)) → T (is_sorted text_cmp es) → AllByRecursion (λ e. finite.get records e.0 ≡ Some e.1) es
+  pub leaves_of_sorted : (records : Records) (es : List (Text × Record)) → T (is_sorted text_cmp es) → AllByRecursion (λ e. finite.get records e.0 ≡ Some e.1) es
       → Leaves records (filter test es)
   leaves_of_sorted records [] sorted there = tt
   leaves_of_sorted records (e ∷ es) sorted there =
@@ -200,7 +200,7 @@ module _ (test : Text × Record → Bool) where
         | false ↦ rest
       ]
 
-leaves_after : (records : Records) (k : Text) (es : List (Text × Record)) → Differ k es → Leaves records es → Leaves (finite.remove records k) es
+pub leaves_after : (records : Records) (k : Text) (es : List (Text × Record)) → Differ k es → Leaves records es → Leaves (finite.remove records k) es
 leaves_after records k [] differ leaves = tt
 leaves_after records k (e ∷ es) differ leaves = (
   by (tie e.0 k),

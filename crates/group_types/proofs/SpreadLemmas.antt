@@ -42,7 +42,7 @@ no_truth true never = absurd (never refl)
 no_truth false never = refl
 
 -- two answers that say the same are one
-same_truth : (a b : Bool) (P : Type 0) → IsTrue a ↔ P → IsTrue b ↔ P → a ≡ b
+pub same_truth : (a b : Bool) (P : Type 0) → IsTrue a ↔ P → IsTrue b ↔ P → a ≡ b
 same_truth true b P (to, from) (back, forth) = sym (forth (to refl))
 same_truth false true P (to, from) (back, forth) = from (back refl)
 same_truth false false P first second = refl

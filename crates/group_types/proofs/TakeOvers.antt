@@ -25,10 +25,10 @@ use Rattle.group_types.proofs.Soundness.{still_holds}
 
 -- ---- the owners under another id
 
-renamed_itself : (old new : Text) → renamed_id old new old ≡ new
+pub renamed_itself : (old new : Text) → renamed_id old new old ≡ new
 renamed_itself old new = ap (λ b. cond b new old) ((bytes_eq-Decides old old).1 refl)
 
-renamed_other : (old new id : Text) → id ≢ old → renamed_id old new id ≡ id
+pub renamed_other : (old new id : Text) → id ≢ old → renamed_id old new id ≡ id
 renamed_other old new id other =
     elim (bytes_eq id old) as (λ b. bytes_eq id old ≡ b → cond b new id ≡ id) [
       | true ↦ λ same. absurd (other ((bytes_eq-Decides id old).0 same))

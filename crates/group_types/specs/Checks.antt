@@ -16,7 +16,7 @@ use Rattle.group_types.specs.Limits.{MOST_MEMBERS}
 use Rattle.group_types.specs.Text.{Text, text_cmp}
 use Rattle.group_types.specs.Sets.{has}
 use Rattle.group_types.specs.Stamp.{stamp_cmp}
-use Rattle.group_types.specs.Request.{Heartbeat, Kind, Joins, Beats, Leaves, GoesAway, IsNone, is_invalid, is_unsupported}
+use Rattle.group_types.specs.Request.{Heartbeat, Kind, Joins, Beats, Leaves, GoesAway, MeansNothing, is_invalid, is_unsupported}
 use Rattle.group_types.specs.Group.{Record, Records, Grants, Past, Group}
 
 -- what the checks of a heartbeat come to
@@ -149,7 +149,7 @@ checks_of GoesAway sender g q stamp =
     ∷ (is_another sender.own q.instance, Refused codes.UnknownMemberId)
     ∷ (is_overtaken stamp sender.own, Overtaken)
     ∷ []
-checks_of IsNone sender g q stamp = (true, Refused codes.InvalidRequest) ∷ []
+checks_of MeansNothing sender g q stamp = (true, Refused codes.InvalidRequest) ∷ []
 
 abbrev pub verdict_on : Kind → Sender → Group → Heartbeat → Stamp → Verdict
 verdict_on kind sender g q stamp = first_of (checks_of kind sender g q stamp)

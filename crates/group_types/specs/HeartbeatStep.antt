@@ -1,5 +1,5 @@
 -- One heartbeat at one group: what is answered, and the group afterwards (KIP-848, "Consumer Group Heartbeat").
-use Rattle.std.specs.Prelude.{◌≡◌, ℕ, ℤ, pos, Bool, true, false, not, ◌||◌, ◌&&◌, if◌then◌else◌, nat_le, max, Option, Some, None}
+use Rattle.std.specs.Prelude.{◌≡◌, ℕ, ℤ, pos, Bool, true, false, not, ◌||◌, ◌&&◌, if◌then◌else◌, nat_le, max, Option, Some, None, MatchOption}
 use Rattle.std.specs.FinMap as finite
 use Rattle.group_types.specs.declared.code.Code.{Code}
 use Rattle.group_types.specs.declared.code.Code.TheVariants as codes
@@ -11,11 +11,11 @@ use Rattle.group_types.specs.Sets.{common, are_same, in_order}
 use Rattle.group_types.specs.Partition.{Partitions}
 use Rattle.group_types.specs.Topics.{Topics}
 use Rattle.group_types.specs.Limits.{GREATEST_EPOCH, HEARTBEAT_INTERVAL}
-use Rattle.group_types.specs.Request.{Heartbeat, Kind, Joins, Beats, Leaves, GoesAway, IsNone, LEAVES_AT, GOES_AWAY_AT, kind_of, is_full, reported}
+use Rattle.group_types.specs.Request.{Heartbeat, Kind, Joins, Beats, Leaves, GoesAway, MeansNothing, LEAVES_AT, GOES_AWAY_AT, kind_of, is_full, reported}
 use Rattle.group_types.specs.Owners.{renamed}
 use Rattle.group_types.specs.Group.{Record, Group, wanted, held}
 use Rattle.group_types.specs.Members.{members_of, with_members, with_record, taken_over}
-use Rattle.group_types.specs.Settle.{grants_of_others, granting, settled}
+use Rattle.group_types.specs.Settle.{Settles, grants_of_others, granting}
 use Rattle.group_types.specs.Renewal.{view_for, IsChange, changed_if, Renews}
 use Rattle.group_types.specs.Join.{Name, IsNamed, record_of_join, record_of_beat}
 use Rattle.group_types.specs.Leave.{left, gone_away}
@@ -30,37 +30,39 @@ pub record Arrival : Type 0 where
 
 -- ---- the drafts
 
--- who takes over, and the last stamp under the old id
-pub record Heir : Type 0 where
-  pub id : Text
-  pub last : Stamp
-
--- The group with a heartbeat's record in it, before anything else comes of it. At a take-over the record still stands
--- under the old id.
+-- the group with a heartbeat's record in it, before anything else comes of it
 pub record Draft : Type 0 where
   pub group : Group
   pub id : Text  -- under which the record stands
   pub before : Option Record  -- as it was; none of a new member
   pub after : Record
-  pub heir : Option Heir
 
 -- the group at a moment, with a member's record
 abbrev pub with_record_at : Group → ℕ → Text → Record → Group
 with_record_at g now m r = with_members (record g { clock = now }) (with_record (members_of g) m r)
 
-abbrev pub draft_of : Group → ℕ → Text → Option Record → Record → Option Heir → Draft
-draft_of g now m before after heir =
-    record { group = with_record_at g now m after; id = m; before = before; after = after; heir = heir }
+abbrev pub draft_of : Group → ℕ → Text → Option Record → Record → Draft
+draft_of g now m before after =
+    record { group = with_record_at g now m after; id = m; before = before; after = after }
 
 abbrev pub draft_of_beat : Group → ℕ → Record → Heartbeat → Stamp → Draft
-draft_of_beat g now r q stamp = draft_of g now q.member (Some r) (record_of_beat r q stamp now) None
+draft_of_beat g now r q stamp = draft_of g now q.member (Some r) (record_of_beat r q stamp now)
+
+-- KIP-848, "Static Membership": an id that takes over has the other member's record, target and grants; the other id is
+-- a former member's.
+abbrev pub handed_over : Group → Member → Text → Group
+handed_over g old heir =
+    record (with_members g (taken_over (members_of g) old.id heir old.kept old.kept.stamp)) {
+      target = renamed g.target old.id heir;
+      grants = granting (grants_of_others g.grants old.id) heir (in_order (held g.grants old.id));
+    }
 
 -- By the member's own record, and another member that has its instance: it rejoins, it is new, or it takes over.
 abbrev pub draft_of_join : Group → ℕ → Text → Option Record → Option Member → Heartbeat → Stamp → Draft
-draft_of_join g now m (Some r) other q stamp = draft_of g now m (Some r) (record_of_join (Some r) q stamp now) None
-draft_of_join g now m None None q stamp = draft_of g now m None (record_of_join None q stamp now) None
+draft_of_join g now m (Some r) other q stamp = draft_of g now m (Some r) (record_of_join (Some r) q stamp now)
+draft_of_join g now m None None q stamp = draft_of g now m None (record_of_join None q stamp now)
 draft_of_join g now m None (Some old) q stamp =
-    draft_of g now old.id (Some old.kept) (record_of_join (Some old.kept) q stamp now) (Some (record { id = m; last = old.kept.stamp }))
+    draft_of (handed_over g old m) now m (Some old.kept) (record_of_join (Some old.kept) q stamp now)
 
 -- ---- the reply
 
@@ -108,51 +110,30 @@ abbrev pub acceptance : Text → Record → Option Partitions → Reply
 acceptance m r assignment =
     record { code = codes.NoError; member = Some m; epoch = epoch_number r.epoch; interval = HEARTBEAT_INTERVAL; assignment = assignment }
 
--- ---- the end of a take-over
+-- ---- the stages of a join or a beat
 
--- The heir has the record, and the old id's target and grants; the old id is a former member's. The renewal and the
--- settling before it are done under the old id. That differs from renaming first only where two members have one
--- instance, which no group has.
-abbrev pub handed_over : Group → Text → Record → Option Heir → Group
-handed_over g old r None = record g { records = finite.insert g.records old r }
-handed_over g old r (Some heir) =
-    record (with_members g (taken_over (members_of g) old heir.id r heir.last)) {
-      target = renamed g.target old heir.id;
-      grants = granting (grants_of_others g.grants old) heir.id (in_order (held g.grants old));
-    }
-
--- the id that the reply says
-abbrev pub heir_or : Text → Option Heir → Text
-heir_or m None = m
-heir_or m (Some heir) = heir.id
-
--- ---- the stages of an accepted heartbeat of epoch 0 or more: the change, the renewal, the settling, the reply
-
-abbrev pub RepliesWith : Group → Draft → Record → Option Partitions → Answer → Group → Type 0
-RepliesWith g d r assignment answer new =
-    (answer ≡ Replied (acceptance (heir_or d.id d.heir) r assignment))
-    × (new ≡ handed_over g d.id (sent_after r assignment) d.heir)
-
-abbrev pub RepliesTo : Group → Draft → Option Record → Bool → Answer → Group → Type 0
-RepliesTo g d None full answer new = ⊥
-RepliesTo g d (Some r) full answer new =
-    RepliesWith g d r (assignment_of (full || is_news r.sent (shown g d.id)) (shown g d.id)) answer new
-
-abbrev pub SettlesAndReplies : Group → Draft → Heartbeat → Answer → Group → Type 0
-SettlesAndReplies renewed d q answer new =
-    let g = settled renewed d.id (reported q) renewed.clock in
-    RepliesTo g d (finite.get g.records d.id) (is_full q) answer new
-
--- from a draft with its change on
-pub record GoesOn (changed : Group) (d : Draft) (q : Heartbeat) (answer : Answer) (new : Group) : Type 0 where
+-- What comes of a draft that is accepted, from the group with its change on: the target is renewed, the member is
+-- settled, and it is told what it holds of its target.
+pub record Stages (changed : Group) (d : Draft) (q : Heartbeat) (answer : Answer) (new : Group) : Type 0 where
   pub renewed : Group
   pub renews : Renews changed renewed
-  pub replies : SettlesAndReplies renewed d q answer new
+  pub settled : Group
+  pub settles : Settles renewed d.id (reported q) settled
+  pub kept : Record  -- the member's, by then
+  pub is_kept : finite.get settled.records d.id ≡ Some kept
+  pub told : Option Partitions
+  pub tells : told ≡ assignment_of (is_full q || is_news kept.sent (shown settled d.id)) (shown settled d.id)
+  pub answers : answer ≡ Replied (acceptance d.id kept told)
+  pub leaves : new ≡ record settled { records = finite.insert settled.records d.id (sent_after kept told) }
 
--- a refusal and an overtaken heartbeat change nothing
+-- a refusal changes nothing
+abbrev pub IsRefused : Code → Group → Answer → Group → Type 0
+IsRefused code g answer new = (answer ≡ Replied (refusal code)) × (new ≡ g)
+
+-- nor does an overtaken heartbeat
 abbrev pub ByVerdict : Verdict → (Answer → Group → Type 0) → Group → Answer → Group → Type 0
 ByVerdict Accepted Accepts g answer new = Accepts answer new
-ByVerdict (Refused code) Accepts g answer new = (answer ≡ Replied (refusal code)) × (new ≡ g)
+ByVerdict (Refused code) Accepts g answer new = IsRefused code g answer new
 ByVerdict Overtaken Accepts g answer new = (answer ≡ Closes) × (new ≡ g)
 
 -- The last check: COORDINATOR_NOT_AVAILABLE where the step is a change and the group epoch can't rise.
@@ -164,23 +145,20 @@ verdict_on_change change epoch =
 pub record TakesIn (g : Group) (d : Draft) (q : Heartbeat) (image : Topics) (answer : Answer) (new : Group) : Type 0 where
   pub change : Bool
   pub is_change : IsChange change d.before d.after g.view (view_for image d.group.records)
-  pub step : ByVerdict (verdict_on_change change g.epoch) (GoesOn (changed_if change d.group (view_for image d.group.records)) d q) g answer new
+  pub step : ByVerdict (verdict_on_change change g.epoch) (Stages (changed_if change d.group (view_for image d.group.records)) d q) g answer new
 
 -- ---- by the kind of heartbeat
 
--- the last check, too: no serial is left for the id
-abbrev pub JoinsUnder : Option Name → Sender → Group → Arrival → Answer → Group → Type 0
-JoinsUnder None sender g a answer new = (answer ≡ Replied (refusal codes.CoordinatorNotAvailable)) × (new ≡ g)
-JoinsUnder (Some name) sender g a answer new =
-    let named = record g { serial = name.next_serial } in
-    let d = draft_of_join named (max g.clock a.moment) name.id sender.own sender.other a.heartbeat a.stamp in
-    TakesIn g d a.heartbeat a.image answer new
+abbrev pub draft_under : Name → Sender → Group → Arrival → Draft
+draft_under name sender g a =
+    draft_of_join (record g { serial = name.next_serial }) (max g.clock a.moment) name.id sender.own sender.other a.heartbeat a.stamp
 
--- the member gets its id, and joins under it
+-- The member gets its id, and joins under it. The last check, too: COORDINATOR_NOT_AVAILABLE where no serial is left.
 pub record JoinsAs (sender : Sender) (g : Group) (a : Arrival) (answer : Answer) (new : Group) : Type 0 where
   pub name : Option Name
   pub is_named : IsNamed g a.heartbeat.member name
-  pub joins : JoinsUnder name sender g a answer new
+  pub joins : MatchOption name (IsRefused codes.CoordinatorNotAvailable g answer new)
+      (λ n. TakesIn g (draft_under n sender g a) a.heartbeat a.image answer new)
 
 abbrev pub BeatsWith : Option Record → Group → Arrival → Answer → Group → Type 0
 BeatsWith None g a answer new = ⊥
@@ -199,7 +177,7 @@ StepOf (Beats n) sender g a answer new = BeatsWith sender.own g a answer new
 StepOf Leaves sender g a answer new =
     (answer ≡ Replied (farewell a.heartbeat.member LEAVES_AT)) × (new ≡ left g a.heartbeat.member a.stamp a.moment)
 StepOf GoesAway sender g a answer new = GoesAwayWith sender.own g a answer new
-StepOf IsNone sender g a answer new = ⊥
+StepOf MeansNothing sender g a answer new = ⊥
 
 abbrev pub StepBy : Kind → Sender → Group → Arrival → Answer → Group → Type 0
 StepBy kind sender g a answer new =

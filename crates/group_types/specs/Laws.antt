@@ -12,18 +12,7 @@ use Rattle.group_types.specs.Leave.{left, gone_away}
 use Rattle.group_types.specs.Tick.{ticked}
 use Rattle.group_types.specs.Commit.{Commit, CommitReply, CommitStep, refusal_of_commit}
 use Rattle.group_types.specs.Sound.{IsSound}
-use Rattle.group_types.specs.Request.{kind_of}
-use Rattle.group_types.specs.Checks.{Verdict, Overtaken, sender_of, verdict_on}
-use Rattle.group_types.specs.HeartbeatStep.{Answer, Replied, Closes, Reply, Arrival, HeartbeatStep}
-
--- what the checks of a heartbeat come to in a group
-abbrev pub verdict_in : Group → Arrival → Verdict
-verdict_in g a = verdict_on (kind_of a.heartbeat.epoch) (sender_of g.records a.heartbeat) g a.heartbeat a.stamp
-
--- a connection is closed only where the heartbeat was overtaken, and then nothing has changed
-abbrev pub ClosesOnlyOvertaken : Type 0
-ClosesOnlyOvertaken =
-    (g : Group) (a : Arrival) (new : Group) → HeartbeatStep g a Closes new → (verdict_in g a ≡ Overtaken) × (new ≡ g)
+use Rattle.group_types.specs.HeartbeatStep.{Answer, Replied, Reply, Arrival, HeartbeatStep}
 
 -- a heartbeat that is answered with an error has changed nothing
 abbrev pub RefusalsChangeNothing : Type 0

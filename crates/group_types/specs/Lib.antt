@@ -26,3 +26,11 @@ pub mod HeartbeatStep
 pub mod Commit
 pub mod Sound
 pub mod Laws
+pub mod Fencing
+pub mod GoingAway
+pub mod FormerMembers
+pub mod TakeOvers
+pub mod MemberEpochs
+pub mod Assignments
+pub mod Deadlines
+pub mod CommitCodes

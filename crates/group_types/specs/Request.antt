@@ -25,14 +25,14 @@ pub data Kind : Type 0 where
   Beats : ℕ → Kind  -- at this member epoch, 1 or more
   Leaves : Kind
   GoesAway : Kind
-  IsNone : Kind  -- below -2
+  MeansNothing : Kind  -- a member epoch below -2
 
 abbrev pub kind_of : ℤ → Kind
 kind_of (pos zero) = Joins
 kind_of (pos (suc n)) = Beats (suc n)
 kind_of (negsuc zero) = Leaves
 kind_of (negsuc (suc zero)) = GoesAway
-kind_of (negsuc (suc (suc n))) = IsNone
+kind_of (negsuc (suc (suc n))) = MeansNothing
 
 -- the member epoch of a heartbeat by which a member leaves for good
 abbrev pub LEAVES_AT : ℤ
@@ -70,7 +70,7 @@ is_invalid_as q Joins = int_lt q.rebalance_timeout SAME_TIMEOUT || is_invalid_jo
 is_invalid_as q (Beats epoch) = is_empty q.member || int_lt q.rebalance_timeout SAME_TIMEOUT
 is_invalid_as q Leaves = is_empty q.member
 is_invalid_as q GoesAway = is_empty q.member || is_none q.instance
-is_invalid_as q IsNone = true
+is_invalid_as q MeansNothing = true
 
 -- INVALID_REQUEST
 abbrev pub is_invalid : Heartbeat → Bool
@@ -96,7 +96,7 @@ reported_at Joins owned = Some nothing
 reported_at (Beats epoch) owned = option_map of_list owned
 reported_at Leaves owned = None
 reported_at GoesAway owned = None
-reported_at IsNone owned = None
+reported_at MeansNothing owned = None
 
 abbrev pub reported : Heartbeat → Option Partitions
 reported q = reported_at (kind_of q.epoch) q.owned

@@ -1,6 +1,6 @@
 -- KIP-848, "Reconciliation of the group": a member gives up what isn't its target any more, then it goes
 -- on to the target's epoch, and then it is granted what nobody else holds.
-use Rattle.std.specs.Prelude.{ℕ, Bool, true, false, not, ◌==◌, ◌&&◌, ◌||◌, if◌then◌else◌, List, [], ◌∷◌, filter, Option, Some, None}
+use Rattle.std.specs.Prelude.{◌≡◌, ℕ, Bool, true, false, not, ◌==◌, ◌&&◌, ◌||◌, if◌then◌else◌, List, [], ◌∷◌, filter, Option, Some, None}
 use Rattle.std.specs.List.{list_any}
 use Rattle.std.specs.Ordering.{eq_by_cmp}
 use Rattle.std.specs.FinMap as finite
@@ -78,3 +78,7 @@ settled_by may g m (Some r) now =
 abbrev pub settled : Group → Text → Option Partitions → ℕ → Group
 settled g m owned now =
     settled_by (may_settle g.grants m (wanted g.target m) owned) g m (finite.get g.records m) now
+
+-- it was, at the group's clock
+abbrev pub Settles : Group → Text → Option Partitions → Group → Type 0
+Settles g m owned new = new ≡ settled g m owned g.clock

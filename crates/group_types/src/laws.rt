@@ -1,15 +1,28 @@
 //! Laws of the machine's definitions, proved where nothing runs.
-ghost use Rattle.group_types.specs.Laws.{ClosesOnlyOvertaken, CommitsAreAtEpoch, CommitsAreSound, EveryGroupIsSound, HeartbeatsAreSound, LeavesAreSound, RefusalsChangeNothing, TicksAreSound};
+ghost use Rattle.group_types.specs.Assignments.{AssignmentsAreNews};
+ghost use Rattle.group_types.specs.CommitCodes.{CommitsAreAnsweredInOrder};
+ghost use Rattle.group_types.specs.Deadlines.{ReleasesAreTimed, SessionsLast, TicksTakeTheDue};
+ghost use Rattle.group_types.specs.Fencing.{AcceptsOnce, ClosesOnTheOvertaken};
+ghost use Rattle.group_types.specs.FormerMembers.{LeaversAreRemembered, TheDueAreRemembered};
+ghost use Rattle.group_types.specs.GoingAway.{GoingAwayKeepsPlace};
+ghost use Rattle.group_types.specs.Laws.{CommitsAreAtEpoch, CommitsAreSound, EveryGroupIsSound, HeartbeatsAreSound, LeavesAreSound, RefusalsChangeNothing, TicksAreSound};
 ghost use Rattle.group_types.specs.Limits.{ConstantsAreTheLimits};
+ghost use Rattle.group_types.specs.MemberEpochs.{EpochsRiseWithinTargets};
+ghost use Rattle.group_types.specs.TakeOvers.{HeirsHaveAll};
 
 /// Each constant of the code is the literal that the definitions cite.
 pub fn constants_are_the_limits()
     ensures { ConstantsAreTheLimits }
 {}
 
-/// A heartbeat closes its connection only where a later one of its member was accepted before.
-pub fn closes_only_overtaken()
-    ensures { ClosesOnlyOvertaken }
+/// A connection is closed on exactly the heartbeats that are in order and were overtaken by one of their member.
+pub fn closes_on_the_overtaken()
+    ensures { ClosesOnTheOvertaken }
+{}
+
+/// After an accepted heartbeat none of its member with the same stamp or an earlier one is accepted.
+pub fn accepts_once()
+    ensures { AcceptsOnce }
 {}
 
 /// A heartbeat that is refused with an error changes nothing.
@@ -45,4 +58,54 @@ pub fn commits_are_at_epoch()
 /// Whatever came to a group since it was new, it is sound: no two members hold one partition, among others.
 pub fn every_group_is_sound()
     ensures { EveryGroupIsSound }
+{}
+
+/// A static member that goes away for a while keeps what it holds and is to own, and the group its epochs.
+pub fn going_away_keeps_place()
+    ensures { GoingAwayKeepsPlace }
+{}
+
+/// A static member that comes back under another id holds and is to own what the old id did.
+pub fn heirs_have_all()
+    ensures { HeirsHaveAll }
+{}
+
+/// Who leaves is remembered with the stamp by which it left.
+pub fn leavers_are_remembered()
+    ensures { LeaversAreRemembered }
+{}
+
+/// Whom a tick takes from a group is remembered with its last stamp.
+pub fn the_due_are_remembered()
+    ensures { TheDueAreRemembered }
+{}
+
+/// A deadline is due at its moment and not before: a tick takes exactly the members that are due from a group.
+pub fn ticks_take_the_due()
+    ensures { TicksTakeTheDue }
+{}
+
+/// A session lasts from the member's last accepted heartbeat on.
+pub fn sessions_last()
+    ensures { SessionsLast }
+{}
+
+/// A member that is to give up what it lost has its rebalance timeout for it, from when it was first asked.
+pub fn releases_are_timed()
+    ensures { ReleasesAreTimed }
+{}
+
+/// A member epoch rises only where the member has given up all that isn't its target.
+pub fn epochs_rise_within_targets()
+    ensures { EpochsRiseWithinTargets }
+{}
+
+/// An assignment stands in a reply exactly where the heartbeat was full or its member wasn't sent that already.
+pub fn assignments_are_news()
+    ensures { AssignmentsAreNews }
+{}
+
+/// The code of a commit is that of the first reason that applies.
+pub fn commits_are_answered_in_order()
+    ensures { CommitsAreAnsweredInOrder }
 {}
