@@ -1,5 +1,5 @@
 -- The shares of the members under range, one after another.
-use Rattle.std.proofs.Common.{◌≡◌, ◌≢◌, ℕ, zero, suc, ◌<◌, ◌≤◌, ◌+◌, Bool, true, false, cond, not, map, List, [], ◌∷◌, ◌++◌, length, take, drop, get_or, pos, refl, sym, ap, subst, ◌∙◌, arith, Some, None, string_bytes, length-append, append_assoc, replicate}
+use Rattle.std.proofs.Common.{◌≡◌, ◌≢◌, ℕ, zero, suc, ◌<◌, ◌≤◌, ◌+◌, Bool, true, false, cond, not, map, List, [], ◌∷◌, ◌++◌, length, take, drop, get_or, pos, refl, sym, ap, subst, ◌∙◌, arith, Some, None, string_bytes, length-append, append_assoc, replicate, true≢false, inl, inr}
 use Rattle.std.specs.Cmp.{Equal-is}
 use Rattle.std.specs.FinMap as finite
 use Rattle.std.specs.FinMap.{entries, find, get}
@@ -17,17 +17,18 @@ use Rattle.group_types.specs.Topics.{Topic, Topics}
 use Rattle.group_types.specs.Sets.{common, has, in_order, is_nothing, nothing, size}
 use Rattle.group_types.specs.Owners.{IsRange, IsRangeOwner, range_place}
 use Rattle.group_types.proofs.Orders.{partition_cmp-IsAntisymmetric, partition_cmp_total, text_cmp-IsAntisymmetric}
-use Rattle.group_types.proofs.SetLemmas.{common-nothing}
-use Rattle.group_types.specs.Partition.{Partitions}
+use Rattle.group_types.proofs.SetLemmas.{common-nothing, has-nothing, is_nothing-Decides}
+use Rattle.group_types.specs.Partition.{Partitions, partition_cmp}
 use Rattle.group_types.specs.Assignors.{Subscriber, IdsAreApart, subscribers_of}
 use Rattle.topic_meta.specs.declared.view_topic.ViewTopic.{ViewTopic}
 use Rattle.topic_meta.specs.Facts.{AreImageTopics}
 use Rattle.topic_meta.specs.Views.{all_named, named}
 use Rattle.topic_meta.proofs.Places.{get-topic_at, topic_at-ids_apart}
 use Rattle.range_assign.specs.Shares.{AreShares, owned_in, spread_of}
-use Rattle.range_assign.specs.Turns.{AddsDealt, IsDealt, IsGiven, IsInTurn, counts_of, with_dealt}
+use Rattle.range_assign.specs.Turns.{AddsDealt, AreDealt, IsDealt, IsGiven, IsInTurn, IsRangeShare, counts_of, with_dealt}
+use Rattle.range_assign.proofs.Places.{range_place-le}
 use Rattle.range_assign.proofs.Spreads.{IsShare-of, get-spread_of, owner_in-has}
-use Rattle.range_assign.proofs.Turns.{before_all, subscribers_of-next, subscribers_of-whole}
+use Rattle.range_assign.proofs.Turns.{before_all, counts_of-at, subscribers_of-next, subscribers_of-whole}
 
 -- what is true of the topics' places and of the shares once the first n members have theirs
 pub record IsDealing (topics : List ViewTopic) (subs : List Subscriber) (n : ℕ) (places : List ℕ) (shares : List (Text × Partitions)) : Type 0 where
@@ -321,6 +322,57 @@ module _ (topics : List ViewTopic) (subs : List Subscriber) where
     dealing = IsDealing-more topics subs n places new full_so_far.all share full_so_far.dealing moved is_dealt;
     are_full = is ∙ ap (λ list. with_dealt list share) full_so_far.are_full ∙ full-more full_so_far.all share;
   }
+
+  -- ---- once nobody gets a partition any more
+
+  -- a list has no fewer subscribers before a later place
+  subscribers_before : (xs : List Subscriber) (name : Text) (i j : ℕ) → i ≤ j → length (subscribers_of (take i xs) name) ≤ length (subscribers_of (take j xs) name)
+  subscribers_before xs name zero j low = omega arith
+  subscribers_before xs name (suc i) zero low = absurd (omega arith)
+  subscribers_before [] name (suc i) (suc j) low = omega arith
+  subscribers_before (x ∷ xs) name (suc i) (suc j) low =
+      let rest = subscribers_before xs name i j (omega arith) in
+      elim (has x.names name) as (λ b. length (cond b (x ∷ subscribers_of (take i xs) name) (subscribers_of (take i xs) name)) ≤ length (cond b (x ∷ subscribers_of (take j xs) name) (subscribers_of (take j xs) name))) [
+        | true ↦ omega arith
+        | false ↦ rest
+      ]
+
+  pub IsRangeShare-nothing : (counts places : List ℕ) (n at : ℕ) → counts ≡ counts_of topics subs → places ≡ counts_of topics (take n subs) → AreDealt topics counts places → n ≤ at
+      → IsRangeShare topics subs at nothing
+  IsRangeShare-nothing counts places n at counted placed dealt low m here p = (
+    λ there. absurd (true≢false (sym there ∙ has-nothing partition_cmp p)),
+    λ (t, topic, in_topics, is, turn).
+        let name = string_bytes topic.name in
+        let index = turn.index in
+        let all = ap (λ list. get_or list t 0) counted ∙ counts_of-at topics subs t topic is in
+        let before = ap (λ list. get_or list t 0) placed ∙ counts_of-at topics (take n subs) t topic is in
+        let later = subscribers_before subs name n at low in
+        let fewer = before_all subs at m here name turn.subscribes in
+        let place = turn.place in
+        let within = turn.below in
+        let small = range_place-le topic.count (length (subscribers_of subs name)) index in
+        absurd (elim (dealt t topic is) [ inl none_left ↦ omega arith | inr all_had ↦ omega arith ]),
+  )
+
+  pub IsDealingFull-rest : (n d : ℕ) (places : List ℕ) (shares : List (Text × Partitions)) → n + d ≡ length subs → IsDealingFull topics subs n places shares
+      → ((at : ℕ) → n ≤ at → IsRangeShare topics subs at nothing) → IsDealingFull topics subs (length subs) (counts_of topics (take (length subs) subs)) shares
+  IsDealingFull-rest n zero places shares all so_far none =
+      let last : n ≡ length subs = omega arith in
+      subst (λ k. IsDealingFull topics subs k (counts_of topics (take k subs)) shares) last (subst (λ list. IsDealingFull topics subs n list shares) so_far.dealing.placed so_far)
+  IsDealingFull-rest n (suc d) places shares all so_far none =
+      let (m, here) = some_at subs n (omega arith) in
+      let dealt : IsDealt topics subs n (m.id, nothing) = record {
+        same_id = λ other there. ap (λ s. s.id) (same_Some m other (sym here ∙ there));
+        set = none n (omega arith);
+      } in
+      IsDealingFull-rest (n + 1) d (counts_of topics (take (n + 1) subs)) shares (omega arith)
+      (IsDealingFull-more n places (counts_of topics (take (n + 1) subs)) shares shares so_far refl ((m.id, nothing), dealt, sym (ap (λ b. cond b shares (shares ++ (m.id, nothing) ∷ [])) ((is_nothing-Decides nothing).1 refl))))
+      (λ at low. none at (omega arith))
+    where
+      some_at : (xs : List Subscriber) (k : ℕ) → k < length xs → (x : Subscriber) × (slice_get xs k ≡ Some x)
+      some_at [] k low = absurd (omega arith)
+      some_at (x ∷ xs) zero low = (x, refl)
+      some_at (x ∷ xs) (suc k) low = some_at xs k (omega arith)
 
 -- a slice that was written in place of all elements of a `Vec`
 pub written_over : (n : ℕ) (new old : List ℕ) → n ≡ length old → length new ≡ length old → take n (new ++ drop (length new) old) ≡ new

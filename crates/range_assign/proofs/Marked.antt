@@ -1,5 +1,5 @@
 -- Topics in name order, and which of them are among names.
-use Rattle.std.proofs.Common.{◌≡◌, ℕ, zero, suc, ◌<◌, ◌+◌, Bool, true, false, T, ◌&&◌, ◌||◌, List, [], ◌∷◌, length, get_or, replicate, set as set_at, refl, sym, ap, ◌∙◌, arith, inl, inr, Some, Result, Ok, Err, string_bytes, get_or-set_other, get_or-set_same}
+use Rattle.std.proofs.Common.{◌≡◌, ℕ, zero, suc, ◌<◌, ◌+◌, ◌-◌, take, Bool, true, false, T, ◌&&◌, ◌||◌, List, [], ◌∷◌, ◌++◌, length, get_or, replicate, set as set_at, refl, sym, ap, ◌∙◌, arith, inl, inr, Some, Result, Ok, Err, string_bytes, get_or-set_other, get_or-set_same}
 use Rattle.std.specs.declared.cmp.Ordering.{Ordering}
 use Rattle.std.specs.declared.cmp.Ordering.TheVariants.{Less, Equal, Greater}
 use Rattle.std.specs.Cmp.{tied_itself}
@@ -133,6 +133,16 @@ or_true false = refl
 or_false : (b : Bool) → (b || false) ≡ b
 or_false true = refl
 or_false false = refl
+
+-- an empty list that is made longer
+pub made_longer : (n k : ℕ) (old : List Bool) → old ≡ [] → k ≡ length old → take n old ++ replicate (n - k) false ≡ replicate n false
+made_longer n k old none is =
+    let whole : n - k ≡ n = let long = ap length none in omega arith in
+    (λ i. (ap (take n) none ∙ nothing_taken n) i ++ replicate (whole i) false)
+  where
+    nothing_taken : (n : ℕ) → take {A = Bool} n [] ≡ []
+    nothing_taken zero = refl
+    nothing_taken (suc n) = refl
 
 module _ (topics : List ViewTopic) (names : Names) where
   pub AreMarked-none : (marks : List Bool) → marks ≡ replicate (length topics) false → AreMarked topics names marks (in_order names)

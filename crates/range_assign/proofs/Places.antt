@@ -1,6 +1,6 @@
 -- The place of a partition's owner among the subscribers, and the runs of indexes that it makes.
 use Rattle.std.proofs.Common.{◌≡◌, ℕ, zero, suc, ◌+◌, ◌-◌, ◌*◌, ◌/◌, ◌%◌, ◌<◌, ◌≤◌, ◌↔◌, true, false, cond, refl, sym, ap, subst, ◌∙◌, arith, nat_lt, ltb-true, ltb-false, inl, inr}
-use Rattle.std.proofs.Math.Nat.{div-lt_iff_lt-mul, le-div_iff_mul-le, mul-le-mul_right}
+use Rattle.std.proofs.Math.Nat.{div-le_self, div-lt_iff_lt-mul, le-div_iff_mul-le, mul-le-mul_right}
 use Rattle.std.proofs.lemmas.Bool.{cases_lt}
 use Rattle.group_types.specs.Owners.{range_place}
 
@@ -112,6 +112,16 @@ module _ (n k : ℕ) where
       let all : n ≡ (n % k + e) * (n / k) + n % k = parts.0 ∙ ap (λ m. m * (n / k) + n % k) (sym total) in
       let below = place-below (n / k) (n % k) e i (omega arith) (omega arith) in
       omega arith
+
+  pub range_place-le : (i : ℕ) → range_place n k i ≤ i
+  range_place-le i =
+      elim (cases_lt i (n % k * (n / k + 1))) [
+        | inl near ↦ let here = place-longer (n / k) (n % k) i near in let low = div-le_self i (n / k + 1) in omega arith
+        | inr far ↦
+            let here = place-shorter (n / k) (n % k) i far in
+            let low = div-le_self (i - n % k * (n / k + 1)) (n / k) in
+            omega arith
+      ]
 
   pub longer_run_of : (s i : ℕ) → s < n % k → (s * (n / k + 1) ≤ i) × (i < s * (n / k + 1) + n / k + 1) ↔ (range_place n k i ≡ s)
   longer_run_of s i early = longer_run (n / k) (n % k) s i early

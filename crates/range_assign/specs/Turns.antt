@@ -1,5 +1,5 @@
 -- Range, topic by topic and member by member: a member's turn at a topic comes after those of the subscribers before it.
-use Rattle.std.specs.Prelude.{◌≡◌, ◌⊎◌, ◌<◌, ◌≤◌, ◌↔◌, ℕ, pos, if◌then◌else◌, List, [], ◌∷◌, ◌++◌, length, map, take, Some, IsTrue, slice_get, string_bytes}
+use Rattle.std.specs.Prelude.{◌≡◌, ◌⊎◌, ◌<◌, ◌≤◌, ◌↔◌, ℕ, pos, if◌then◌else◌, List, [], ◌∷◌, ◌++◌, length, map, take, Some, IsTrue, slice_get, slice_index, string_bytes}
 use Rattle.group_types.specs.declared.partition.Partition.{Partition}
 use Rattle.group_types.specs.Sets.{has, is_nothing}
 use Rattle.group_types.specs.Text.{Text}
@@ -11,6 +11,11 @@ use Rattle.topic_meta.specs.declared.view_topic.ViewTopic.{ViewTopic}
 -- how many of the members subscribe each topic
 abbrev pub counts_of : List ViewTopic → List Subscriber → List ℕ
 counts_of topics subs = map (λ t. length (subscribers_of subs (string_bytes t.name))) topics
+
+-- of each topic all partitions are dealt, or all subscribers had their turn
+abbrev pub AreDealt : List ViewTopic → List ℕ → List ℕ → Type 0
+AreDealt topics counts places =
+    (t : ℕ) (topic : ViewTopic) → slice_get topics t ≡ Some topic → (topic.count ≤ slice_index places t) ⊎ (slice_index counts t ≤ slice_index places t)
 
 -- the partition is one of the topic, with an index from the first to before the end
 abbrev pub IsInRun : List ℕ → ℕ → ℕ → Partition → Type 0

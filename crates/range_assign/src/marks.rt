@@ -1,6 +1,6 @@
 //! Which topics a member subscribes, found without a search for each topic.
 
-ghost use Rattle.std.specs.Prelude.{◌≡◌, IfOk};
+ghost use Rattle.std.specs.Prelude.{◌≡◌, [], IfOk, OnOk};
 ghost use Rattle.std.specs.Bool.{OnTrue};
 ghost use Rattle.range_assign.specs.Marks.{IsNamedAt, IsPlaceNamed, NamesRise, marks_in};
 
@@ -19,39 +19,55 @@ pub fn marks_of(
     requires { NamesRise topics.now }
     ensures { IfOk result (λ marks. marks.items ≡ marks_in topics.now names.now) }
 {
-    if topics.len() < names.len() / 16 {
-        marks_by_topics(alloc, topics, names)
-    } else {
-        marks_by_names(alloc, topics, names)
-    }
-}
-
-/// For each of the topics whether its name is among the names, by a look-up of each topic.
-fn marks_by_topics(
-    alloc: Global,
-    topics: &[ViewTopic],
-    names: &NameSet,
-) -> Result<Vec<bool>, AllocError>
-    ensures { IfOk result (λ marks. marks.items ≡ marks_in topics.now names.now) }
-{
-    let mut marks = Vec::with_capacity(alloc, topics.len())?;
-    for topic in topics {
-        marks.push(names.contains(topic.name.as_str()))?;
-    }
+    let mut marks = Vec::new(alloc);
+    mark(topics, names, &mut marks)?;
     Ok(marks)
 }
 
-/// For each of the topics whether its name is among the names, by a walk over the names: a topic's place is looked for behind that
-/// of the topic found before it, so the time grows with the names, and for the topics it hardly grows.
-fn marks_by_names(
-    alloc: Global,
+/// Puts the marks, as [`marks_of`] tells them, in place of those that are there: for several members they take memory once.
+pub(crate) fn mark(
     topics: &[ViewTopic],
     names: &NameSet,
-) -> Result<Vec<bool>, AllocError>
+    marks: &mut Vec<bool>,
+) -> Result<(), AllocError>
     requires { NamesRise topics.now }
-    ensures { IfOk result (λ marks. marks.items ≡ marks_in topics.now names.now) }
+    ensures { OnOk result (marks.new.items ≡ marks_in topics.now names.now) }
 {
-    let mut marks = vec![in alloc; false; topics.len()]?;
+    marks.clear();
+    if topics.len() < names.len() / 16 {
+        mark_by_topics(topics, names, marks)
+    } else {
+        mark_by_names(topics, names, marks)
+    }
+}
+
+/// Adds for each of the topics whether its name is among the names, by a look-up of each topic.
+fn mark_by_topics(
+    topics: &[ViewTopic],
+    names: &NameSet,
+    marks: &mut Vec<bool>,
+) -> Result<(), AllocError>
+    requires { marks.old.items ≡ [] }
+    ensures { OnOk result (marks.new.items ≡ marks_in topics.now names.now) }
+{
+    for topic in topics {
+        marks.push(names.contains(topic.name.as_str()))?;
+    }
+    Ok(())
+}
+
+/// Adds for each of the topics whether its name is among the names, by a walk over the names: a topic's place is looked for behind
+/// that of the topic found before it, so the time grows with the names, and for the topics it hardly grows.
+fn mark_by_names(
+    topics: &[ViewTopic],
+    names: &NameSet,
+    marks: &mut Vec<bool>,
+) -> Result<(), AllocError>
+    requires none { marks.old.items ≡ [] }
+    requires rise { NamesRise topics.now }
+    ensures { OnOk result (marks.new.items ≡ marks_in topics.now names.now) }
+{
+    marks.resize(topics.len(), false)?;
     let mut near = 0;
     for name in names.iter() {
         if let Some(place) = place_named(topics, name.as_str(), near) {
@@ -59,7 +75,7 @@ fn marks_by_names(
             near = place.saturating_add(1);
         }
     }
-    Ok(marks)
+    Ok(())
 }
 
 /// The place of the topic with this name, if there is one. It is found without a search where it is `near` or the next.

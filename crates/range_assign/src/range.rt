@@ -1,16 +1,17 @@
 //! The assignor `range`.
 
 ghost use Rattle.std.specs.Prelude.{◌≡◌, ◌<◌, ◌≤◌, ◌+◌, ◌^◌, ◌↔◌, ℕ, false, if◌then◌else◌, length, slice_index, slice_index_or, take, All, IfOk, OnOk};
+ghost use Rattle.std.specs.Bool.{OnTrue};
 ghost use Rattle.group_types.specs.declared.partition.Partition.{Partition as Key};
 ghost use Rattle.group_types.specs.Owners.{IsLawful, IsRange, range_place};
 ghost use Rattle.group_types.specs.Sets.{of_list};
 ghost use Rattle.range_assign.specs.Marks.{NamesRise};
 ghost use Rattle.range_assign.specs.Members.{subscribers_in};
 ghost use Rattle.range_assign.specs.Shares.{shares_in};
-ghost use Rattle.range_assign.specs.Turns.{AddsDealt, AddsRun, IsRangeShare, counts_of, with_dealt};
+ghost use Rattle.range_assign.specs.Turns.{AddsDealt, AddsRun, AreDealt, IsRangeShare, counts_of, with_dealt};
 
 use crate::assignor::Assignor;
-use crate::marks::marks_of;
+use crate::marks::{mark, marks_of};
 use crate::spread::{Share, Spread};
 use crate::subs::{Subs, Subscriber};
 use group_types::{MemberId, PartSet, Partition};
@@ -39,7 +40,8 @@ impl Assignor for Range {
         let counts = subscriber_counts(alloc, topics, members)?;
         let mut places = vec![in alloc; 0; topics.len()]?;
         let mut shares = Vec::new(alloc);
-        for at in 0..members.len() {
+        let mut at = 0;
+        while at < members.len() && !are_dealt(topics, &counts, &places) {
             deal(
                 alloc,
                 members,
@@ -49,6 +51,7 @@ impl Assignor for Range {
                 &mut places,
                 &mut shares,
             )?;
+            at += 1;
         }
         Ok(Spread::of(shares))
     }
@@ -64,8 +67,9 @@ fn subscriber_counts(
     ensures { IfOk result (λ counts. counts.items ≡ counts_of topics.now (subscribers_in members.now)) }
 {
     let mut counts = vec![in alloc; 0; topics.len()]?;
+    let mut marks = Vec::new(alloc);
     for member in members {
-        let marks = marks_of(alloc, topics, member.names)?;
+        mark(topics, member.names, &mut marks)?;
         count_marks(&mut counts, &marks, members.len());
     }
     Ok(counts)
@@ -84,6 +88,20 @@ fn count_marks(counts: &mut Vec<usize>, marks: &[bool], most: usize)
             counts[t] += 1;
         }
     }
+}
+
+/// Whether nobody from here on gets a partition: of each topic, all partitions are dealt or all subscribers had their turn.
+fn are_dealt(topics: &[ViewTopic], counts: &[usize], places: &[usize]) -> bool
+    requires counted { length counts.now ≡ length topics.now }
+    requires placed { length places.now ≡ length topics.now }
+    ensures { OnTrue result (AreDealt topics.now counts.now places.now) }
+{
+    for (t, topic) in topics.iter().enumerate() {
+        if places[t] < counts[t] && places[t] < topic.count as usize {
+            return false;
+        }
+    }
+    true
 }
 
 /// Adds the share of the member at a place among the members, where that has a partition. The topics' places go on as in

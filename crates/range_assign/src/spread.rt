@@ -129,6 +129,7 @@ impl Spread {
         ensures { self.new ≡ without_owner self.old id.now }
     {
         let _ = take_share(&mut self.shares, id);
+        give_back(&mut self.shares);
     }
 
     /// Gives the partitions of the old id to the new one, which owns none. Takes no memory.
@@ -140,6 +141,15 @@ impl Spread {
         if let Some(set) = take_share(&mut self.shares, old) {
             put_share(&mut self.shares, Share { id: new, set });
         }
+    }
+}
+
+/// Gives back the room of the shares where none is left. Takes no memory.
+fn give_back(shares: &mut Vec<Share>)
+    ensures { shares.new.items ≡ shares.old.items }
+{
+    if shares.is_empty() {
+        shares.shrink_to_fit();
     }
 }
 

@@ -32,7 +32,6 @@ pub mod Ranked
 pub mod Queued
 pub mod Located
 pub mod Staying
-pub mod Turned
 pub mod Choices
 pub mod Keeping
 pub mod Filling

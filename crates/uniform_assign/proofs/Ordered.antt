@@ -6,9 +6,9 @@ use Rattle.std.proofs.lemmas.List.{length_push, length-map}
 use Rattle.std.proofs.lemmas.List.Sums.{sum_by-set}
 use Rattle.std.proofs.lemmas.Option.{get_or_from_slice_get, same_Some, slice_get_within}
 use Rattle.uniform_assign.specs.declared.order.Order.{Order}
-use Rattle.uniform_assign.specs.declared.ranking.Rank.{Rank}
+use Rattle.uniform_assign.specs.declared.count_set.Rank.{Rank}
 use Rattle.uniform_assign.specs.Orders.{AreLacks, AreShown, IsGreatestAt, IsOrder}
-use Rattle.uniform_assign.specs.Rankings.{IsFirstRank, counts_of}
+use Rattle.uniform_assign.specs.CountSets.{IsFirstRank, counts_of}
 use Rattle.uniform_assign.proofs.Counts.{cases_equal}
 use Rattle.uniform_assign.proofs.Lists.{pushed_at, slice_get-append_cases, slice_get-append_left, slice_get-map_at}
 
@@ -71,11 +71,8 @@ module _ (most : ℕ) (counts : List ℕ) where
 -- ---- a count is written
 
 -- the order has room for each member
-pub order-room : (counts : List ℕ) (order : Order) (m : ℕ) → IsOrder counts order → m < length counts → m + m + 1 < length order.lacks.nodes.items
-order-room counts order m (lacks, are, ranked) within =
-    let twice = ranked.are_ranks.as_many in
-    let many = are.as_many in
-    omega arith
+pub order-room : (counts : List ℕ) (order : Order) (m : ℕ) → IsOrder counts order → m < length counts → m < length order.lacks
+order-room counts order m are within = let many = are.as_many in omega arith
 
 pub AreLacks-set : (most : ℕ) (counts lacks : List ℕ) (m count : ℕ) → AreLacks most counts lacks → m < length counts → count ≤ most → AreLacks most (set_at counts m count) (set_at lacks m (most - count))
 AreLacks-set most counts lacks m count are within few =

@@ -10,14 +10,11 @@ use Rattle.group_types.specs.Sets.{has}
 use Rattle.uniform_assign.specs.declared.board.Board.{Board}
 use Rattle.uniform_assign.specs.declared.board.Place.{Place}
 use Rattle.uniform_assign.specs.declared.draft.Draft.{Draft}
-use Rattle.uniform_assign.specs.declared.ranking.Rank.{Rank}
-use Rattle.uniform_assign.specs.declared.ranking.Ranking.{Ranking}
+use Rattle.uniform_assign.specs.declared.count_set.Rank.{Rank}
 use Rattle.uniform_assign.specs.Boards.{AreTakersOf, IsBoard, IsOfClass, Rises, members_on}
 use Rattle.uniform_assign.specs.Drafts.{AreCounts, IsDraft, IsLeast}
 use Rattle.uniform_assign.specs.declared.seats.Seat.{Seat}
-use Rattle.uniform_assign.specs.declared.wheel.Wheel.{Wheel}
-use Rattle.uniform_assign.specs.Wheels.{IsWheel, IsWheelOf}
-use Rattle.uniform_assign.specs.Rankings.{AreRankings, IsFirstRank, IsLeastAt, IsRanking, counts_of}
+use Rattle.uniform_assign.specs.CountSets.{AreCountSets, IsFirstRank, IsSetOf, IsLeastAt, counts_of}
 use Rattle.uniform_assign.specs.Seats.{AreSeatsOf}
 use Rattle.uniform_assign.proofs.Boards.{IsAt, at_place, least-within, taker_here, taker_within}
 use Rattle.uniform_assign.proofs.Counts.{AreCounts-given, cases_equal}
@@ -32,7 +29,7 @@ AreOnce-takers subs name takers apart are i j t is_i is_j =
     let same : m ≡ n = same_Some m n (sym is_m ∙ is_n) in
     AreOnce-filter (λ s. has s.names name) subs (λ k l s one other. apart k l s s one other refl) i j m here (there ∙ ap Some (sym same))
 
--- the first of the ranking is the taker that owns the fewest
+-- the first of the set is the taker that owns the fewest
 pub IsLeast-ranked : (counts takers : List ℕ) (k m : ℕ) → IsLeastAt (counts_of counts takers) k → slice_get takers k ≡ Some m → IsLeast counts takers m
 IsLeast-ranked counts takers k m least is_m =
     let value = λ (j t : ℕ) (is_t : slice_get takers j ≡ Some t). get_or_from_slice_get (counts_of counts takers) j (get_or counts t 0) 0 (slice_get-map_at (λ u. get_or counts u 0) takers j t is_t) in
@@ -45,16 +42,6 @@ IsLeast-ranked counts takers k m least is_m =
       first = λ j t early is_t. let his = value j t is_t in let few = least.first j early in omega arith;
     }
 
--- a ranking is one of counts that are the same
-pub IsRanking-same : (old new : List ℕ) (nodes : List Rank) → length new ≡ length old → ((k n : ℕ) → slice_get new k ≡ Some n → slice_get old k ≡ Some n) → IsRanking old nodes → IsRanking new nodes
-IsRanking-same old new nodes long same is = record {
-  are_ranks = record {
-    as_many = let many = is.are_ranks.as_many in omega arith;
-    ranks = λ k n is_n. ap (λ l. slice_get nodes (l + k)) long ∙ is.are_ranks.ranks k n (same k n is_n);
-  };
-  matches = λ i positive within. is.matches i positive (omega arith);
-}
-
 -- two lists that have the same are one
 same_lists : (old new : List ℕ) → length new ≡ length old → ((k n : ℕ) → slice_get new k ≡ Some n → slice_get old k ≡ Some n) → old ≡ new
 same_lists [] [] long same = refl
@@ -65,9 +52,27 @@ same_lists (x ∷ xs) (y ∷ ys) long same =
     let tail = same_lists xs ys (omega arith) (λ k. same (suc k)) in
     λ i. head i ∷ tail i
 
--- a wheel is one of counts that are the same
-IsWheel-same : (old new : List ℕ) (wheel : Wheel) → length new ≡ length old → ((k n : ℕ) → slice_get new k ≡ Some n → slice_get old k ≡ Some n) → IsWheel old wheel → IsWheel new wheel
-IsWheel-same old new wheel long same is = subst (λ counts. IsWheel counts wheel) (same_lists old new long same) is
+-- the count of the taker at a place is written, and the others' stay
+counts_of-written : (counts new takers : List ℕ) (k m : ℕ) → AreOnce takers → slice_get takers k ≡ Some m → ((j t : ℕ) → slice_get takers j ≡ Some t → (t ≡ m → ⊥) → get_or new t 0 ≡ get_or counts t 0)
+    → set_at (counts_of counts takers) k (get_or new m 0) ≡ counts_of new takers
+counts_of-written counts new takers k m once is_m stay =
+    let long = length-map takers (λ t. get_or new t 0) in
+    let old_long = length-map takers (λ t. get_or counts t 0) in
+    let set_long = length-set (counts_of counts takers) k (get_or new m 0) in
+    let here = slice_get_within takers k m is_m in
+    same_lists (set_at (counts_of counts takers) k (get_or new m 0)) (counts_of new takers) (omega arith) (λ j n is_n.
+    let (t, is_t, same) = slice_get-map_from (λ t. get_or new t 0) takers j n is_n in
+    elim (cases_equal j k) [
+      | inl equal ↦
+          let taker : t ≡ m = same_Some t m (sym is_t ∙ ap (slice_get takers) equal ∙ is_m) in
+          ap (slice_get (set_at (counts_of counts takers) k (get_or new m 0))) equal
+          ∙ slice_get-set_same (counts_of counts takers) k (get_or new m 0) (omega arith)
+          ∙ ap Some (ap (λ u. get_or new u 0) (sym taker) ∙ same)
+      | inr apart ↦
+          slice_get-set_other (counts_of counts takers) k j (get_or new m 0) apart
+          ∙ slice_get-map_at (λ u. get_or counts u 0) takers j t is_t
+          ∙ ap Some (sym (stay j t is_t (λ taker. apart (once j k m (is_t ∙ ap Some taker) is_m))) ∙ same)
+    ])
 
 -- the counts of the same owners are the same
 same_counts : (owners : List (Option ℕ)) (one other : List ℕ) (m : ℕ) → AreCounts owners one → AreCounts owners other → m < length one → m < length other → get_or one m 0 ≡ get_or other m 0
@@ -82,74 +87,48 @@ module _ (owners : List (Option ℕ)) (counts new takers : List ℕ) (at k m : �
       same_counts (set_at owners at (Some m)) new (set_at counts m (get_or counts m 0 + 1)) t after (AreCounts-given owners counts at m are free low) (omega arith) (omega arith)
       ∙ get_or-set_other counts m t (get_or counts m 0 + 1) 0 apart
 
-  pub IsWheel-given : (wheel : Wheel) → AreOnce takers → ((j t : ℕ) → slice_get takers j ≡ Some t → t < length counts) → slice_get takers k ≡ Some m
-      → IsWheel (set_at (counts_of counts takers) k (get_or new m 0)) wheel → IsWheel (counts_of new takers) wheel
-  IsWheel-given wheel once within is_m is =
-      let long = length-map takers (λ t. get_or new t 0) in
-      let old_long = length-map takers (λ t. get_or counts t 0) in
-      let set_long = length-set (counts_of counts takers) k (get_or new m 0) in
-      let here = slice_get_within takers k m is_m in
-      IsWheel-same (set_at (counts_of counts takers) k (get_or new m 0)) (counts_of new takers) wheel (omega arith) (λ j n is_n.
-      let (t, is_t, same) = slice_get-map_from (λ t. get_or new t 0) takers j n is_n in
-      elim (cases_equal j k) [
-        | inl equal ↦
-            let taker : t ≡ m = same_Some t m (sym is_t ∙ ap (slice_get takers) equal ∙ is_m) in
-            ap (slice_get (set_at (counts_of counts takers) k (get_or new m 0))) equal
-            ∙ slice_get-set_same (counts_of counts takers) k (get_or new m 0) (omega arith)
-            ∙ ap Some (ap (λ u. get_or new u 0) (sym taker) ∙ same)
-        | inr apart ↦
-            let other : t ≡ m → ⊥ = λ taker. apart (once j k m (is_t ∙ ap Some taker) is_m) in
-            slice_get-set_other (counts_of counts takers) k j (get_or new m 0) apart
-            ∙ slice_get-map_at (λ u. get_or counts u 0) takers j t is_t
-            ∙ ap Some (sym (others_stay t other (within j t is_t)) ∙ same)
-      ])
-      is
-
-  -- the taker has one more
-  pub more_given : get_or new m 0 ≡ get_or counts m 0 + 1
-  more_given =
-      let long = length-set counts m (get_or counts m 0 + 1) in
-      same_counts (set_at owners at (Some m)) new (set_at counts m (get_or counts m 0 + 1)) m after (AreCounts-given owners counts at m are free low) (omega arith) (omega arith)
-      ∙ get_or-set_same counts m (get_or counts m 0 + 1) 0 low
+  pub counts_of-given : AreOnce takers → ((j t : ℕ) → slice_get takers j ≡ Some t → t < length counts) → slice_get takers k ≡ Some m
+      → set_at (counts_of counts takers) k (get_or new m 0) ≡ counts_of new takers
+  counts_of-given once within is_m = counts_of-written counts new takers k m once is_m (λ j t is_t other. others_stay t other (within j t is_t))
 
 -- ---- the queue of a partition's class
 
--- the takers of the partition's class, whose queue it is
-pub record IsQueued (board : Board) (draft : Draft) (at class : ℕ) (wheel : Wheel) : Type 0 where
+-- the takers of the partition's class, whose set it is
+pub record IsQueued (board : Board) (draft : Draft) (at class : ℕ) (set : List ℕ) : Type 0 where
   pub place : Place
   pub is_at : IsAt board at place
   pub are_takers : slice_get board.takers.items class ≡ Some is_at.takers
-  pub wheel_of : IsWheel (counts_of draft.counts.items is_at.takers.items) wheel
+  pub set_of : set ≡ counts_of draft.counts.items is_at.takers.items
 
-pub IsQueued-of : (board : Board) (draft : Draft) (at class : ℕ) (wheel : Wheel) → IsBoard board → IsOfClass board at class → IsWheelOf board draft class wheel → IsQueued board draft at class wheel
-IsQueued-of board draft at class wheel is (place, is_place, is_class) of =
+pub IsQueued-of : (board : Board) (draft : Draft) (at class : ℕ) (set : List ℕ) → IsBoard board → IsOfClass board at class → IsSetOf board draft class set → IsQueued board draft at class set
+IsQueued-of board draft at class set is (place, is_place, is_class) of =
     let here = at_place board is at place is_place in
     let are = ap (slice_get board.takers.items) (same_Some class here.class (sym is_class ∙ here.is_class)) ∙ here.are_there in
-    record { place = place; is_at = here; are_takers = are; wheel_of = of here.takers are }
+    record { place = place; is_at = here; are_takers = are; set_of = of here.takers are }
 
 -- the first in the queue
-pub record IsFirstIn (board : Board) (draft : Draft) (at class : ℕ) (wheel : Wheel) (k m : ℕ) : Type 0 where
-  pub queued : IsQueued board draft at class wheel
+pub record IsFirstIn (board : Board) (draft : Draft) (at class : ℕ) (set : List ℕ) (k m : ℕ) : Type 0 where
+  pub queued : IsQueued board draft at class set
   pub is_taker : slice_get queued.is_at.takers.items k ≡ Some m
   pub least : IsLeast draft.counts.items queued.is_at.takers.items m
   pub member : Subscriber
   pub is_member : slice_get (members_on board) m ≡ Some member
   pub within : m < length draft.counts.items
-  pub room : k < length wheel.counts.items
+  pub room : k < length set
 
-pub first-within : (board : Board) (draft : Draft) (at class k : ℕ) (wheel : Wheel) → (queued : IsQueued board draft at class wheel) → IsLeastAt (counts_of draft.counts.items queued.is_at.takers.items) k → k < length queued.is_at.takers.items
-first-within board draft at class k wheel queued least =
+pub first-within : (board : Board) (draft : Draft) (at class k : ℕ) (set : List ℕ) → (queued : IsQueued board draft at class set) → IsLeastAt (counts_of draft.counts.items queued.is_at.takers.items) k → k < length queued.is_at.takers.items
+first-within board draft at class k set queued least =
     let long = length-map queued.is_at.takers.items (λ u. get_or draft.counts.items u 0) in let low = least.within in omega arith
 
-pub IsFirstIn-of : (board : Board) (draft : Draft) (at class k m : ℕ) (wheel : Wheel) → IsDraft board draft → (queued : IsQueued board draft at class wheel) → IsLeastAt (counts_of draft.counts.items queued.is_at.takers.items) k
-    → slice_get queued.is_at.takers.items k ≡ Some m → IsFirstIn board draft at class wheel k m
-IsFirstIn-of board draft at class k m wheel are queued least is_m =
+pub IsFirstIn-of : (board : Board) (draft : Draft) (at class k m : ℕ) (set : List ℕ) → IsDraft board draft → (queued : IsQueued board draft at class set) → IsLeastAt (counts_of draft.counts.items queued.is_at.takers.items) k
+    → slice_get queued.is_at.takers.items k ≡ Some m → IsFirstIn board draft at class set k m
+IsFirstIn-of board draft at class k m set are queued least is_m =
     let takers = queued.is_at.takers.items in
     let is_least = IsLeast-ranked draft.counts.items takers k m least is_m in
     let (s, is_s) = least-within (members_on board) queued.is_at.topic.0 draft.counts.items takers m queued.is_at.are_takers is_least in
     let low = slice_get_within (members_on board) m s is_s in
     let many = are.as_many_counts in
-    let many_counts = ap length queued.wheel_of.same in
+    let shown = ap length queued.set_of in
     let inside = least.within in
     record { queued = queued; is_taker = is_m; least = is_least; member = s; is_member = is_s; within = omega arith; room = omega arith }
 
@@ -164,106 +143,81 @@ AreOnce-rises xs rise i j x is_i is_j = elim (cases_order i j) [
   ]
 ]
 
--- the count of a member was written that is at a place among the takers, or isn't there
-pub IsRanking-written : (counts takers : List ℕ) (member count k : ℕ) (nodes : List Rank) → AreOnce takers → slice_get takers k ≡ Some member → member < length counts
-    → IsRanking (set_at (counts_of counts takers) k count) nodes → IsRanking (counts_of (set_at counts member count) takers) nodes
-IsRanking-written counts takers member count k nodes once is_member low is =
+-- the count of a member was written that is at a place among the takers
+counts_of-set : (counts takers : List ℕ) (member count k : ℕ) → AreOnce takers → slice_get takers k ≡ Some member → member < length counts
+    → set_at (counts_of counts takers) k count ≡ counts_of (set_at counts member count) takers
+counts_of-set counts takers member count k once is_member low =
     let new = set_at counts member count in
-    let long = length-map takers (λ t. get_or new t 0) in
-    let old_long = length-map takers (λ t. get_or counts t 0) in
-    let set_long = length-set (counts_of counts takers) k count in
-    let inside = slice_get_within takers k member is_member in
-    IsRanking-same (set_at (counts_of counts takers) k count) (counts_of new takers) nodes (omega arith) (λ j n is_n.
-    let (t, is_t, same) = slice_get-map_from (λ t. get_or new t 0) takers j n is_n in
-    elim (cases_equal j k) [
-      | inl equal ↦
-          let taker : t ≡ member = same_Some t member (sym is_t ∙ ap (slice_get takers) equal ∙ is_member) in
-          ap (slice_get (set_at (counts_of counts takers) k count)) equal
-          ∙ slice_get-set_same (counts_of counts takers) k count (omega arith)
-          ∙ ap Some (sym (get_or-set_same counts member count 0 low) ∙ ap (λ u. get_or new u 0) (sym taker) ∙ same)
-      | inr apart ↦
-          let other : t ≡ member → ⊥ = λ taker. apart (once j k member (is_t ∙ ap Some taker) is_member) in
-          slice_get-set_other (counts_of counts takers) k j count apart
-          ∙ slice_get-map_at (λ u. get_or counts u 0) takers j t is_t
-          ∙ ap Some (sym (get_or-set_other counts member t count 0 other) ∙ same)
-    ])
-    is
+    ap (set_at (counts_of counts takers) k) (sym (get_or-set_same counts member count 0 low))
+    ∙ counts_of-written counts new takers k member once is_member (λ j t is_t other. get_or-set_other counts member t count 0 other)
 
-pub IsRanking-unwritten : (counts takers : List ℕ) (member count : ℕ) (nodes : List Rank) → ((k : ℕ) → slice_get takers k ≡ Some member → ⊥)
-    → IsRanking (counts_of counts takers) nodes → IsRanking (counts_of (set_at counts member count) takers) nodes
-IsRanking-unwritten counts takers member count nodes away is =
+-- or isn't there
+counts_of-unset : (counts takers : List ℕ) (member count : ℕ) → ((k : ℕ) → slice_get takers k ≡ Some member → ⊥) → counts_of counts takers ≡ counts_of (set_at counts member count) takers
+counts_of-unset counts takers member count away =
     let new = set_at counts member count in
     let long = length-map takers (λ t. get_or new t 0) in
     let old_long = length-map takers (λ t. get_or counts t 0) in
-    IsRanking-same (counts_of counts takers) (counts_of new takers) nodes (omega arith) (λ j n is_n.
+    same_lists (counts_of counts takers) (counts_of new takers) (omega arith) (λ j n is_n.
     let (t, is_t, same) = slice_get-map_from (λ t. get_or new t 0) takers j n is_n in
     slice_get-map_at (λ u. get_or counts u 0) takers j t is_t
     ∙ ap Some (sym (get_or-set_other counts member t count 0 (λ taker. away j (is_t ∙ ap Some taker))) ∙ same))
-    is
 
--- the ranking has the new count of the member
-abbrev IsRenewed : Board → List Ranking → List Ranking → ℕ → ℕ → ℕ → Type 0
+-- the set has the new count of the member
+abbrev IsRenewed : Board → List (List ℕ) → List (List ℕ) → ℕ → ℕ → ℕ → Type 0
 IsRenewed board old new member count class =
-    (counts : List ℕ) (takers : Vec ℕ) (ranking : Ranking) → member < length counts → AreRankings board counts old → slice_get board.takers.items class ≡ Some takers → slice_get new class ≡ Some ranking
-    → IsRanking (counts_of (set_at counts member count) takers.items) ranking.nodes.items
+    (counts : List ℕ) (takers : Vec ℕ) (set : List ℕ) → member < length counts → AreCountSets board counts old → slice_get board.takers.items class ≡ Some takers → slice_get new class ≡ Some set
+    → set ≡ counts_of (set_at counts member count) takers.items
 
 -- the classes of the first n places have the new count of the member, and each other class has it or is as it was
-pub record AreRenewed (board : Board) (old new : List Ranking) (seats : List Seat) (member count n : ℕ) : Type 0 where
+pub record AreRenewed (board : Board) (old new : List (List ℕ)) (seats : List Seat) (member count n : ℕ) : Type 0 where
   pub as_many : length new ≡ length old
   pub either : (c : ℕ) → (slice_get new c ≡ slice_get old c) ⊎ IsRenewed board old new member count c
   pub renewed : (i : ℕ) (seat : Seat) → i < n → slice_get seats i ≡ Some seat → IsRenewed board old new member count seat.class
 
-pub AreRenewed-none : (board : Board) (old : List Ranking) (seats : List Seat) (member count : ℕ) → AreRenewed board old old seats member count 0
+pub AreRenewed-none : (board : Board) (old : List (List ℕ)) (seats : List Seat) (member count : ℕ) → AreRenewed board old old seats member count 0
 AreRenewed-none board old seats member count = record { as_many = refl; either = λ c. inl refl; renewed = λ i seat early. absurd (omega arith) }
 
--- how many nodes the ranking of a class has while counts are written
-pub nodes-renewed : (board : Board) (old new : List Ranking) (seats : List Seat) (member count n : ℕ) → AreRenewed board old new seats member count n → (counts : List ℕ) → member < length counts → AreRankings board counts old
-    → (class : ℕ) (takers : Vec ℕ) (ranking : Ranking) → slice_get board.takers.items class ≡ Some takers → slice_get new class ≡ Some ranking → length ranking.nodes.items ≡ length takers.items + length takers.items
-nodes-renewed board old new seats member count n done counts within are class takers ranking is_takers is_ranking = elim (done.either class) [
-  | inl same ↦
-      let many = (are.each class takers ranking is_takers (sym same ∙ is_ranking)).are_ranks.as_many in
-      let long = length-map takers.items (λ t. get_or counts t 0) in
-      omega arith
-  | inr renewed ↦
-      let many = (renewed counts takers ranking within are is_takers is_ranking).are_ranks.as_many in
-      let long = length-map takers.items (λ t. get_or (set_at counts member count) t 0) in
-      omega arith
+-- how many places the set of a class has while counts are written
+pub length-renewed : (board : Board) (old new : List (List ℕ)) (seats : List Seat) (member count n : ℕ) → AreRenewed board old new seats member count n → (counts : List ℕ) → member < length counts → AreCountSets board counts old
+    → (class : ℕ) (takers : Vec ℕ) (set : List ℕ) → slice_get board.takers.items class ≡ Some takers → slice_get new class ≡ Some set → length set ≡ length takers.items
+length-renewed board old new seats member count n done counts within are class takers set is_takers is_set = elim (done.either class) [
+  | inl same ↦ ap length (are.each class takers set is_takers (sym same ∙ is_set)) ∙ length-map takers.items (λ t. get_or counts t 0)
+  | inr renewed ↦ ap length (renewed counts takers set within are is_takers is_set) ∙ length-map takers.items (λ t. get_or (set_at counts member count) t 0)
 ]
 
 -- the count is written in one class more
-module _ (board : Board) (old new : List Ranking) (seats : List Seat) (member count n : ℕ) (before : AreRenewed board old new seats member count n) (is_board : IsBoard board)
+module _ (board : Board) (old new : List (List ℕ)) (seats : List Seat) (member count n : ℕ) (before : AreRenewed board old new seats member count n) (is_board : IsBoard board)
     (seat : Seat) (is_seat : slice_get seats n ≡ Some seat) (takers : Vec ℕ) (is_takers : slice_get board.takers.items seat.class ≡ Some takers) (is_member : slice_get takers.items seat.place ≡ Some member)
-    (was now : Ranking) (is_was : slice_get new seat.class ≡ Some was) (sets : (counts : List ℕ) → IsRanking counts was.nodes.items → IsRanking (set_at counts seat.place count) now.nodes.items) where
-  abbrev after : List Ranking
+    (was now : List ℕ) (is_was : slice_get new seat.class ≡ Some was) (writes : now ≡ set_at was seat.place count) where
+  abbrev after : List (List ℕ)
   after = set_at new seat.class now
 
   once : AreOnce takers.items
   once = AreOnce-rises takers.items (is_board.rise seat.class takers is_takers)
 
-  -- the ranking that was written
-  written : (counts : List ℕ) → member < length counts → AreRankings board counts old → IsRanking (counts_of (set_at counts member count) takers.items) now.nodes.items
+  -- the set that was written
+  written : (counts : List ℕ) → member < length counts → AreCountSets board counts old → now ≡ counts_of (set_at counts member count) takers.items
   written counts within are = elim (before.either seat.class) [
     | inl same ↦
-        IsRanking-written counts takers.items member count seat.place now.nodes.items once is_member within
-        (sets (counts_of counts takers.items) (are.each seat.class takers was is_takers (sym same ∙ is_was)))
+        writes ∙ ap (λ xs. set_at xs seat.place count) (are.each seat.class takers was is_takers (sym same ∙ is_was))
+        ∙ counts_of-set counts takers.items member count seat.place once is_member within
     | inr renewed ↦
         let twice = set_at counts member count in
         let long = length-set counts member count in
-        subst (λ (xs : List ℕ). IsRanking (counts_of xs takers.items) now.nodes.items) (set-set counts member count count)
-        (IsRanking-written twice takers.items member count seat.place now.nodes.items once is_member (omega arith)
-        (sets (counts_of twice takers.items) (renewed counts takers was within are is_takers is_was)))
+        writes ∙ ap (λ xs. set_at xs seat.place count) (renewed counts takers was within are is_takers is_was)
+        ∙ counts_of-set twice takers.items member count seat.place once is_member (omega arith)
+        ∙ ap (λ xs. counts_of xs takers.items) (set-set counts member count count)
   ]
 
   here : (class : ℕ) → class ≡ seat.class → IsRenewed board old after member count class
-  here class same counts others ranking within are is_others is_ranking =
+  here class same counts others set within are is_others is_set =
       let taken : takers ≡ others = same_Some takers others (sym is_takers ∙ ap (slice_get board.takers.items) (sym same) ∙ is_others) in
-      let put : now ≡ ranking = same_Some now ranking (sym (slice_get-set_same new seat.class now (slice_get_within new seat.class was is_was)) ∙ ap (slice_get after) (sym same) ∙ is_ranking) in
-      subst (λ (v : Vec ℕ). IsRanking (counts_of (set_at counts member count) v.items) ranking.nodes.items) taken
-      (subst (λ (r : Ranking). IsRanking (counts_of (set_at counts member count) takers.items) r.nodes.items) put (written counts within are))
+      let put : now ≡ set = same_Some now set (sym (slice_get-set_same new seat.class now (slice_get_within new seat.class was is_was)) ∙ ap (slice_get after) (sym same) ∙ is_set) in
+      sym put ∙ written counts within are ∙ ap (λ (v : Vec ℕ). counts_of (set_at counts member count) v.items) taken
 
   there : (class : ℕ) → (class ≡ seat.class → ⊥) → IsRenewed board old new member count class → IsRenewed board old after member count class
-  there class apart renewed counts others ranking within are is_others is_ranking =
-      renewed counts others ranking within are is_others (sym (slice_get-set_other new seat.class class now apart) ∙ is_ranking)
+  there class apart renewed counts others set within are is_others is_set =
+      renewed counts others set within are is_others (sym (slice_get-set_other new seat.class class now apart) ∙ is_set)
 
   pub AreRenewed-more : AreRenewed board old (set_at new seat.class now) seats member count (n + 1)
   AreRenewed-more = record {
@@ -305,58 +259,58 @@ is_among (x ∷ xs) m = elim (cases_equal x m) [
     neither apart away zero is = apart (same_Some x m is)
     neither apart away (suc k) is = away k is
 
-pub AreRenewed-all : (board : Board) (old new : List Ranking) (seats : List Seat) (member count n : ℕ) → AreRenewed board old new seats member count n → AreSeatsOf board member seats → length seats ≤ n
-    → (counts : List ℕ) → member < length counts → AreRankings board counts old → AreRankings board (set_at counts member count) new
+pub AreRenewed-all : (board : Board) (old new : List (List ℕ)) (seats : List Seat) (member count n : ℕ) → AreRenewed board old new seats member count n → AreSeatsOf board member seats → length seats ≤ n
+    → (counts : List ℕ) → member < length counts → AreCountSets board counts old → AreCountSets board (set_at counts member count) new
 AreRenewed-all board old new seats member count n done seated all counts within are = record {
   as_many = done.as_many ∙ are.as_many;
-  each = λ c takers ranking is_takers is_ranking. elim (is_among takers.items member) [
+  each = λ c takers set is_takers is_set. elim (is_among takers.items member) [
     | inl (k, is) ↦
         let (i, is_seat) = seated.all (record { class = c; place = k }) (takers, is_takers, is) in
         let low = slice_get_within seats i (record { class = c; place = k }) is_seat in
-        done.renewed i (record { class = c; place = k }) (omega arith) is_seat counts takers ranking within are is_takers is_ranking
+        done.renewed i (record { class = c; place = k }) (omega arith) is_seat counts takers set within are is_takers is_set
     | inr away ↦ elim (done.either c) [
-      | inl same ↦ IsRanking-unwritten counts takers.items member count ranking.nodes.items away (are.each c takers ranking is_takers (sym same ∙ is_ranking))
-      | inr renewed ↦ renewed counts takers ranking within are is_takers is_ranking
+      | inl same ↦ are.each c takers set is_takers (sym same ∙ is_set) ∙ counts_of-unset counts takers.items member count away
+      | inr renewed ↦ renewed counts takers set within are is_takers is_set
     ]
   ];
 }
 
--- the first n classes have their rankings
-pub record AreRankingsTo (board : Board) (counts : List ℕ) (n : ℕ) (rankings : List Ranking) : Type 0 where
-  pub as_many : length rankings ≡ n
-  pub each : (t : ℕ) (takers : Vec ℕ) (ranking : Ranking) → slice_get board.takers.items t ≡ Some takers → slice_get rankings t ≡ Some ranking → IsRanking (counts_of counts takers.items) ranking.nodes.items
+-- the first n classes have their sets
+pub record AreCountSetsTo (board : Board) (counts : List ℕ) (n : ℕ) (sets : List (List ℕ)) : Type 0 where
+  pub as_many : length sets ≡ n
+  pub each : (t : ℕ) (takers : Vec ℕ) (set : List ℕ) → slice_get board.takers.items t ≡ Some takers → slice_get sets t ≡ Some set → set ≡ counts_of counts takers.items
 
-pub AreRankingsTo-none : (board : Board) (counts : List ℕ) (rankings : List Ranking) → rankings ≡ [] → AreRankingsTo board counts 0 rankings
-AreRankingsTo-none board counts rankings none = record {
+pub AreCountSetsTo-none : (board : Board) (counts : List ℕ) (sets : List (List ℕ)) → sets ≡ [] → AreCountSetsTo board counts 0 sets
+AreCountSetsTo-none board counts sets none = record {
   as_many = ap length none;
-  each = λ t takers ranking is_takers is_ranking. let there : slice_get [] t ≡ Some ranking = ap (λ xs. slice_get xs t) (sym none) ∙ is_ranking in nobody t ranking there;
+  each = λ t takers set is_takers is_set. let there : slice_get [] t ≡ Some set = ap (λ xs. slice_get xs t) (sym none) ∙ is_set in nobody t set there;
 }
   where
-    nobody : (t : ℕ) (ranking : Ranking) → slice_get [] t ≡ Some ranking → {P : Type 0} → P
-    nobody t ranking is = cc
+    nobody : (t : ℕ) (set : List ℕ) → slice_get [] t ≡ Some set → {P : Type 0} → P
+    nobody t set is = cc
 
-pub AreRankingsTo-more : (board : Board) (counts : List ℕ) (n : ℕ) (rankings : List Ranking) (takers : Vec ℕ) (ranking : Ranking) → AreRankingsTo board counts n rankings → slice_get board.takers.items n ≡ Some takers
-    → IsRanking (counts_of counts takers.items) ranking.nodes.items → AreRankingsTo board counts (n + 1) (rankings ++ ranking ∷ [])
-AreRankingsTo-more board counts n rankings takers ranking before is_takers is = record {
-  as_many = length_push rankings ranking ∙ ap (λ k. k + 1) before.as_many;
-  each = λ t others other is_others is_other. elim (slice_get-append_cases rankings (ranking ∷ []) t other is_other) [
+pub AreCountSetsTo-more : (board : Board) (counts : List ℕ) (n : ℕ) (sets : List (List ℕ)) (takers : Vec ℕ) (set : List ℕ) → AreCountSetsTo board counts n sets → slice_get board.takers.items n ≡ Some takers
+    → set ≡ counts_of counts takers.items → AreCountSetsTo board counts (n + 1) (sets ++ set ∷ [])
+AreCountSetsTo-more board counts n sets takers set before is_takers is = record {
+  as_many = length_push sets set ∙ ap (λ k. k + 1) before.as_many;
+  each = λ t others other is_others is_other. elim (slice_get-append_cases sets (set ∷ []) t other is_other) [
     | inl there ↦ before.each t others other is_others there
     | inr (j, at, end) ↦
         let here = last j other end in
         let long = before.as_many in
         let place : t ≡ n = let zeroth = here.0 in omega arith in
         let same : takers ≡ others = same_Some takers others (sym is_takers ∙ ap (slice_get board.takers.items) (sym place) ∙ is_others) in
-        subst (λ (v : Vec ℕ). IsRanking (counts_of counts v.items) other.nodes.items) same (subst (λ (r : Ranking). IsRanking (counts_of counts takers.items) r.nodes.items) here.1 is)
+        sym here.1 ∙ is ∙ ap (λ (v : Vec ℕ). counts_of counts v.items) same
   ];
 }
   where
-    last : (j : ℕ) (other : Ranking) → slice_get (ranking ∷ []) j ≡ Some other → (j ≡ 0) × (ranking ≡ other)
-    last zero other end = (refl, same_Some ranking other end)
+    last : (j : ℕ) (other : List ℕ) → slice_get (set ∷ []) j ≡ Some other → (j ≡ 0) × (set ≡ other)
+    last zero other end = (refl, same_Some set other end)
     last (suc j) other end = cc
 
 -- ---- the first of a class
 
--- the first of a class's ranking is the taker that owns the fewest
+-- the first of a class's set is the taker that owns the fewest
 pub record IsFirstTaker (draft : Draft) (takers : List ℕ) (rank : Rank) : Type 0 where
   pub member : ℕ
   pub is_member : slice_get takers rank.place ≡ Some member

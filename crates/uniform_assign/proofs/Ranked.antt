@@ -1,10 +1,10 @@
--- The tree of a ranking, where a node is written anew, and the first of it.
-use Rattle.std.proofs.Common.{◌≡◌, ◌⊎◌, ℕ, zero, suc, ◌<◌, ◌≤◌, ◌+◌, ◌-◌, ◌/◌, List, [], ◌∷◌, ◌++◌, length, get_or, set as set_at, slice_get, refl, sym, ap, subst, ◌∙◌, arith, inl, inr, Some, length-set}
+-- The tree of a set, where a node is written anew, and the first of it.
+use Rattle.std.proofs.Common.{◌≡◌, ◌⊎◌, ℕ, zero, suc, ◌<◌, ◌≤◌, ◌+◌, ◌-◌, ◌/◌, List, [], ◌∷◌, ◌++◌, length, map, drop, get_or, set as set_at, slice_get, refl, sym, ap, subst, ◌∙◌, arith, inl, inr, Some, length-set}
 use Rattle.std.proofs.lemmas.Bool.{cases_lt}
-use Rattle.std.proofs.lemmas.List.{length_push, length-map}
+use Rattle.std.proofs.lemmas.List.{ext_get_or, get_or-drop, get_or-map, length_push, length-drop, length-map}
 use Rattle.std.proofs.lemmas.Option.{get_or_from_slice_get, same_Some, slice_get-get_or, slice_get_within}
-use Rattle.uniform_assign.specs.declared.ranking.Rank.{Rank}
-use Rattle.uniform_assign.specs.Rankings.{AreRanks, IsBefore, IsFirstRank, IsLeastAt, IsMatch, IsPlayed, IsRanking, counts_of}
+use Rattle.uniform_assign.specs.declared.count_set.Rank.{Rank}
+use Rattle.uniform_assign.specs.CountSets.{AreRanks, IsBefore, IsFirstRank, IsLeastAt, IsMatch, IsPlayed, IsTree, counts_in, counts_of}
 use Rattle.uniform_assign.proofs.Counts.{cases_equal}
 use Rattle.uniform_assign.proofs.Kept.{slice_get-set_other, slice_get-set_same}
 use Rattle.uniform_assign.proofs.Lists.{pushed_at, slice_get-append_left, slice_get-map_from, some_at}
@@ -106,7 +106,7 @@ AreRanks-set counts nodes place count low are =
       ];
     }
 
-pub AreMatchesBut-set : (counts : List ℕ) (nodes : List Rank) (place : ℕ) (rank : Rank) → IsRanking counts nodes → AreMatchesBut (length counts + place) (length counts) (set_at nodes (length counts + place) rank)
+pub AreMatchesBut-set : (counts : List ℕ) (nodes : List Rank) (place : ℕ) (rank : Rank) → IsTree counts nodes → AreMatchesBut (length counts + place) (length counts) (set_at nodes (length counts + place) rank)
 AreMatchesBut-set counts nodes place rank is i positive within left right =
     let match = is.matches i positive within in
     record {
@@ -121,7 +121,7 @@ AreMatchesBut-set counts nodes place rank is i positive within left right =
 
 -- ---- the first of all
 
-module _ (counts : List ℕ) (nodes : List Rank) (is : IsRanking counts nodes) where
+module _ (counts : List ℕ) (nodes : List Rank) (is : IsTree counts nodes) where
   -- the first rank is before each
   root-before : (root : Rank) → slice_get nodes 1 ≡ Some root → (fuel i : ℕ) → i ≤ fuel → 0 < i → i < length counts + length counts → (x : Rank) → slice_get nodes i ≡ Some x → IsBefore root x
   root-before root is_root zero i few positive within x is_x = absurd (omega arith)
@@ -197,6 +197,23 @@ module _ (counts : List ℕ) (nodes : List Rank) (is : IsRanking counts nodes) w
     least = root-least root is_root;
     count = get_or_from_slice_get counts root.place root.count 0 (root-rank root is_root);
   }
+
+-- ---- the counts that are shown
+
+pub counts_in-tree : (counts : List ℕ) (nodes : List Rank) → IsTree counts nodes → counts_in nodes ≡ counts
+counts_in-tree counts nodes is =
+    let many = is.are_ranks.as_many in
+    let half : length nodes / 2 ≡ length counts = omega arith in
+    let rest = drop (length counts) nodes in
+    let long = length-drop (length counts) nodes in
+    let shown = length-map rest (λ (r : Rank). r.count) in
+    ap (λ n. map (λ (r : Rank). r.count) (drop n nodes)) half
+    ∙ ext_get_or 0 (map (λ (r : Rank). r.count) rest) counts (omega arith) (λ k low.
+    let (n, is_n) = some_at counts k (omega arith) in
+    let rank : Rank = record { count = n; place = k } in
+    get_or-map (λ (r : Rank). r.count) rest k rank 0 (omega arith)
+    ∙ ap (λ (r : Rank). r.count) (get_or-drop (length counts) nodes k rank ∙ get_or_from_slice_get nodes (length counts + k) rank rank (is.are_ranks.ranks k n is_n))
+    ∙ sym (get_or_from_slice_get counts k n 0 is_n))
 
 -- ---- the ranks are listed
 

@@ -7,7 +7,6 @@ pub mod Moves
 pub mod Hands
 pub mod Orders
 pub mod Piles
-pub mod Rankings
+pub mod CountSets
 pub mod Seats
-pub mod Wheels
 pub mod Existence

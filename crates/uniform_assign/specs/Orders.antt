@@ -2,7 +2,6 @@
 use Rattle.std.specs.Prelude.{◌≡◌, ◌⊎◌, ℕ, ◌+◌, ◌<◌, ◌≤◌, List, length, Option, Some, slice_get, slice_index, MatchOption}
 use Rattle.uniform_assign.specs.declared.order.Order.{Order}
 use Rattle.uniform_assign.specs.declared.order.TheConstants.{MOST}
-use Rattle.uniform_assign.specs.Rankings.{IsRanking}
 
 -- what each count lacks of the most
 pub record AreLacks (most : ℕ) (counts lacks : List ℕ) : Type 0 where
@@ -11,7 +10,7 @@ pub record AreLacks (most : ℕ) (counts lacks : List ℕ) : Type 0 where
 
 -- the order is that of the counts
 abbrev pub IsOrder : List ℕ → Order → Type 0
-IsOrder counts order = (lacks : List ℕ) × AreLacks MOST counts lacks × IsRanking lacks order.lacks.nodes.items
+IsOrder counts order = AreLacks MOST counts order.lacks
 
 -- the greatest count is at a place and is above the limit, and those before it are less
 pub record IsGreatestAt (counts : List ℕ) (limit k : ℕ) : Type 0 where

@@ -5,19 +5,19 @@ ghost use Rattle.group_types.specs.declared.partition.Partition.{Partition as Ke
 ghost use Rattle.group_types.specs.Text.{Text};
 ghost use Rattle.group_types.specs.Uniform.{AreFilled, Fills, in_partition_order};
 ghost use Rattle.uniform_assign.specs.Boards.{IsBoard, IsOfClass, members_on};
+ghost use Rattle.uniform_assign.specs.CountSets.{IsSetOf};
 ghost use Rattle.uniform_assign.specs.Drafts.{IsDraft, drawn_on};
-ghost use Rattle.uniform_assign.specs.Wheels.{IsWheelOf};
 
 use crate::board::Board;
+use crate::count_set::CountSet;
 use crate::draft::Draft;
-use crate::wheel::Wheel;
 use std::alloc::{AllocError, Global};
 
-/// The takers of a class, by their places among them, in turn by their counts.
+/// The takers of a class in the order of their counts, by their places among them.
 #[derive(Drop)]
 struct Queue {
     class: usize,
-    wheel: Wheel,
+    counts: CountSet,
 }
 
 impl Board<'_> {
@@ -32,11 +32,7 @@ impl Board<'_> {
     {
         let mut queue = Queue {
             class: self.takers.len(),
-            wheel: Wheel {
-                counts: Vec::new(alloc),
-                turn: 0,
-                level: 0,
-            },
+            counts: CountSet::of(alloc, &draft.counts, &[])?,
         };
         for at in 0..self.places.len() {
             if draft.owners[at].is_none() {
@@ -58,12 +54,12 @@ impl Board<'_> {
         requires board { IsBoard self.now }
         requires draft { IsDraft self.now draft.now }
         requires class_in { class < length self.now.takers.items }
-        requires queue { IsWheelOf self.now draft.now queue.old.class queue.old.wheel }
+        requires queue { IsSetOf self.now draft.now queue.old.class queue.old.counts }
         ensures class { OnOk result (queue.new.class ≡ class) }
-        ensures queue { OnOk result (IsWheelOf self.now draft.now class queue.new.wheel) }
+        ensures queue { OnOk result (IsSetOf self.now draft.now class queue.new.counts) }
     {
         if queue.class != class {
-            queue.wheel = Wheel::of(alloc, &draft.counts, &self.takers[class])?;
+            queue.counts = CountSet::of(alloc, &draft.counts, &self.takers[class])?;
             queue.class = class;
         }
         Ok(())
@@ -75,17 +71,17 @@ impl Board<'_> {
         requires draft { IsDraft self.now draft.old }
         requires free { slice_get draft.old.owners.items at ≡ Some None }
         requires class { IsOfClass self.now at queue.old.class }
-        requires queue { IsWheelOf self.now draft.old queue.old.class queue.old.wheel }
+        requires queue { IsSetOf self.now draft.old queue.old.class queue.old.counts }
         ensures draft { IsDraft self.now draft.new }
         ensures class { queue.new.class ≡ queue.old.class }
-        ensures queue { IsWheelOf self.now draft.new queue.old.class queue.new.wheel }
+        ensures queue { IsSetOf self.now draft.new queue.old.class queue.new.counts }
         ensures filled { (x : Text × Key) → slice_get (in_partition_order self.now.view.now) at ≡ Some x
             → Fills (members_on self.now) (drawn_on self.now draft.old.owners.items) x (drawn_on self.now draft.new.owners.items) }
     {
-        if let Some(first) = queue.wheel.first() {
-            let member = self.takers[queue.class][first];
+        if let Some(first) = queue.counts.first() {
+            let member = self.takers[queue.class][first.place];
             draft.give(at, member);
-            queue.wheel.set(first, draft.counts[member]);
+            queue.counts.set(first.place, draft.counts[member]);
         }
     }
 }

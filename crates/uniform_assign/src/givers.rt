@@ -4,17 +4,17 @@ ghost use Rattle.std.specs.Prelude.{◌≤◌, ℕ, List, All};
 ghost use Rattle.std.specs.Bool.{OnTrue};
 ghost use Rattle.uniform_assign.specs.declared.board.Board.{Board};
 ghost use Rattle.uniform_assign.specs.Moves.{IsGiversLimit};
-ghost use Rattle.uniform_assign.specs.Rankings.{AreRankings};
+ghost use Rattle.uniform_assign.specs.CountSets.{AreCountSets};
 
-use crate::ranking::Ranking;
+use crate::count_set::CountSet;
 
 /// A count from which on members may have a partition to give away: it is at most one more than that of each taker.
-pub(crate) fn givers_limit(rankings: &[Ranking]) -> usize
-    ensures { (board : Board) (counts : List ℕ) → AreRankings board counts rankings.now → IsGiversLimit board counts result }
+pub(crate) fn givers_limit(sets: &[CountSet]) -> usize
+    ensures { (board : Board) (counts : List ℕ) → AreCountSets board counts sets.now → IsGiversLimit board counts result }
 {
     let mut limit = usize::MAX;
-    for ranking in rankings {
-        if let Some(first) = ranking.first() {
+    for set in sets {
+        if let Some(first) = set.first() {
             limit = least_of_two(limit, first.count.saturating_add(1));
         }
     }
@@ -22,12 +22,12 @@ pub(crate) fn givers_limit(rankings: &[Ranking]) -> usize
 }
 
 /// A limit, which is looked for where it is 0.
-pub(crate) fn raised_limit(rankings: &[Ranking], limit: usize) -> usize
-    ensures { (board : Board) (counts : List ℕ) → AreRankings board counts rankings.now → IsGiversLimit board counts limit
+pub(crate) fn raised_limit(sets: &[CountSet], limit: usize) -> usize
+    ensures { (board : Board) (counts : List ℕ) → AreCountSets board counts sets.now → IsGiversLimit board counts limit
         → IsGiversLimit board counts result }
 {
     if limit == 0 {
-        givers_limit(rankings)
+        givers_limit(sets)
     } else {
         limit
     }

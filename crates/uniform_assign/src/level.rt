@@ -7,15 +7,15 @@ ghost use Rattle.uniform_assign.specs.Drafts.{IsDraft, IsLevelled, drawn_on};
 ghost use Rattle.uniform_assign.specs.Moves.{IsEarlier, IsFirstAmong, IsFirstOf, IsMoveOf, IsNext};
 ghost use Rattle.uniform_assign.specs.Orders.{IsOrder, IsOrderBut};
 ghost use Rattle.uniform_assign.specs.Piles.{AreOfClass, ArePiles, IsHand, IsIn};
-ghost use Rattle.uniform_assign.specs.Rankings.{AreRankings};
+ghost use Rattle.uniform_assign.specs.CountSets.{AreCountSets};
 
 use crate::board::Board;
+use crate::count_set::CountSet;
 use crate::draft::Draft;
 use crate::givers::{are_within, givers_limit, raised_limit};
 use crate::order::Order;
 use crate::pile::Pile;
 use crate::piles::Piles;
-use crate::ranking::Ranking;
 use std::alloc::{AllocError, Global};
 
 /// A partition moves from one member to another, each at a place.
@@ -35,11 +35,11 @@ impl Board<'_> {
         ensures levelled { OnOk result (IsLevelled self.now.view.now (members_on self.now)
             (drawn_on self.now draft.old.owners.items) (drawn_on self.now draft.new.owners.items)) }
     {
-        let mut rankings = self.rankings(alloc, draft)?;
-        if self.is_level(draft, &rankings) {
+        let mut sets = self.count_sets(alloc, draft)?;
+        if self.is_level(draft, &sets) {
             return Ok(());
         }
-        self.move_each(alloc, draft, &mut rankings)
+        self.move_each(alloc, draft, &mut sets)
     }
 
     /// Moves one partition after the other until none can move: each is found by the order of the members, the orders of
@@ -48,11 +48,11 @@ impl Board<'_> {
         &self,
         alloc: Global,
         draft: &mut Draft,
-        rankings: &mut Vec<Ranking>,
+        sets: &mut Vec<CountSet>,
     ) -> Result<(), AllocError>
         requires board { IsBoard self.now }
         requires draft { IsDraft self.now draft.old }
-        requires rankings { AreRankings self.now draft.old.counts.items rankings.old.items }
+        requires sets { AreCountSets self.now draft.old.counts.items sets.old.items }
         ensures draft { OnOk result (IsDraft self.now draft.new) }
         ensures levelled { OnOk result (IsLevelled self.now.view.now (members_on self.now)
             (drawn_on self.now draft.old.owners.items) (drawn_on self.now draft.new.owners.items)) }
@@ -60,16 +60,11 @@ impl Board<'_> {
         let seats = self.seats(alloc)?;
         let mut order = Order::of(alloc, &draft.counts)?;
         let mut piles = self.piles(alloc, draft)?;
-        while let Some(next) = self.next_move(alloc, draft, rankings, &mut order, &mut piles)? {
+        while let Some(next) = self.next_move(alloc, draft, sets, &mut order, &mut piles)? {
             self.gain(alloc, &mut piles, next.to, next.partition)?;
             draft.give(next.partition, next.to);
-            self.renew(
-                rankings,
-                &seats[next.from],
-                next.from,
-                draft.counts[next.from],
-            );
-            self.renew(rankings, &seats[next.to], next.to, draft.counts[next.to]);
+            self.renew(sets, &seats[next.from], next.from, draft.counts[next.from]);
+            self.renew(sets, &seats[next.to], next.to, draft.counts[next.to]);
             order.set(next.from, draft.counts[next.from]);
             order.set(next.to, draft.counts[next.to]);
         }
@@ -77,17 +72,17 @@ impl Board<'_> {
     }
 
     /// Whether no partition can move.
-    fn is_level(&self, draft: &Draft, rankings: &[Ranking]) -> bool
+    fn is_level(&self, draft: &Draft, sets: &[CountSet]) -> bool
         requires board { IsBoard self.now }
         requires draft { IsDraft self.now draft.now }
-        requires rankings { AreRankings self.now draft.now.counts.items rankings.now }
+        requires sets { AreCountSets self.now draft.now.counts.items sets.now }
         ensures { OnTrue result (IsNext self.now draft.now (length self.now.places.items) None) }
     {
-        if are_within(&draft.counts, givers_limit(rankings)) {
+        if are_within(&draft.counts, givers_limit(sets)) {
             return true;
         }
         for at in 0..self.places.len() {
-            if self.move_of(draft, rankings, at).is_some() {
+            if self.move_of(draft, sets, at).is_some() {
                 return false;
             }
         }
@@ -95,18 +90,18 @@ impl Board<'_> {
     }
 
     /// The move that follows, if a partition can move: of the members that can give one away, the one that owns the
-    /// most gives the first that it can to the subscriber that owns the rankings.
+    /// most gives the first that it can to the subscriber that owns the fewest.
     fn next_move(
         &self,
         alloc: Global,
         draft: &Draft,
-        rankings: &[Ranking],
+        sets: &[CountSet],
         order: &mut Order,
         piles: &mut Piles,
     ) -> Result<Option<Move>, AllocError>
         requires board { IsBoard self.now }
         requires draft { IsDraft self.now draft.now }
-        requires rankings { AreRankings self.now draft.now.counts.items rankings.now }
+        requires sets { AreCountSets self.now draft.now.counts.items sets.now }
         requires order { IsOrder draft.now.counts.items order.old }
         requires piles { ArePiles self.now draft.now piles.old }
         ensures order { OnOk result (IsOrder draft.now.counts.items order.new) }
@@ -114,7 +109,7 @@ impl Board<'_> {
         ensures next { IfOk result (IsNext self.now draft.now (length self.now.places.items)) }
     {
         let mut aside = Vec::new(alloc);
-        let next = self.move_in_order(alloc, draft, rankings, order, piles, &mut aside)?;
+        let next = self.move_in_order(alloc, draft, sets, order, piles, &mut aside)?;
         order.put_back(&aside, &draft.counts);
         Ok(next)
     }
@@ -125,14 +120,14 @@ impl Board<'_> {
         &self,
         alloc: Global,
         draft: &Draft,
-        rankings: &[Ranking],
+        sets: &[CountSet],
         order: &mut Order,
         piles: &mut Piles,
         aside: &mut Vec<usize>,
     ) -> Result<Option<Move>, AllocError>
         requires board { IsBoard self.now }
         requires draft { IsDraft self.now draft.now }
-        requires rankings { AreRankings self.now draft.now.counts.items rankings.now }
+        requires sets { AreCountSets self.now draft.now.counts.items sets.now }
         requires order { IsOrder draft.now.counts.items order.old }
         requires piles { ArePiles self.now draft.now piles.old }
         requires none { aside.old.items ≡ [] }
@@ -142,13 +137,13 @@ impl Board<'_> {
     {
         let mut limit = 0;
         while let Some(from) = order.first_above(limit) {
-            let found = self.move_from(alloc, draft, rankings, piles, from)?;
+            let found = self.move_from(alloc, draft, sets, piles, from)?;
             if found.is_some() {
                 return Ok(found);
             }
             order.set(from, 0);
             aside.push(from)?;
-            limit = raised_limit(rankings, limit);
+            limit = raised_limit(sets, limit);
         }
         Ok(None)
     }
@@ -158,40 +153,40 @@ impl Board<'_> {
         &self,
         alloc: Global,
         draft: &Draft,
-        rankings: &[Ranking],
+        sets: &[CountSet],
         piles: &mut Piles,
         from: usize,
     ) -> Result<Option<Move>, AllocError>
         requires board { IsBoard self.now }
         requires draft { IsDraft self.now draft.now }
-        requires rankings { AreRankings self.now draft.now.counts.items rankings.now }
+        requires sets { AreCountSets self.now draft.now.counts.items sets.now }
         requires piles { ArePiles self.now draft.now piles.old }
         requires member { from < length draft.now.counts.items }
         ensures piles { OnOk result (ArePiles self.now draft.now piles.new) }
         ensures first { IfOk result (IsFirstOf self.now draft.now from) }
     {
         self.make_piles(alloc, piles, from)?;
-        Ok(self.first_move(draft, rankings, &mut piles.hands[from], from))
+        Ok(self.first_move(draft, sets, &mut piles.hands[from], from))
     }
 
     /// The same, looked for pile by pile.
     fn first_move(
         &self,
         draft: &Draft,
-        rankings: &[Ranking],
+        sets: &[CountSet],
         hand: &mut Vec<Pile>,
         from: usize,
     ) -> Option<Move>
         requires board { IsBoard self.now }
         requires draft { IsDraft self.now draft.now }
-        requires rankings { AreRankings self.now draft.now.counts.items rankings.now }
+        requires sets { AreCountSets self.now draft.now.counts.items sets.now }
         requires hand { IsHand self.now draft.now from hand.old.items }
         ensures hand { IsHand self.now draft.now from hand.new.items }
         ensures first { IsFirstOf self.now draft.now from result }
     {
         let mut best = None;
         for at in 0..hand.len() {
-            let found = self.first_in(draft, rankings, &mut hand[at], from);
+            let found = self.first_in(draft, sets, &mut hand[at], from);
             best = earlier(best, found);
         }
         best
@@ -201,13 +196,13 @@ impl Board<'_> {
     fn first_in(
         &self,
         draft: &Draft,
-        rankings: &[Ranking],
+        sets: &[CountSet],
         pile: &mut Pile,
         from: usize,
     ) -> Option<Move>
         requires board { IsBoard self.now }
         requires draft { IsDraft self.now draft.now }
-        requires rankings { AreRankings self.now draft.now.counts.items rankings.now }
+        requires sets { AreCountSets self.now draft.now.counts.items sets.now }
         requires pile { AreOfClass self.now pile.old }
         ensures class { pile.new.class ≡ pile.old.class }
         ensures fewer { (k : ℕ) → IsIn k pile.new → IsIn k pile.old }
@@ -215,20 +210,20 @@ impl Board<'_> {
         ensures first { IsFirstAmong self.now draft.now from (λ k. IsIn k pile.new) result }
     {
         let at = pile.first_owned(&draft.owners, from)?;
-        self.move_of(draft, rankings, at)
+        self.move_of(draft, sets, at)
     }
 
-    /// The move of the partition at a place to the subscriber that owns the rankings, if it can move.
-    fn move_of(&self, draft: &Draft, rankings: &[Ranking], at: usize) -> Option<Move>
+    /// The move of the partition at a place to the subscriber that owns the fewest, if it can move.
+    fn move_of(&self, draft: &Draft, sets: &[CountSet], at: usize) -> Option<Move>
         requires board { IsBoard self.now }
         requires draft { IsDraft self.now draft.now }
-        requires rankings { AreRankings self.now draft.now.counts.items rankings.now }
+        requires sets { AreCountSets self.now draft.now.counts.items sets.now }
         requires within { at < length self.now.places.items }
         ensures { IsMoveOf self.now draft.now at result }
     {
         let from = draft.owners[at]?;
         let class = self.class_at(at);
-        let first = rankings[class].first()?;
+        let first = sets[class].first()?;
         if first.count + 1 < draft.counts[from] {
             Some(Move {
                 partition: at,

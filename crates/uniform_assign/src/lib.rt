@@ -6,6 +6,8 @@
 
 mod board;
 mod classes;
+mod count_set;
+mod count_sets;
 mod draft;
 mod fill;
 mod former;
@@ -17,15 +19,12 @@ mod level;
 mod order;
 mod pile;
 mod piles;
-mod ranking;
-mod rankings;
 mod seats;
 mod settle;
 mod shares;
 mod stay;
 mod takers;
 mod uniform;
-mod wheel;
 
 pub use group_types::{AssignorName, MemberId, NameSet, PartSet, Partition};
 pub use laws::{

@@ -3,7 +3,7 @@
 ghost use Rattle.std.specs.Prelude.{◌≡◌, ◌+◌, ◌<◌, ℕ, List, IfOk, length, slice_set};
 ghost use Rattle.uniform_assign.specs.Orders.{IsFirstAbove, IsOrder, IsOrderBut};
 
-use crate::ranking::Ranking;
+use crate::count_set::CountSet;
 use std::alloc::{AllocError, Global};
 
 /// Nobody owns more.
@@ -13,7 +13,7 @@ const MOST: usize = usize::MAX;
 #[derive(Drop)]
 pub(crate) struct Order {
     /// What each count lacks of the most, so that the greatest count lacks the least.
-    pub lacks: Ranking,
+    pub lacks: CountSet,
 }
 
 impl Order {
@@ -28,7 +28,7 @@ impl Order {
             members.push(member)?;
         }
         Ok(Order {
-            lacks: Ranking::of(alloc, &lacks, &members)?,
+            lacks: CountSet::of(alloc, &lacks, &members)?,
         })
     }
 
@@ -46,7 +46,7 @@ impl Order {
 
     /// Writes the count of a member.
     pub fn set(&mut self, member: usize, count: usize)
-        requires { member + member + 1 < length self.old.lacks.nodes.items }
+        requires { member < length self.old.lacks }
         ensures { (counts : List ℕ) → IsOrder counts self.old → IsOrder (slice_set counts member count) self.new }
     {
         self.lacks.set(member, MOST - count);

@@ -58,7 +58,7 @@ loop-member-init c = c.in_ok-counts.ensures.items_if_clones_equal (λ y same. sa
 pub count_marks-requires-clause-as_many : goal.count_marks-requires-clause-as_many
 count_marks-requires-clause-as_many c =
     let topics = c.args.topics.now in
-    ap length (c.deref.ensures.value ∙ c.in_ok-marks.ensures) ∙ length-map topics (λ (t : ViewTopic). has c.member-item.result.names.now (string_bytes t.name))
+    ap length (c.deref.ensures.value ∙ c.in_ok-mark.ensures) ∙ length-map topics (λ (t : ViewTopic). has c.member-item.result.names.now (string_bytes t.name))
     ∙ sym (ap length c.loop-member.invariant ∙ as_many topics (take c.loop-member.member-index (subscribers_in c.args.members.now)))
 
 pub count_marks-requires-clause-fewer : goal.count_marks-requires-clause-fewer
@@ -88,7 +88,7 @@ loop-member-preserved c =
     more topics subs n (subscriber_of member) old c.count_marks.new.counts.items here c.loop-member.invariant c.count_marks.ensures.as_many
     (λ t topic is. let low = slice_get_within topics t topic is in
     c.count_marks.ensures.counted t (omega (arith, low, long))
-    ∙ ap (λ b. get_or old t 0 + cond b 1 0) (ap (λ xs. get_or xs t false) c.deref.ensures.value ∙ marked-at topics member.names.now c.in_ok-marks.marks.items c.in_ok-marks.ensures t topic is))
+    ∙ ap (λ b. get_or old t 0 + cond b 1 0) (ap (λ xs. get_or xs t false) c.deref.ensures.value ∙ marked-at topics member.names.now c.mark.new.marks.items c.in_ok-mark.ensures t topic is))
 
 pub returns : goal.returns
 returns c =

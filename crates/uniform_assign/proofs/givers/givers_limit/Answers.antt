@@ -1,29 +1,29 @@
-use Rattle.std.proofs.Common.{◌≡◌, get_or, length, refl, ap, ◌∙◌, arith, inl, inr}
+use Rattle.std.proofs.Common.{◌≡◌, ℕ, List, get_or, length, refl, sym, subst, ap, ◌∙◌, arith, inl, inr}
 use Rattle.std.proofs.lemmas.Bool.{cases_lt}
 use Rattle.std.specs.List.{slice_get}
 use Rattle.std.proofs.lemmas.List.{length-map}
 use Rattle.std.proofs.lemmas.Option.{get_or_from_slice_get, slice_get_read, slice_get_within}
-use Rattle.uniform_assign.specs.Rankings.{counts_of}
+use Rattle.uniform_assign.specs.CountSets.{IsFirstRank, counts_of}
 use Rattle.uniform_assign.proofs.Lists.{slice_get-map_at}
 use Rattle.uniform_assign.proofs.givers.givers_limit.Goals as goal
 use Rattle.uniform_assign.proofs.givers.givers_limit.Goals.{in-Some, in_default}
 
-pub loop-ranking-init : goal.loop-ranking-init
-loop-ranking-init c = λ board counts are k j m takers low. absurd (omega arith)
+pub loop-set-init : goal.loop-set-init
+loop-set-init c = λ board counts are k j m takers low. absurd (omega arith)
 
 pub returns : goal.returns
 returns c = λ board counts are k j m takers is_takers is_m.
-    let last = c.loop-ranking-test.false in
+    let last = c.loop-set-test.false in
     let low = slice_get_within board.takers.items k takers is_takers in
     let many = are.as_many in
-    c.loop-ranking.invariant board counts are k j m takers (omega arith) is_takers is_m
+    c.loop-set.invariant board counts are k j m takers (omega arith) is_takers is_m
 
-pub loop-ranking-preserved : goal.loop-ranking-preserved
-loop-ranking-preserved c = λ board counts are k j m takers low is_takers is_m.
-    let rankings = c.args.rankings.now in
-    let n = c.loop-ranking.ranking-index in
-    let ranking = c.ranking-item.result in
-    let is_ranking = slice_get_read rankings (length rankings) n ranking refl c.loop-ranking-test.true c.ranking-item.is in
+pub loop-set-preserved : goal.loop-set-preserved
+loop-set-preserved c = λ board counts are k j m takers low is_takers is_m.
+    let sets = c.args.sets.now in
+    let n = c.loop-set.set-index in
+    let set = c.set-item.result in
+    let is_set = slice_get_read sets (length sets) n set refl c.loop-set-test.true c.set-item.is in
     elim c.match-first.branch [
       | in-Some w ↦
           let less = w.least_of_two-limit.ensures.first in
@@ -31,11 +31,11 @@ loop-ranking-preserved c = λ board counts are k j m takers low is_takers is_m.
           let sum = w.saturating_add.ensures in
           let is = w.limit-is in
           elim (cases_lt k n) [
-            | inl below ↦ let before = c.loop-ranking.invariant board counts are k j m takers below is_takers is_m in omega arith
+            | inl below ↦ let before = c.loop-set.invariant board counts are k j m takers below is_takers is_m in omega arith
             | inr above ↦
                 let end : k ≡ n = omega arith in
-                let ranked = are.each k takers ranking is_takers (ap (slice_get rankings) end ∙ is_ranking) in
-                let first = w.in-Some.ensures (counts_of counts takers.items) ranked in
+                let ranked = are.each k takers set is_takers (ap (slice_get sets) end ∙ is_set) in
+                let first = subst (λ (xs : List ℕ). IsFirstRank xs w.in-Some.first) ranked w.in-Some.ensures in
                 let inside = slice_get_within takers.items j m is_m in
                 let long = length-map takers.items (λ t. get_or counts t 0) in
                 let least = first.least.least j (omega arith) in
@@ -46,11 +46,11 @@ loop-ranking-preserved c = λ board counts are k j m takers low is_takers is_m.
       | in_default w ↦
           let is = w.limit-is in
           elim (cases_lt k n) [
-            | inl below ↦ let before = c.loop-ranking.invariant board counts are k j m takers below is_takers is_m in omega arith
+            | inl below ↦ let before = c.loop-set.invariant board counts are k j m takers below is_takers is_m in omega arith
             | inr above ↦
                 let end : k ≡ n = omega arith in
-                let ranked = are.each k takers ranking is_takers (ap (slice_get rankings) end ∙ is_ranking) in
-                let none = ap length (w.in_default.ensures (counts_of counts takers.items) ranked) in
+                let ranked = are.each k takers set is_takers (ap (slice_get sets) end ∙ is_set) in
+                let none = ap length (sym ranked ∙ w.in_default.ensures) in
                 let inside = slice_get_within takers.items j m is_m in
                 let long = length-map takers.items (λ t. get_or counts t 0) in
                 absurd (omega arith)

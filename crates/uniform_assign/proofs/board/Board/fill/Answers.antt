@@ -8,7 +8,7 @@ use Rattle.group_types.specs.Uniform.{AreFilled, in_partition_order}
 use Rattle.uniform_assign.specs.declared.draft.Draft.{Draft}
 use Rattle.uniform_assign.specs.declared.fill.Queue.{Queue}
 use Rattle.uniform_assign.specs.Drafts.{IsDraft, drawn_on}
-use Rattle.uniform_assign.specs.Wheels.{IsWheelOf}
+use Rattle.uniform_assign.specs.CountSets.{IsSetOf}
 use Rattle.uniform_assign.proofs.Boards.{as_many_places, at_place}
 use Rattle.uniform_assign.proofs.Filled.{AreFilled-next, Fills-owned}
 use Rattle.uniform_assign.proofs.Lists.{some_at}
@@ -72,18 +72,18 @@ loop-at-preserved c =
           let given = w.give_first.ensures in
           let new = w.give_first.new.draft in
           let turned = w.give_first.new.queue in
-          let ranked = subst (λ t. IsWheelOf board new t turned.wheel) (sym given.class) given.queue in (
+          let ranked = subst (λ t. IsSetOf board new t turned.counts) (sym given.class) given.queue in (
             subst (IsDraft board) (sym w.draft-is) given.draft,
             subst (λ (d : Draft). AreFilled subs first (take (n + 1) parts) (drawn_on board d.owners.items)) (sym w.draft-is)
                 (AreFilled-next subs first spread (drawn_on board new.owners.items) parts n x at.is_part filled (given.filled x at.is_part)),
-            subst (λ (q : Queue). IsWheelOf board c.if-is_none.draft q.class q.wheel) (sym w.queue-is) (subst (λ (d : Draft). IsWheelOf board d turned.class turned.wheel) (sym w.draft-is) ranked),
+            subst (λ (q : Queue). IsSetOf board c.if-is_none.draft q.class q.counts) (sym w.queue-is) (subst (λ (d : Draft). IsSetOf board d turned.class turned.counts) (sym w.draft-is) ranked),
           )
       | else-is_none w ↦
           let (m, is_m) = some_owner c.index.result.now c.is_none.result c.is_none.ensures w.if-is_none.false in
           let fills = Fills-owned board draft c.requires.board.bare is_draft n x at.is_part m (owner ∙ ap Some is_m) in (
             subst (IsDraft board) (sym w.draft-is) is_draft,
             subst (λ (d : Draft). AreFilled subs first (take (n + 1) parts) (drawn_on board d.owners.items)) (sym w.draft-is) (AreFilled-next subs first spread spread parts n x at.is_part filled fills),
-            subst (λ (q : Queue). IsWheelOf board c.if-is_none.draft q.class q.wheel) (sym w.queue-is) (subst (λ (d : Draft). IsWheelOf board d c.loop-at.queue.class c.loop-at.queue.wheel) (sym w.draft-is) queue),
+            subst (λ (q : Queue). IsSetOf board c.if-is_none.draft q.class q.counts) (sym w.queue-is) (subst (λ (d : Draft). IsSetOf board d c.loop-at.queue.class c.loop-at.queue.counts) (sym w.draft-is) queue),
           )
     ]
 

@@ -1,4 +1,4 @@
-use Rattle.std.proofs.Common.{◌≡◌, ◌<◌, ℕ, Some, None, length, get_or, slice_set, refl, sym, ap, subst, ◌∙◌, arith}
+use Rattle.std.proofs.Common.{◌≡◌, ◌<◌, ℕ, List, Some, None, length, get_or, slice_set, refl, sym, ap, subst, ◌∙◌, arith}
 use Rattle.std.specs.Global.{Vec}
 use Rattle.std.specs.List.{slice_get}
 use Rattle.std.proofs.lemmas.List.{get_or_read, length-map, nil_from_length}
@@ -6,42 +6,40 @@ use Rattle.std.proofs.lemmas.Option.{get_or_from_slice_get, same_Some, slice_get
 use Rattle.group_types.specs.Uniform.{Fills}
 use Rattle.uniform_assign.specs.declared.board.Board.{Board}
 use Rattle.uniform_assign.specs.declared.draft.Draft.{Draft}
-use Rattle.uniform_assign.specs.declared.wheel.Wheel.{Wheel}
 use Rattle.uniform_assign.specs.Drafts.{AreCounts, IsDraft, drawn_on}
-use Rattle.uniform_assign.specs.Rankings.{IsLeastAt, counts_of}
-use Rattle.uniform_assign.specs.Wheels.{IsWheel}
+use Rattle.uniform_assign.specs.CountSets.{IsLeastAt, counts_of}
 use Rattle.uniform_assign.proofs.Boards.{all_takers, no_takers}
 use Rattle.uniform_assign.proofs.Filled.{Fills-fewest, Fills-nobody}
 use Rattle.uniform_assign.proofs.Moves.{fewest-shown}
-use Rattle.uniform_assign.proofs.Queued.{AreOnce-takers, IsFirstIn, IsFirstIn-of, IsQueued, IsQueued-of, IsWheel-given, first-within, more_given}
+use Rattle.uniform_assign.proofs.Queued.{AreOnce-takers, IsFirstIn, IsFirstIn-of, IsQueued, IsQueued-of, counts_of-given, first-within}
 use Rattle.uniform_assign.proofs.Lists.{slice_get-map_at}
 use Rattle.uniform_assign.proofs.board.Board.give_first.Goals as goal
 use Rattle.uniform_assign.specs.Boards.{members_on}
 
 -- the taker that was read is the first in the queue
-read_first : (board : Board) (draft : Draft) (at class k m : ℕ) (wheel : Wheel) (v : Vec ℕ) → IsDraft board draft → (queued : IsQueued board draft at class wheel) → IsLeastAt (counts_of draft.counts.items queued.is_at.takers.items) k
-    → v ≡ get_or board.takers.items class v → m ≡ get_or v.items k m → IsFirstIn board draft at class wheel k m
-read_first board draft at class k m wheel v are queued least read_v read_m =
+read_first : (board : Board) (draft : Draft) (at class k m : ℕ) (set : List ℕ) (v : Vec ℕ) → IsDraft board draft → (queued : IsQueued board draft at class set) → IsLeastAt (counts_of draft.counts.items queued.is_at.takers.items) k
+    → v ≡ get_or board.takers.items class v → m ≡ get_or v.items k m → IsFirstIn board draft at class set k m
+read_first board draft at class k m set v are queued least read_v read_m =
     let there = slice_get_read board.takers.items (length board.takers.items) class v refl (slice_get_within board.takers.items class queued.is_at.takers queued.are_takers) read_v in
     let same : v ≡ queued.is_at.takers = same_Some v queued.is_at.takers (sym there ∙ queued.are_takers) in
     let items = ap (λ (w : Vec ℕ). w.items) same in
-    let low = first-within board draft at class k wheel queued least in
+    let low = first-within board draft at class k set queued least in
     let longs = ap length items in
-    IsFirstIn-of board draft at class k m wheel are queued least (ap (λ xs. slice_get xs k) (sym items) ∙ slice_get_read v.items (length v.items) k m refl (omega arith) read_m)
+    IsFirstIn-of board draft at class k m set are queued least (ap (λ xs. slice_get xs k) (sym items) ∙ slice_get_read v.items (length v.items) k m refl (omega arith) read_m)
 
-taker_in : (board : Board) (draft : Draft) (at class k : ℕ) (wheel : Wheel) (v : Vec ℕ) → (queued : IsQueued board draft at class wheel) → IsLeastAt (counts_of draft.counts.items queued.is_at.takers.items) k
+taker_in : (board : Board) (draft : Draft) (at class k : ℕ) (set : List ℕ) (v : Vec ℕ) → (queued : IsQueued board draft at class set) → IsLeastAt (counts_of draft.counts.items queued.is_at.takers.items) k
     → v ≡ get_or board.takers.items class v → k < length v.items
-taker_in board draft at class k wheel v queued least read_v =
+taker_in board draft at class k set v queued least read_v =
     let there = slice_get_read board.takers.items (length board.takers.items) class v refl (slice_get_within board.takers.items class queued.is_at.takers queued.are_takers) read_v in
     let same : v ≡ queued.is_at.takers = same_Some v queued.is_at.takers (sym there ∙ queued.are_takers) in
     let longs = ap (λ (w : Vec ℕ). length w.items) same in
-    let low = first-within board draft at class k wheel queued least in
+    let low = first-within board draft at class k set queued least in
     omega arith
 
 pub index-requires : goal.index-requires
 index-requires c =
     let board = c.args.self.now in
-    let queued = IsQueued-of board c.args.draft.now c.args.at c.args.queue.now.class c.args.queue.now.wheel c.requires.board c.requires.class c.requires.queue in
+    let queued = IsQueued-of board c.args.draft.now c.args.at c.args.queue.now.class c.args.queue.now.counts c.requires.board c.requires.class c.requires.queue in
     let low = slice_get_within board.takers.items c.args.queue.now.class queued.is_at.takers queued.are_takers in
     let ok = board.takers.ok in
     omega arith
@@ -51,9 +49,9 @@ index-member-requires c =
     let board = c.args.self.now in
     let draft = c.args.draft.now in
     let class = c.args.queue.now.class in
-    let wheel = c.args.queue.now.wheel in
-    let queued = IsQueued-of board draft c.args.at class c.args.queue.now.wheel c.requires.board c.requires.class c.requires.queue in
-    let low = taker_in board draft c.args.at class c.in-Some.first wheel c.index.result.now queued (c.in-Some.ensures.first (counts_of draft.counts.items queued.is_at.takers.items) queued.wheel_of) c.index.ensures in
+    let set = c.args.queue.now.counts in
+    let queued = IsQueued-of board draft c.args.at class c.args.queue.now.counts c.requires.board c.requires.class c.requires.queue in
+    let low = taker_in board draft c.args.at class c.in-Some.first.place set c.index.result.now queued (subst (λ (xs : List ℕ). IsLeastAt xs c.in-Some.first.place) queued.set_of c.in-Some.ensures.least) c.index.ensures in
     let ok = c.index.result.now.ok in
     omega arith
 
@@ -65,9 +63,9 @@ give-requires-clause-member_in c =
     let board = c.args.self.now in
     let draft = c.args.draft.now in
     let class = c.args.queue.now.class in
-    let wheel = c.args.queue.now.wheel in
-    let queued = IsQueued-of board draft c.args.at class c.args.queue.now.wheel c.requires.board c.requires.class c.requires.queue in
-    let first = read_first board draft c.args.at class c.in-Some.first c.index-member.result.now wheel c.index.result.now c.requires.draft queued (c.in-Some.ensures.first (counts_of draft.counts.items queued.is_at.takers.items) queued.wheel_of) c.index.ensures c.index-member.ensures in
+    let set = c.args.queue.now.counts in
+    let queued = IsQueued-of board draft c.args.at class c.args.queue.now.counts c.requires.board c.requires.class c.requires.queue in
+    let first = read_first board draft c.args.at class c.in-Some.first.place c.index-member.result.now set c.index.result.now c.requires.draft queued (subst (λ (xs : List ℕ). IsLeastAt xs c.in-Some.first.place) queued.set_of c.in-Some.ensures.least) c.index.ensures c.index-member.ensures in
     first.within
 
 pub index-requires-in-Some : goal.index-requires-in-Some
@@ -75,9 +73,9 @@ index-requires-in-Some c =
     let board = c.args.self.now in
     let draft = c.args.draft.now in
     let class = c.args.queue.now.class in
-    let wheel = c.args.queue.now.wheel in
-    let queued = IsQueued-of board draft c.args.at class c.args.queue.now.wheel c.requires.board c.requires.class c.requires.queue in
-    let first = read_first board draft c.args.at class c.in-Some.first c.index-member.result.now wheel c.index.result.now c.requires.draft queued (c.in-Some.ensures.first (counts_of draft.counts.items queued.is_at.takers.items) queued.wheel_of) c.index.ensures c.index-member.ensures in
+    let set = c.args.queue.now.counts in
+    let queued = IsQueued-of board draft c.args.at class c.args.queue.now.counts c.requires.board c.requires.class c.requires.queue in
+    let first = read_first board draft c.args.at class c.in-Some.first.place c.index-member.result.now set c.index.result.now c.requires.draft queued (subst (λ (xs : List ℕ). IsLeastAt xs c.in-Some.first.place) queued.set_of c.in-Some.ensures.least) c.index.ensures c.index-member.ensures in
     let low = first.within in
     let many = c.give.ensures.as_many in
     let ok = c.give.new.self.counts.ok in
@@ -88,11 +86,9 @@ set-requires c =
     let board = c.args.self.now in
     let draft = c.args.draft.now in
     let class = c.args.queue.now.class in
-    let wheel = c.args.queue.now.wheel in
-    let queued = IsQueued-of board draft c.args.at class c.args.queue.now.wheel c.requires.board c.requires.class c.requires.queue in
-    let first = read_first board draft c.args.at class c.in-Some.first c.index-member.result.now wheel c.index.result.now c.requires.draft queued (c.in-Some.ensures.first (counts_of draft.counts.items queued.is_at.takers.items) queued.wheel_of) c.index.ensures c.index-member.ensures in
-    let after = c.in-Some.ensures.wheel (counts_of draft.counts.items first.queued.is_at.takers.items) first.queued.wheel_of in
-    let lengths = ap length (after.same ∙ sym first.queued.wheel_of.same) in
+    let set = c.args.queue.now.counts in
+    let queued = IsQueued-of board draft c.args.at class c.args.queue.now.counts c.requires.board c.requires.class c.requires.queue in
+    let first = read_first board draft c.args.at class c.in-Some.first.place c.index-member.result.now set c.index.result.now c.requires.draft queued (subst (λ (xs : List ℕ). IsLeastAt xs c.in-Some.first.place) queued.set_of c.in-Some.ensures.least) c.index.ensures c.index-member.ensures in
     let room = first.room in
     omega arith
 
@@ -101,10 +97,10 @@ returns-in-Some-clause-queue c = λ takers is_takers.
     let board = c.args.self.now in
     let draft = c.args.draft.now in
     let class = c.args.queue.now.class in
-    let wheel = c.args.queue.now.wheel in
-    let queued = IsQueued-of board draft c.args.at class c.args.queue.now.wheel c.requires.board c.requires.class c.requires.queue in
+    let set = c.args.queue.now.counts in
+    let queued = IsQueued-of board draft c.args.at class c.args.queue.now.counts c.requires.board c.requires.class c.requires.queue in
     let m = c.index-member.result.now in
-    let first = read_first board draft c.args.at class c.in-Some.first m wheel c.index.result.now c.requires.draft queued (c.in-Some.ensures.first (counts_of draft.counts.items queued.is_at.takers.items) queued.wheel_of) c.index.ensures c.index-member.ensures in
+    let first = read_first board draft c.args.at class c.in-Some.first.place m set c.index.result.now c.requires.draft queued (subst (λ (xs : List ℕ). IsLeastAt xs c.in-Some.first.place) queued.set_of c.in-Some.ensures.least) c.index.ensures c.index-member.ensures in
     let new = c.give.new.self in
     let here = first.queued.is_at in
     let same : here.takers ≡ takers = same_Some here.takers takers (sym first.queued.are_takers ∙ is_takers) in
@@ -112,13 +108,8 @@ returns-in-Some-clause-queue c = λ takers is_takers.
     let low = first.within in
     let many = c.give.ensures.as_many in
     let value = get_or_read new.counts.items m c.index-in-Some.result.now (omega arith) c.index-in-Some.ensures 0 in
-    let counts = counts_of draft.counts.items here.takers.items in
-    let more = more_given draft.owners.items draft.counts.items new.counts.items here.takers.items c.args.at c.in-Some.first m c.requires.draft.counts c.requires.free first.within after many in
-    let mine : get_or counts c.in-Some.first 0 ≡ get_or draft.counts.items m 0 =
-    get_or_from_slice_get counts c.in-Some.first (get_or draft.counts.items m 0) 0 (slice_get-map_at (λ u. get_or draft.counts.items u 0) here.takers.items c.in-Some.first m first.is_taker) in
-    let written = c.set.ensures counts (c.in-Some.ensures.wheel counts first.queued.wheel_of) (omega (arith, more, mine, value)) in
-    subst (λ (v : Vec ℕ). IsWheel (counts_of new.counts.items v.items) c.set.new.self) same
-    (IsWheel-given draft.owners.items draft.counts.items new.counts.items here.takers.items c.args.at c.in-Some.first m c.requires.draft.counts c.requires.free first.within after many c.set.new.self
+    c.set.ensures ∙ (λ i. slice_set (first.queued.set_of i) c.in-Some.first.place (value i))
+    ∙ counts_of-given draft.owners.items draft.counts.items new.counts.items here.takers.items c.args.at c.in-Some.first.place m c.requires.draft.counts c.requires.free first.within after many
     (AreOnce-takers (members_on board) here.topic.0 here.takers.items c.requires.board.bare.apart here.are_takers)
     (λ j t is_t.
     let all = all_takers (members_on board) here.topic.0 here.takers.items here.are_takers in
@@ -127,17 +118,18 @@ returns-in-Some-clause-queue c = λ takers is_takers.
     let read = get_or_from_slice_get here.takers.items j t t is_t in
     let as_many = c.requires.draft.as_many_counts in
     omega arith)
-    first.is_taker (subst (λ n. IsWheel (slice_set counts c.in-Some.first n) c.set.new.self) value written))
+    first.is_taker
+    ∙ ap (λ (v : Vec ℕ). counts_of new.counts.items v.items) same
 
 pub returns-in-Some-clause-filled : goal.returns-in-Some-clause-filled
 returns-in-Some-clause-filled c = λ x is_x.
     let board = c.args.self.now in
     let draft = c.args.draft.now in
     let class = c.args.queue.now.class in
-    let wheel = c.args.queue.now.wheel in
-    let queued = IsQueued-of board draft c.args.at class c.args.queue.now.wheel c.requires.board c.requires.class c.requires.queue in
+    let set = c.args.queue.now.counts in
+    let queued = IsQueued-of board draft c.args.at class c.args.queue.now.counts c.requires.board c.requires.class c.requires.queue in
     let m = c.index-member.result.now in
-    let first = read_first board draft c.args.at class c.in-Some.first m wheel c.index.result.now c.requires.draft queued (c.in-Some.ensures.first (counts_of draft.counts.items queued.is_at.takers.items) queued.wheel_of) c.index.ensures c.index-member.ensures in
+    let first = read_first board draft c.args.at class c.in-Some.first.place m set c.index.result.now c.requires.draft queued (subst (λ (xs : List ℕ). IsLeastAt xs c.in-Some.first.place) queued.set_of c.in-Some.ensures.least) c.index.ensures c.index-member.ensures in
     let here = first.queued.is_at in
     let part : (here.topic.0, first.queued.place.partition) ≡ x = same_Some _ x (sym here.is_part ∙ is_x) in
     let fewest = fewest-shown board draft c.requires.board c.requires.draft here.topic.0 here.takers.items m first.member here.are_takers first.least first.is_member in
@@ -151,10 +143,10 @@ returns-in_default-clause-filled c = λ x is_x.
     let board = c.args.self.now in
     let draft = c.args.draft.now in
     let class = c.args.queue.now.class in
-    let queued = IsQueued-of board draft c.args.at class c.args.queue.now.wheel c.requires.board c.requires.class c.requires.queue in
+    let queued = IsQueued-of board draft c.args.at class c.args.queue.now.counts c.requires.board c.requires.class c.requires.queue in
     let here = queued.is_at in
     let part : (here.topic.0, queued.place.partition) ≡ x = same_Some _ x (sym here.is_part ∙ is_x) in
-    let none = c.in_default.ensures.first (counts_of draft.counts.items here.takers.items) queued.wheel_of in
+    let none = sym queued.set_of ∙ c.in_default.ensures in
     let long = length-map here.takers.items (λ u. get_or draft.counts.items u 0) in
     let nothing = ap length none in
     let empty = nil_from_length here.takers.items (omega arith) in
@@ -162,4 +154,4 @@ returns-in_default-clause-filled c = λ x is_x.
     (Fills-nobody board draft c.requires.board.bare c.requires.draft c.args.at (here.topic.0, queued.place.partition) here.is_part c.requires.free (no_takers (members_on board) here.topic.0 here.takers.items here.are_takers empty))
 
 pub returns-in_default-clause-queue : goal.returns-in_default-clause-queue
-returns-in_default-clause-queue c = λ takers is_takers. c.in_default.ensures.wheel (counts_of c.args.draft.now.counts.items takers.items) (c.requires.queue takers is_takers)
+returns-in_default-clause-queue c = c.requires.queue

@@ -38,4 +38,4 @@ returns-then-are_within c = λ from k low can.
     let within = c.requires.draft.counts.within k from (can_give-owns board draft c.requires.board.bare c.requires.draft from k can) in
     let shown = ap length c.deref.ensures.value in
     let few : get_or draft.counts.items from 0 ≤ limit = subst (λ (xs : List ℕ). get_or xs from 0 ≤ limit) c.deref.ensures.value (c.if-are_within.ensures from 0 (omega (arith, within, shown))) in
-    poor-stays board draft c.requires.board c.requires.draft limit from (c.givers_limit.ensures board draft.counts.items c.requires.rankings) few k can
+    poor-stays board draft c.requires.board c.requires.draft limit from (c.givers_limit.ensures board draft.counts.items c.requires.sets) few k can

@@ -5,7 +5,7 @@ use Rattle.group_types.specs.Uniform.{AreMoves}
 use Rattle.uniform_assign.specs.Drafts.{drawn_on}
 use Rattle.uniform_assign.specs.Moves.{IsFirst, IsNext}
 use Rattle.uniform_assign.specs.Orders.{IsOrder}
-use Rattle.uniform_assign.specs.Rankings.{AreRankings}
+use Rattle.uniform_assign.specs.CountSets.{AreCountSets}
 use Rattle.uniform_assign.specs.Seats.{AreSeatsOf}
 use Rattle.std.proofs.lemmas.List.{get_or_read}
 use Rattle.uniform_assign.proofs.Counts.{moved-again, squares, squares_fall}
@@ -20,7 +20,7 @@ loop-piles-init c = (
   c.requires.draft,
   ([], refl),
   c.in_ok-piles.ensures,
-  c.requires.rankings,
+  c.requires.sets,
   subst (λ (xs : List ℕ). IsOrder xs c.in_ok-order.order) c.deref.ensures.value c.in_ok-order.ensures,
 )
 
@@ -93,7 +93,7 @@ loop-piles-preserved c =
           let long = length-set counts m.from one in
           let renewed = c.renew.ensures counts from_in ranked in
           let again = c.renew-in-Some.ensures (slice_set counts m.from one) (omega arith) renewed in
-          subst (λ xs. AreRankings board xs c.renew-in-Some.new.rankings.items) (moved-again counts new m.from m.to one two from_in (omega arith) apart (c.give.ensures.moved m.from first.is_move.owns) is_one is_two) again,
+          subst (λ xs. AreCountSets board xs c.renew-in-Some.new.sets.items) (moved-again counts new m.from m.to one two from_in (omega arith) apart (c.give.ensures.moved m.from first.is_move.owns) is_one is_two) again,
       let counts = draft.counts.items in
           let new = c.give.new.self.counts.items in
           let (to, is_to) = move-to board draft c.requires.board is_draft m first.is_move in

@@ -49,7 +49,7 @@ loop-from-preserved c =
       c.in_ok-found.ensures.piles,
       subst (λ (xs : List ℕ). IsSearched board draft xs c.set.new.self) (sym pushed)
           (IsSearched-aside board draft c.loop-from.aside.items c.loop-from.order c.set.new.self limit from searched first (λ k can. stays k tt can) c.set.ensures),
-      c.raised_limit-limit.ensures board draft.counts.items c.requires.rankings is_limit,
+      c.raised_limit-limit.ensures board draft.counts.items c.requires.sets is_limit,
     )
 
 pub loop-from-smaller : goal.loop-from-smaller

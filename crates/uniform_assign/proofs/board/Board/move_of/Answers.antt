@@ -5,12 +5,11 @@ use Rattle.std.proofs.lemmas.List.{get_or_read, length-map, nil_from_length}
 use Rattle.std.proofs.lemmas.Option.{same_Some, slice_get_read, slice_get_within}
 use Rattle.uniform_assign.specs.declared.board.Board.{Board}
 use Rattle.uniform_assign.specs.declared.draft.Draft.{Draft}
-use Rattle.uniform_assign.specs.declared.ranking.Rank.{Rank}
-use Rattle.uniform_assign.specs.declared.ranking.Ranking.{Ranking}
+use Rattle.uniform_assign.specs.declared.count_set.Rank.{Rank}
 use Rattle.uniform_assign.specs.Boards.{IsBoard, IsOfClass}
 use Rattle.uniform_assign.specs.Drafts.{IsDraft, IsLeast}
 use Rattle.uniform_assign.specs.Moves.{IsMoveOf}
-use Rattle.uniform_assign.specs.Rankings.{AreRankings, IsFirstRankOf, IsRanking, counts_of}
+use Rattle.uniform_assign.specs.CountSets.{AreCountSets, IsFirstRankOf, counts_of}
 use Rattle.uniform_assign.proofs.Counts.{count-le}
 use Rattle.uniform_assign.proofs.Lists.{some_at}
 use Rattle.uniform_assign.proofs.Moves.{near-stays, no_owner-stays, no_taker-stays}
@@ -21,19 +20,19 @@ use Rattle.uniform_assign.proofs.board.Board.move_of.Goals as goal
 read : {X : Type 0} (xs : List X) (k : ℕ) (x : X) → k < length xs → x ≡ get_or xs k x → slice_get xs k ≡ Some x
 read xs k x within is = slice_get_read xs (length xs) k x refl within is
 
--- the takers of the class whose ranking was read, and the first of them
+-- the takers of the class whose set was read, and the first of them
 record IsRead (board : Board) (draft : Draft) (class : ℕ) (o : Option Rank) : Type 0 where
   takers : Vec ℕ
   are_takers : slice_get board.takers.items class ≡ Some takers
   first : IsFirstRankOf (counts_of draft.counts.items takers.items) o
 
-IsRead-of : (board : Board) (draft : Draft) (rankings : List Ranking) (class : ℕ) (ranking : Ranking) (o : Option Rank) → AreRankings board draft.counts.items rankings → class < length board.takers.items
-    → ranking ≡ get_or rankings class ranking → ((counts : List ℕ) → IsRanking counts ranking.nodes.items → IsFirstRankOf counts o) → IsRead board draft class o
-IsRead-of board draft rankings class ranking o are low is first =
+IsRead-of : (board : Board) (draft : Draft) (sets : List (List ℕ)) (class : ℕ) (set : List ℕ) (o : Option Rank) → AreCountSets board draft.counts.items sets → class < length board.takers.items
+    → set ≡ get_or sets class set → IsFirstRankOf set o → IsRead board draft class o
+IsRead-of board draft sets class set o are low is first =
     let (takers, is_takers) = some_at board.takers.items class low in
     let many = are.as_many in
-    let is_ranking = read rankings class ranking (omega arith) is in
-    record { takers = takers; are_takers = is_takers; first = first (counts_of draft.counts.items takers.items) (are.each class takers ranking is_takers is_ranking) }
+    let is_set = read sets class set (omega arith) is in
+    record { takers = takers; are_takers = is_takers; first = subst (λ (xs : List ℕ). IsFirstRankOf xs o) (are.each class takers set is_takers is_set) first }
 
 module _ (board : Board) (draft : Draft) (is : IsBoard board) (are : IsDraft board draft) (at class : ℕ) (of_class : IsOfClass board at class) where
   nobody : IsRead board draft class None → IsMoveOf board draft at None
@@ -86,8 +85,8 @@ returns-in_err-first c =
     let board = c.args.self.now in
     let draft = c.args.draft.now in
     let class = c.class_at-class.result in
-    let ranking = c.index-rankings-class.result in
-    let is_read = IsRead-of board draft c.args.rankings.now class ranking None c.requires.rankings c.class_at-class.ensures.below c.index-rankings-class.is c.in_err-first.ensures in
+    let set = c.index-sets-class.result in
+    let is_read = IsRead-of board draft c.args.sets.now class set None c.requires.sets c.class_at-class.ensures.below c.index-sets-class.is c.in_err-first.ensures in
     subst (IsMoveOf board draft c.args.at) (sym c.from_residual-in_err-first.ensures) (nobody board draft c.requires.board c.requires.draft c.args.at class c.class_at-class.ensures.class is_read)
 
 pub overflow_add-first : goal.overflow_add-first
@@ -95,9 +94,9 @@ overflow_add-first c =
     let board = c.args.self.now in
     let draft = c.args.draft.now in
     let class = c.class_at-class.result in
-    let ranking = c.index-rankings-class.result in
+    let set = c.index-sets-class.result in
     let rank = c.in_ok-first.first in
-    let is_read = IsRead-of board draft c.args.rankings.now class ranking (Some rank) c.requires.rankings c.class_at-class.ensures.below c.index-rankings-class.is c.in_ok-first.ensures in
+    let is_read = IsRead-of board draft c.args.sets.now class set (Some rank) c.requires.sets c.class_at-class.ensures.below c.index-sets-class.is c.in_ok-first.ensures in
     let first = first_taker board draft c.requires.board c.requires.draft c.args.at class c.class_at-class.ensures.class rank is_read in
     let few = count-le draft.owners.items draft.counts.items first.member c.requires.draft.counts first.within in
     let count = first.count in
@@ -119,9 +118,9 @@ index-requires-then-first-index-2 c =
     let board = c.args.self.now in
     let draft = c.args.draft.now in
     let class = c.class_at-class.result in
-    let ranking = c.index-rankings-class.result in
+    let set = c.index-sets-class.result in
     let rank = c.in_ok-first.first in
-    let is_read = IsRead-of board draft c.args.rankings.now class ranking (Some rank) c.requires.rankings c.class_at-class.ensures.below c.index-rankings-class.is c.in_ok-first.ensures in
+    let is_read = IsRead-of board draft c.args.sets.now class set (Some rank) c.requires.sets c.class_at-class.ensures.below c.index-sets-class.is c.in_ok-first.ensures in
     let first = first_taker board draft c.requires.board c.requires.draft c.args.at class c.class_at-class.ensures.class rank is_read in
     let v = c.index-then-first-index.result.now in
     let is_v = read board.takers.items class v c.class_at-class.ensures.below c.index-then-first-index.ensures in
@@ -137,9 +136,9 @@ returns-then-first-index c =
     let draft = c.args.draft.now in
     let owners = draft.owners.items in
     let class = c.class_at-class.result in
-    let ranking = c.index-rankings-class.result in
+    let set = c.index-sets-class.result in
     let rank = c.in_ok-first.first in
-    let is_read = IsRead-of board draft c.args.rankings.now class ranking (Some rank) c.requires.rankings c.class_at-class.ensures.below c.index-rankings-class.is c.in_ok-first.ensures in
+    let is_read = IsRead-of board draft c.args.sets.now class set (Some rank) c.requires.sets c.class_at-class.ensures.below c.index-sets-class.is c.in_ok-first.ensures in
     let first = first_taker board draft c.requires.board c.requires.draft c.args.at class c.class_at-class.ensures.class rank is_read in
     let v = c.index-then-first-index.result.now in
     let to = c.index-then-first-index-2.result.now in
@@ -161,9 +160,9 @@ returns-else-first-index c =
     let draft = c.args.draft.now in
     let owners = draft.owners.items in
     let class = c.class_at-class.result in
-    let ranking = c.index-rankings-class.result in
+    let set = c.index-sets-class.result in
     let rank = c.in_ok-first.first in
-    let is_read = IsRead-of board draft c.args.rankings.now class ranking (Some rank) c.requires.rankings c.class_at-class.ensures.below c.index-rankings-class.is c.in_ok-first.ensures in
+    let is_read = IsRead-of board draft c.args.sets.now class set (Some rank) c.requires.sets c.class_at-class.ensures.below c.index-sets-class.is c.in_ok-first.ensures in
     let within : c.args.at < length owners = let many = c.requires.draft.as_many_owners in let low = c.requires.within in omega arith in
     let owns = read owners c.args.at c.index.result.now within c.index.ensures ∙ ap Some c.in_ok-from.was in
     let from_in = c.requires.draft.counts.within c.args.at c.in_ok-from.from owns in

@@ -2,8 +2,7 @@ use Rattle.std.proofs.Common.{◌≡◌, ◌<◌, ℕ, List, length, refl, sym, 
 use Rattle.std.specs.Global.{Vec}
 use Rattle.std.specs.List.{All}
 use Rattle.std.proofs.lemmas.Option.{same_Some, slice_get_read}
-use Rattle.uniform_assign.specs.Rankings.{counts_of}
-use Rattle.uniform_assign.specs.Wheels.{IsWheel}
+use Rattle.uniform_assign.specs.CountSets.{counts_of}
 use Rattle.uniform_assign.proofs.Boards.{takers_within}
 use Rattle.uniform_assign.proofs.board.Board.turn_to.Goals as goal
 
@@ -19,8 +18,7 @@ of-requires c =
 pub returns-in_ok-queue-clause-queue : goal.returns-in_ok-queue-clause-queue
 returns-in_ok-queue-clause-queue c = λ takers is_takers.
     let board = c.args.self.now in
-    let wheel = c.in_ok-queue.field-0 in
     let here = slice_get_read board.takers.items (length board.takers.items) c.args.class c.index.result.now refl c.requires.class_in c.index.ensures in
     let same : c.index.result.now ≡ takers = same_Some c.index.result.now takers (sym here ∙ is_takers) in
-    subst (λ (xs : List ℕ). IsWheel (counts_of c.args.draft.now.counts.items xs) wheel) (c.deref-then-queue-class.ensures.value ∙ ap (λ (v : Vec ℕ). v.items) same)
-    (subst (λ xs. IsWheel (counts_of xs c.deref-then-queue-class.result.now) wheel) c.deref.ensures.value c.in_ok-queue.ensures)
+    c.in_ok-queue.ensures ∙ ap (λ (xs : List ℕ). counts_of xs c.deref-then-queue-class.result.now) c.deref.ensures.value
+    ∙ ap (λ (xs : List ℕ). counts_of c.args.draft.now.counts.items xs) (c.deref-then-queue-class.ensures.value ∙ ap (λ (v : Vec ℕ). v.items) same)

@@ -1,7 +1,8 @@
-use Rattle.std.proofs.Common.{◌≡◌, ◌<◌, ◌+◌, ◌-◌, ◌++◌, ◌∷◌, [], ℕ, List, length, get_or, sym, subst, arith}
+use Rattle.std.proofs.Common.{◌≡◌, ◌<◌, ◌+◌, ◌-◌, ◌++◌, ◌∷◌, [], ℕ, List, length, get_or, sym, ap, subst, ◌∙◌, arith}
 use Rattle.std.specs.List.{All}
 use Rattle.uniform_assign.specs.declared.order.TheConstants.{MOST}
-use Rattle.uniform_assign.specs.Rankings.{IsRanking, counts_of}
+use Rattle.uniform_assign.specs.CountSets.{counts_of}
+use Rattle.uniform_assign.specs.Orders.{AreLacks}
 use Rattle.uniform_assign.proofs.Ordered.{AreLacks-listed, AreListedTo, AreListedTo-more, AreListedTo-none, listed-within}
 use Rattle.uniform_assign.proofs.order.Order.of.Goals as goal
 
@@ -35,6 +36,5 @@ returns c =
     let members = c.loop-member.members.items in
     let last = c.loop-member-test.false in
     let end = c.loop-member.auto.member-end in
-    let nodes = c.in_ok-of.field-0.nodes.items in
-    let ranked = subst (λ (xs : List ℕ). IsRanking (counts_of lacks xs) nodes) c.deref-2.ensures.value (subst (λ (xs : List ℕ). IsRanking (counts_of xs c.deref-2.result.now) nodes) c.deref.ensures.value c.in_ok-of.ensures) in
-    (counts_of lacks members, AreLacks-listed MOST c.args.counts.now lacks members c.loop-member.member c.loop-member.invariant (omega arith), ranked)
+    let is : c.in_ok-of.field-0 ≡ counts_of lacks members = c.in_ok-of.ensures ∙ ap (λ (xs : List ℕ). counts_of xs c.deref-2.result.now) c.deref.ensures.value ∙ ap (λ (xs : List ℕ). counts_of lacks xs) c.deref-2.ensures.value in
+    subst (AreLacks MOST c.args.counts.now) (sym is) (AreLacks-listed MOST c.args.counts.now lacks members c.loop-member.member c.loop-member.invariant (omega arith))

@@ -35,5 +35,5 @@ loop-member-preserved c =
 
 pub returns : goal.returns
 returns c =
-    let (shown, are, (lacks, left, ranked)) = c.loop-member.invariant in
-    (lacks, AreLacks-shown c.args.counts.now c.args.aside.now shown MOST c.loop-member.member-index lacks are c.loop-member-test.false left, ranked)
+    let (shown, are, left) = c.loop-member.invariant in
+    AreLacks-shown c.args.counts.now c.args.aside.now shown MOST c.loop-member.member-index c.loop-member.self.lacks are c.loop-member-test.false left
