@@ -39,7 +39,7 @@ pub fn print_heartbeats(
 
 fn print_counts(rt: &(impl AllocGlobal + Print), hasher: RandomState) -> Result<(), Fault> {
     let (mut settled, bodies) = settled_with(rt, hasher, SIZES[0])?;
-    let given = settled.answer_in_turn(rt.alloc(), &bodies, 10)?;
+    let given = settled.answer_in_turn(&bodies, 10)?;
     rt.println(counts_line(rt.alloc(), "10 of them", 10, given)?)?;
     Ok(())
 }
@@ -72,18 +72,14 @@ fn settled_with(
     let image = image_of(alloc, 1, 2)?;
     let mut settled = Settled::with_members(alloc, hasher, image, members)?;
     let bodies = settled.steady_bodies(alloc, members)?;
-    settled.answer_in_turn(alloc, &bodies, u32::from(members))?;
+    settled.answer_in_turn(&bodies, u32::from(members))?;
     Ok((settled, bodies))
 }
 
 /// The nanoseconds that a run takes.
-fn time_of(
-    rt: &(impl AllocGlobal + Clock),
-    settled: &mut Settled,
-    bodies: &Bodies,
-) -> Result<u64, Fault> {
+fn time_of(rt: &impl Clock, settled: &mut Settled, bodies: &Bodies) -> Result<u64, Fault> {
     let start = Instant::now(rt)?;
-    settled.answer_in_turn(rt.alloc(), bodies, BEATS)?;
+    settled.answer_in_turn(bodies, BEATS)?;
     let time = start.elapsed(rt)?;
     Ok(u64::try_from(time.as_nanos()).unwrap_or(u64::MAX))
 }

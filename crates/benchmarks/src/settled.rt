@@ -57,7 +57,7 @@ impl Settled {
     fn fill(&mut self, alloc: Global, members: u16) -> Result<(), Fault> {
         let body = beat_body(alloc, &Beat::join(&self.group))?;
         for _ in 0..members {
-            self.answer(alloc, body.as_slice())?;
+            self.answer(body.as_slice())?;
         }
         Ok(())
     }
@@ -70,13 +70,13 @@ impl Settled {
                 ..Beat::steady(&self.group, &member, serial)
             };
             let body = beat_body(alloc, &beat)?;
-            self.answer(alloc, body.as_slice())?;
+            self.answer(body.as_slice())?;
         }
         Ok(())
     }
 
     /// Answers a body as the next frame, and gives how many bytes the reply has.
-    fn answer(&mut self, alloc: Global, body: &[u8]) -> Result<usize, Fault> {
+    fn answer(&mut self, body: &[u8]) -> Result<usize, Fault> {
         self.frame = self.frame.saturating_add(1);
         let stamp = Stamp {
             connection: 1,
@@ -84,17 +84,12 @@ impl Settled {
         };
         let now = Moment::of_millis(0);
         self.out.clear();
-        self.node.answer(alloc, body, stamp, now, &mut self.out)?;
+        self.node.answer(body, stamp, now, &mut self.out)?;
         Ok(self.out.len())
     }
 
     /// Answers so many of the bodies in turn, and gives how many bytes the replies have. Behind the last body comes the first.
-    pub fn answer_in_turn(
-        &mut self,
-        alloc: Global,
-        bodies: &Bodies,
-        times: u32,
-    ) -> Result<usize, Fault> {
+    pub fn answer_in_turn(&mut self, bodies: &Bodies, times: u32) -> Result<usize, Fault> {
         let mut bytes = 0usize;
         let mut start = 0usize;
         for _ in 0..times {
@@ -103,7 +98,7 @@ impl Settled {
             }
             let end = start.saturating_add(bodies.size);
             if let Some(body) = bodies.bytes.get(start..end) {
-                bytes = bytes.saturating_add(self.answer(alloc, body)?);
+                bytes = bytes.saturating_add(self.answer(body)?);
             }
             start = end;
         }

@@ -40,7 +40,7 @@ impl Embedded {
     }
 
     /// Answers the body of a frame, as [`Node::answer`] does.
-    pub(crate) fn answer(&mut self, alloc: Global, body: &[u8], stamp: Stamp, now: Moment) -> i32
+    pub(crate) fn answer(&mut self, body: &[u8], stamp: Stamp, now: Moment) -> i32
         ensures replied { result ≡ DONE → Answers self.old.node (Frame body.now stamp now) Answered.Replied self.new.node
             self.old.replies.items self.new.replies.items }
         ensures closes { result ≡ CLOSES → Answers self.old.node (Frame body.now stamp now) Answered.Closes self.new.node
@@ -50,7 +50,7 @@ impl Embedded {
         ensures at_once { ClosesAtOnce body.now → result ≡ CLOSES }
         ensures topics { self.new.topics ≡ self.old.topics }
     {
-        match self.node.answer(alloc, body, stamp, now, &mut self.replies) {
+        match self.node.answer(body, stamp, now, &mut self.replies) {
             Ok(Answered::Replied) => DONE,
             Ok(Answered::Closes) => CLOSES,
             Err(_) => NO_MEMORY,

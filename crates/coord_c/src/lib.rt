@@ -92,7 +92,7 @@ pub extern "C" fn migwelun_answer(
         return EMPTY;
     };
     let stamp = Stamp { connection, frame };
-    let code = embedded.answer(alloc, body, stamp, Moment::of_millis(moment));
+    let code = embedded.answer(body, stamp, Moment::of_millis(moment));
     slot.put(embedded);
     code
 }

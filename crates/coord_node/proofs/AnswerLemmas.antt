@@ -51,26 +51,26 @@ module _ (c : Coordinator) (name : List ℕ) (g : Group) where
   -- it isn't kept where it gives no success
   makes_nothing : (given : group.Answer) → succeeds given ≡ false → MakesBy given c name g given c
   makes_nothing (group.Replied r) fail =
-      subst (λ (b : Bool). Makes b (has_room c) c name g r (group.Replied r) c) (sym fail) (refl, refl)
+      subst (λ (b : Bool). Makes b (has_room c) c (record { name = name; left = g; reply = r }) (group.Replied r) c) (sym fail) (refl, refl)
   makes_nothing group.Closes fail = (refl, refl)
 
   -- nor where the node is full
   makes_no_more : (given : group.Answer) (refused : group.Reply) → succeeds given ≡ true → MOST_GROUPS ≤ finite.len c.groups
       → refused ≡ group.refusal CoordinatorNotAvailable → MakesBy given c name g (group.Replied refused) c
   makes_no_more (group.Replied r) refused success most is =
-      let made : Makes true false c name g r (group.Replied refused) c = (ap group.Replied is, refl) in
-      let by_room : Makes true (has_room c) c name g r (group.Replied refused) c =
-      subst (λ (b : Bool). Makes true b c name g r (group.Replied refused) c) (sym (le-ltb (finite.len c.groups) MOST_GROUPS most)) made in
-      subst (λ (b : Bool). Makes b (has_room c) c name g r (group.Replied refused) c) (sym success) by_room
+      let made : Makes true false c (record { name = name; left = g; reply = r }) (group.Replied refused) c = (ap group.Replied is, refl) in
+      let by_room : Makes true (has_room c) c (record { name = name; left = g; reply = r }) (group.Replied refused) c =
+      subst (λ (b : Bool). Makes true b c (record { name = name; left = g; reply = r }) (group.Replied refused) c) (sym (le-ltb (finite.len c.groups) MOST_GROUPS most)) made in
+      subst (λ (b : Bool). Makes b (has_room c) c (record { name = name; left = g; reply = r }) (group.Replied refused) c) (sym success) by_room
   makes_no_more group.Closes refused success most is = absurd (true≢false (sym success))
 
   makes_one_more : (given : group.Answer) (new : Coordinator) → succeeds given ≡ true → finite.len c.groups < MOST_GROUPS
       → new ≡ with_group c name g → MakesBy given c name g given new
   makes_one_more (group.Replied r) new success less is =
-      let made : Makes true true c name g r (group.Replied r) new = (refl, is) in
-      let by_room : Makes true (has_room c) c name g r (group.Replied r) new =
-      subst (λ (b : Bool). Makes true b c name g r (group.Replied r) new) (sym ((Decides-ltb (finite.len c.groups) MOST_GROUPS).1 less)) made in
-      subst (λ (b : Bool). Makes b (has_room c) c name g r (group.Replied r) new) (sym success) by_room
+      let made : Makes true true c (record { name = name; left = g; reply = r }) (group.Replied r) new = (refl, is) in
+      let by_room : Makes true (has_room c) c (record { name = name; left = g; reply = r }) (group.Replied r) new =
+      subst (λ (b : Bool). Makes true b c (record { name = name; left = g; reply = r }) (group.Replied r) new) (sym ((Decides-ltb (finite.len c.groups) MOST_GROUPS).1 less)) made in
+      subst (λ (b : Bool). Makes b (has_room c) c (record { name = name; left = g; reply = r }) (group.Replied r) new) (sym success) by_room
   makes_one_more group.Closes new success less is = absurd (true≢false (sym success))
 
 module _ (c : Coordinator) (h : Arrival) (absent : finite.get c.groups h.heartbeat.group ≡ None) (g : Group) where

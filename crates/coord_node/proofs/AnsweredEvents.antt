@@ -174,7 +174,7 @@ sends correlation fits group.Closes told = (Closes, tt)
 -- ---- heartbeats
 
 module _ (c : Coordinator) (serving : IsServing c) (new_is_sound : IsSound (new_group c.salt)) (heartbeats : HasAnAnswer) where
-  makes : (success room : Bool) (name : Text) (g : Group) (reply : group.Reply) → IsTold reply → (answer : group.Answer) × (new : Coordinator) × Makes success room c name g reply answer new × IsToldIn answer
+  makes : (success room : Bool) (name : Text) (g : Group) (reply : group.Reply) → IsTold reply → (answer : group.Answer) × (new : Coordinator) × Makes success room c (record { name = name; left = g; reply = reply }) answer new × IsToldIn answer
   makes true true name g reply told = (group.Replied reply, _, (refl, refl), told)
   makes true false name g reply told = (group.Replied (group.refusal CoordinatorNotAvailable), c, (refl, refl), refused_told CoordinatorNotAvailable)
   makes false room name g reply told = (group.Replied reply, c, (refl, refl), told)

@@ -75,7 +75,7 @@ step_replies g h a n past joins empty step = by a refl
 -- ---- the node
 
 made : (success room : Bool) (c : Coordinator) (name : List ℕ) (g : Group) (r : group.Reply) (a : group.Answer) (n : Coordinator)
-    → Makes success room c name g r a n → Replies a
+    → Makes success room c (record { name = name; left = g; reply = r }) a n → Replies a
 made true true c name g r a n step = replied a _ step.0
 made true false c name g r a n step = replied a _ step.0
 made false room c name g r a n step = replied a _ step.0

@@ -2,6 +2,7 @@
 use Rattle.std.proofs.Common.{◌≡◌, ℕ, zero, suc, ◌≤◌, ◌<◌, ◌+◌, ℤ, pos, negsuc, Bool, true, false, ◌||◌, ◌&&◌, nat_le, cond, List, [], ◌∷◌, ◌++◌, Option, Some, None, IfSome, max, ◌==◌, inl, refl, sym, ap, subst, ◌∙◌, arith, true≢false}
 use Rattle.std.specs.Prelude.{FitsSigned}
 use Rattle.std.specs.Cmp.{second_so}
+use Rattle.std.specs.Option.{MatchOption}
 use Rattle.std.specs.FinMap as finite
 use Rattle.std.specs.Int.{w32, w64, to_be_bytes}
 use Rattle.std.proofs.lemmas.Bool.{leb-false}
@@ -20,14 +21,14 @@ use Rattle.group_types.specs.Partition.{partition_cmp, Partitions}
 use Rattle.group_types.specs.Topics.{Topics}
 use Rattle.group_types.specs.MemberId.{made_id}
 use Rattle.group_types.specs.Owners.{IsIndex, share_of}
-use Rattle.group_types.specs.Request.{Heartbeat, Kind, Joins, Beats, Leaves, GoesAway, IsNone, LEAVES_AT, GOES_AWAY_AT, is_full, kind_of, reported}
+use Rattle.group_types.specs.Request.{Heartbeat, Kind, Joins, Beats, Leaves, GoesAway, MeansNothing, LEAVES_AT, GOES_AWAY_AT, is_full, kind_of, reported}
 use Rattle.group_types.specs.Group.{Group, Record, held}
 use Rattle.group_types.specs.Settle.{may_settle, settled, settled_by}
 use Rattle.group_types.specs.Join.{IsNamed, Name, name_of_serial}
 use Rattle.group_types.specs.Leave.{last_epoch, last_epoch_at}
 use Rattle.group_types.specs.Renewal.{Renews, RenewsWhere, changed_if, view_for}
 use Rattle.group_types.specs.Checks.{Verdict, Accepted, Refused, Overtaken, Member, Sender, sender_of, verdict_on}
-use Rattle.group_types.specs.HeartbeatStep.{Answer, Arrival, BeatsWith, ByVerdict, Closes, Draft, GoesAwayWith, GoesOn, HeartbeatStep, Heir, JoinsUnder, Replied, RepliesTo, Reply, SettlesAndReplies, StepOf, TakesIn, acceptance, assignment_of, draft_of_beat, draft_of_join, epoch_number, farewell, handed_over, heir_or, is_news, refusal, sent_after, shown}
+use Rattle.group_types.specs.HeartbeatStep.{Answer, Arrival, BeatsWith, ByVerdict, Closes, Draft, GoesAwayWith, HeartbeatStep, IsRefused, JoinsAs, Replied, Reply, Stages, StepOf, TakesIn, acceptance, assignment_of, draft_of_beat, draft_of_join, draft_under, epoch_number, farewell, is_news, refusal, shown}
 use Rattle.group_types.specs.Sound.{IsOfView, IsSound}
 use Rattle.group_types.proofs.Drafts.{IsReady, beat_is_ready, join_is_ready}
 use Rattle.group_types.proofs.Lookups.{some_is}
@@ -105,19 +106,18 @@ shown_told g sound topics m =
           (id, index_told p.index at.topic.count at.index (topics.image.counts at.name at.topic at.is_topic).1);
     }
 
-replies_told : (g : Group) → IsSound g → AreNodeTopics g.view → (d : Draft) (o : Option Record) → finite.get g.records d.id ≡ o → FitsText (heir_or d.id d.heir)
-    → (full : Bool) (a : Answer) (n : Group) → RepliesTo g d o full a n → IsToldIn a
-replies_told g sound topics d None none fits full a n is = absurd is
-replies_told g sound topics d (Some r) kept fits full a n is =
-    let low = sound.epochs d.id r kept in
+replies_told : (g : Group) → IsSound g → AreNodeTopics g.view → (m : Text) (r : Record) → finite.get g.records m ≡ Some r → FitsText m
+    → (full : Bool) → IsToldIn (Replied (acceptance m r (assignment_of (full || is_news r.sent (shown g m)) (shown g m))))
+replies_told g sound topics m r kept fits full =
+    let low = sound.epochs m r kept in
     let target = sound.target_epoch in
     let most = sound.epoch in
-    subst IsToldIn (sym is.0) (record {
+    record {
       member = fits;
       epoch = epoch_told r.epoch r refl (omega arith);
       interval = record { sfits = omega arith };
-      assignment = assigned_told (full || is_news r.sent (shown g d.id)) (shown g d.id) (shown_told g sound topics d.id);
-    })
+      assignment = assigned_told (full || is_news r.sent (shown g m)) (shown g m) (shown_told g sound topics m);
+    }
 
 -- ---- the settling, the renewal and the change
 
@@ -128,10 +128,13 @@ settled_view may g m (Some r) now = refl
 settled_topics : (g : Group) (m : Text) (owned : Option Partitions) (now : ℕ) → AreNodeTopics g.view → AreNodeTopics (settled g m owned now).view
 settled_topics g m owned now topics = subst AreNodeTopics (sym (settled_view (may_settle g.grants m _ owned) g m (finite.get g.records m) now)) topics
 
-settles_told : (renewed : Group) → IsSound renewed → AreNodeTopics renewed.view → (d : Draft) → FitsText (heir_or d.id d.heir) → (q : Heartbeat) (a : Answer) (n : Group) → SettlesAndReplies renewed d q a n → IsToldIn a
-settles_told renewed sound topics d fits q a n is =
-    let g : Group = settled renewed d.id (reported q) renewed.clock in
-    replies_told g (settled_is_sound renewed sound d.id (reported q) renewed.clock) (settled_topics renewed d.id (reported q) renewed.clock topics) d (finite.get g.records d.id) refl fits (is_full q) a n is
+settles_told : (changed : Group) (d : Draft) (q : Heartbeat) (a : Answer) (n : Group) (stages : Stages changed d q a n) → IsSound stages.renewed → AreNodeTopics stages.renewed.view → FitsText d.id → IsToldIn a
+settles_told changed d q a n stages sound topics fits =
+    let renewed : Group = stages.renewed in
+    let is_sound : IsSound stages.settled = subst IsSound (sym stages.settles) (settled_is_sound renewed sound d.id (reported q) renewed.clock) in
+    let of_node : AreNodeTopics stages.settled.view = subst (λ (g : Group). AreNodeTopics g.view) (sym stages.settles) (settled_topics renewed d.id (reported q) renewed.clock topics) in
+    subst IsToldIn (sym (stages.answers ∙ ap (λ o. Replied (acceptance d.id stages.kept o)) stages.tells))
+    (replies_told stages.settled is_sound of_node d.id stages.kept stages.is_kept fits (is_full q))
 
 pub renewed_view : (b : Bool) (g renewed : Group) → RenewsWhere b g renewed → renewed.view ≡ g.view
 renewed_view true g renewed is = ap (λ (x : Group). x.view) is
@@ -151,7 +154,7 @@ pub changed_topics : (change : Bool) (g : Group) (view : Topics) → AreNodeTopi
 changed_topics true g view stored present = present
 changed_topics false g view stored present = stored
 
-module _ (g : Group) (sound : IsSound g) (d : Draft) (ready : IsReady g d) (fits : FitsText (heir_or d.id d.heir)) (same : d.group.view ≡ g.view) (stored : AreNodeTopics g.view)
+module _ (g : Group) (sound : IsSound g) (d : Draft) (ready : IsReady g d) (fits : FitsText d.id) (same : d.group.view ≡ g.view) (stored : AreNodeTopics g.view)
     (q : Heartbeat) (image : Topics) (present : AreNodeTopics image) (a : Answer) (n : Group) where
   abbrev View : Topics
   View = view_for image d.group.records
@@ -164,22 +167,22 @@ module _ (g : Group) (sound : IsSound g) (d : Draft) (ready : IsReady g d) (fits
       let changed : Group = changed_if change d.group View in
       subst AreNodeTopics (sym (renewed_view (changed.epoch == changed.target_epoch) changed renewed renews)) (known change)
 
-  goes_told : (change : Bool) → (change && nat_le GREATEST_EPOCH g.epoch) ≡ false → GoesOn (changed_if change d.group View) d q a n → IsToldIn a
-  goes_told false room goes =
-      settles_told goes.renewed (renewed_is_sound d.group ready.sound goes.renewed goes.renews) (then_known false goes.renewed goes.renews) d fits q a n goes.replies
-  goes_told true room goes =
+  goes_told : (change : Bool) → (change && nat_le GREATEST_EPOCH g.epoch) ≡ false → Stages (changed_if change d.group View) d q a n → IsToldIn a
+  goes_told false room stages =
+      settles_told d.group d q a n stages (renewed_is_sound d.group ready.sound stages.renewed stages.renews) (then_known false stages.renewed stages.renews) fits
+  goes_told true room stages =
       let below = leb-false GREATEST_EPOCH g.epoch room in
       let epochs = ready.epoch in
       let target = ready.sound.target_epoch in
-      settles_told goes.renewed
-      (changed_is_sound d.group ready.sound (suc d.group.epoch) View goes.renewed (omega (arith, target)) (omega (arith, below, epochs)) goes.renews)
-      (then_known true goes.renewed goes.renews) d fits q a n goes.replies
+      settles_told (changed_if true d.group View) d q a n stages
+      (changed_is_sound d.group ready.sound (suc d.group.epoch) View stages.renewed (omega (arith, target)) (omega (arith, below, epochs)) stages.renews)
+      (then_known true stages.renewed stages.renews) fits
 
   taken_told : TakesIn g d q image a n → IsToldIn a
   taken_told takes = by (takes.change && nat_le GREATEST_EPOCH g.epoch) refl takes.step
     where
       by : (b : Bool) → (takes.change && nat_le GREATEST_EPOCH g.epoch) ≡ b
-          → ByVerdict (cond b (Refused codes.CoordinatorNotAvailable) Accepted) (GoesOn (changed_if takes.change d.group View) d q) g a n → IsToldIn a
+          → ByVerdict (cond b (Refused codes.CoordinatorNotAvailable) Accepted) (Stages (changed_if takes.change d.group View) d q) g a n → IsToldIn a
       by true stuck is = subst IsToldIn (sym is.0) (refused_told codes.CoordinatorNotAvailable)
       by false room is = goes_told takes.change room is
 
@@ -203,7 +206,7 @@ name_fits g (c ∷ m) name is fits =
 
 -- whoever joins, the reply names the id under which it does, and the draft has the group's view
 join_names : (g : Group) (serial now : ℕ) (id : Text) (own : Option Record) (other : Option Member) (q : Heartbeat) (h : Arrival) → FitsText id
-    → FitsText (heir_or (draft_of_join (record g { serial = serial }) now id own other q h.stamp).id (draft_of_join (record g { serial = serial }) now id own other q h.stamp).heir)
+    → FitsText (draft_of_join (record g { serial = serial }) now id own other q h.stamp).id
 join_names g serial now id (Some r) other q h fits = fits
 join_names g serial now id None None q h fits = fits
 join_names g serial now id None (Some old) q h fits = fits
@@ -229,17 +232,20 @@ module _ (g : Group) (sound : IsSound g) (stored : AreNodeTopics g.view) (h : Ar
   abbrev TheSender : Sender
   TheSender = sender_of g.records h.heartbeat
 
-  joins_told : verdict_on Joins TheSender g h.heartbeat h.stamp ≡ Accepted → (o : Option Name) → IsNamed g h.heartbeat.member o → JoinsUnder o TheSender g h a n → IsToldIn a
-  joins_told accepted None named is = subst IsToldIn (sym is.0) (refused_told codes.CoordinatorNotAvailable)
-  joins_told accepted (Some name) named is =
-      let valid = passed _ _ _ (refuses codes.InvalidRequest) accepted in
-      let supported = passed _ _ _ (refuses codes.UnsupportedAssignor) valid.1 in
-      let in_time = passed _ _ _ overtakes supported.1 in
-      let released = passed _ _ _ (refuses codes.UnreleasedInstanceId) in_time.1 in
-      let room = passed _ _ _ (refuses codes.GroupMaxSizeReached) released.1 in
-      taken_told g sound _ (join_is_ready g sound (max g.clock h.moment) h.heartbeat h.stamp name named TheSender.own refl TheSender.other refl released.0 room.0)
-      (join_names g name.next_serial (max g.clock h.moment) name.id TheSender.own TheSender.other h.heartbeat h (name_fits g h.heartbeat.member name named fits))
-      (join_view g name.next_serial (max g.clock h.moment) name.id TheSender.own TheSender.other h.heartbeat h) stored h.heartbeat h.image present a n is
+  joins_told : verdict_on Joins TheSender g h.heartbeat h.stamp ≡ Accepted → JoinsAs TheSender g h a n → IsToldIn a
+  joins_told accepted joins = by joins.name joins.is_named joins.joins
+    where
+      by : (o : Option Name) → IsNamed g h.heartbeat.member o → MatchOption o (IsRefused codes.CoordinatorNotAvailable g a n) (λ x. TakesIn g (draft_under x TheSender g h) h.heartbeat h.image a n) → IsToldIn a
+      by None named is = subst IsToldIn (sym is.0) (refused_told codes.CoordinatorNotAvailable)
+      by (Some name) named is =
+          let valid = passed _ _ _ (refuses codes.InvalidRequest) accepted in
+          let supported = passed _ _ _ (refuses codes.UnsupportedAssignor) valid.1 in
+          let in_time = passed _ _ _ overtakes supported.1 in
+          let released = passed _ _ _ (refuses codes.UnreleasedInstanceId) in_time.1 in
+          let room = passed _ _ _ (refuses codes.GroupMaxSizeReached) released.1 in
+          taken_told g sound _ (join_is_ready g sound (max g.clock h.moment) h.heartbeat h.stamp name named TheSender.own refl TheSender.other refl released.0 room.0)
+          (join_names g name.next_serial (max g.clock h.moment) name.id TheSender.own TheSender.other h.heartbeat h (name_fits g h.heartbeat.member name named fits))
+          (join_view g name.next_serial (max g.clock h.moment) name.id TheSender.own TheSender.other h.heartbeat h) stored h.heartbeat h.image present a n is
 
   beats_told : (own : Option Record) → TheSender.own ≡ own → BeatsWith own g h a n → IsToldIn a
   beats_told None none is = absurd is
@@ -251,11 +257,11 @@ module _ (g : Group) (sound : IsSound g) (stored : AreNodeTopics g.view) (h : Ar
   goes_away_told (Some r) is = subst IsToldIn (sym is.0) (going_told h.heartbeat.member fits)
 
   step_told : (kind : Kind) → verdict_on kind TheSender g h.heartbeat h.stamp ≡ Accepted → StepOf kind TheSender g h a n → IsToldIn a
-  step_told Joins accepted is = joins_told accepted is.name is.is_named is.joins
+  step_told Joins accepted is = joins_told accepted is
   step_told (Beats e) accepted is = beats_told TheSender.own refl is
   step_told Leaves accepted is = subst IsToldIn (sym is.0) (leaving_told h.heartbeat.member fits)
   step_told GoesAway accepted is = goes_away_told TheSender.own is
-  step_told IsNone accepted is = absurd is
+  step_told MeansNothing accepted is = absurd is
 
   pub is_told : HeartbeatStep g h a n → IsToldIn a
   is_told is = by_verdict (verdict_on (kind_of h.heartbeat.epoch) TheSender g h.heartbeat h.stamp) (StepOf (kind_of h.heartbeat.epoch) TheSender g h) g a n (step_told (kind_of h.heartbeat.epoch)) is

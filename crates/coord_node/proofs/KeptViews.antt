@@ -1,13 +1,14 @@
 -- A coordinator that serves goes on serving: each view that an event leaves is of an image.
 use Rattle.std.proofs.Common.{◌≡◌, ℕ, Bool, true, false, cond, List, [], ◌∷◌, map, Option, Some, None, ◌==◌, inl, inr, max, refl, sym, ap, subst, ◌∙◌}
 use Rattle.std.specs.FinMap as finite
+use Rattle.std.specs.Option.{MatchOption}
 use Rattle.std.specs.FinMap.{find}
 use Rattle.std.specs.Ordering.{eq_by_cmp}
 use Rattle.kip_msgs.specs.Values.{RequestValue, heartbeat_request, commit_request}
 use Rattle.group_types.specs.declared.stamp.Stamp.{Stamp}
 use Rattle.group_types.specs.Text.{Text, text_cmp}
 use Rattle.group_types.specs.Topics.{Topics}
-use Rattle.group_types.specs.Request.{Heartbeat, Kind, Joins, Beats, Leaves, GoesAway, IsNone, is_full, kind_of, reported}
+use Rattle.group_types.specs.Request.{Heartbeat, Kind, Joins, Beats, Leaves, GoesAway, MeansNothing, kind_of, reported}
 use Rattle.group_types.specs.Group.{Group, Record, new_group}
 use Rattle.group_types.specs.Leave.{risen, without_member}
 use Rattle.group_types.specs.Settle.{may_settle, settled}
@@ -16,7 +17,8 @@ use Rattle.group_types.specs.Commit.{Commit, CommitReply}
 use Rattle.group_types.specs.Renewal.{changed_if, view_for}
 use Rattle.group_types.specs.Join.{Name}
 use Rattle.group_types.specs.Checks.{Verdict, Accepted, Refused, Overtaken, Sender, sender_of, verdict_on}
-use Rattle.group_types.specs.HeartbeatStep.{Arrival, BeatsWith, ByVerdict, Draft, GoesAwayWith, GoesOn, HeartbeatStep, Heir, JoinsUnder, RepliesTo, SettlesAndReplies, StepOf, TakesIn, draft_of_beat, draft_of_join, handed_over, verdict_on_change}
+use Rattle.group_types.specs.HeartbeatStep.{Arrival, BeatsWith, ByVerdict, Draft, GoesAwayWith, HeartbeatStep, IsRefused, Stages, StepOf, TakesIn, draft_of_beat, draft_under, verdict_on_change}
+use Rattle.group_types.specs.declared.code.Code.TheVariants.{CoordinatorNotAvailable}
 use Rattle.group_types.specs.HeartbeatStep as group
 use Rattle.group_types.proofs.Lookups.{Found, this, another, found, not_none, some_is}
 use Rattle.group_types.proofs.Orders.{text_cmp_total}
@@ -41,31 +43,24 @@ by_verdict Accepted Accepts g a n over accepts is = accepts is
 by_verdict (Refused code) Accepts g a n over accepts is = subst IsOver (sym is.1) over
 by_verdict Overtaken Accepts g a n over accepts is = subst IsOver (sym is.1) over
 
-handed : (g : Group) (m : Text) (r : Record) (heir : Option Heir) → IsOver g → IsOver (handed_over g m r heir)
-handed g m r None over = over
-handed g m r (Some heir) over = over
-
-replied : (g : Group) (d : Draft) (o : Option Record) (full : Bool) (a : group.Answer) (n : Group) → IsOver g → RepliesTo g d o full a n → IsOver n
-replied g d None full a n over is = absurd is
-replied g d (Some r) full a n over is = subst IsOver (sym is.1) (handed g d.id _ d.heir over)
-
-settles : (renewed : Group) (d : Draft) (q : Heartbeat) (a : group.Answer) (n : Group) → IsOver renewed → SettlesAndReplies renewed d q a n → IsOver n
-settles renewed d q a n over is =
-    replied (settled renewed d.id (reported q) renewed.clock) d _ (is_full q) a n
-    (subst AreNodeTopics (sym (settled_view (may_settle renewed.grants d.id _ (reported q)) renewed d.id (finite.get renewed.records d.id) renewed.clock)) over) is
+stages_over : (changed : Group) (d : Draft) (q : Heartbeat) (a : group.Answer) (n : Group) (stages : Stages changed d q a n) → IsOver stages.renewed → IsOver n
+stages_over changed d q a n stages over =
+    let renewed : Group = stages.renewed in
+    subst IsOver (sym stages.leaves) (subst IsOver (sym stages.settles)
+    (subst AreNodeTopics (sym (settled_view (may_settle renewed.grants d.id _ (reported q)) renewed d.id (finite.get renewed.records d.id) renewed.clock)) over))
 
 takes_in : (g : Group) (d : Draft) (q : Heartbeat) (image : Topics) (a : group.Answer) (n : Group) → IsOver g → d.group.view ≡ g.view → AreNodeTopics image → TakesIn g d q image a n → IsOver n
 takes_in g d q image a n over same present is =
     let changed : Group = changed_if is.change d.group (view_for image d.group.records) in
     let known : AreNodeTopics changed.view = changed_topics is.change d.group (view_for image d.group.records) (subst AreNodeTopics (sym same) over) (view_for-AreNodeTopics image d.group.records present) in
-    by_verdict (verdict_on_change is.change g.epoch) (GoesOn changed d q) g a n over
-    (λ goes. settles goes.renewed d q a n (subst AreNodeTopics (sym (renewed_view (changed.epoch == changed.target_epoch) changed goes.renewed goes.renews)) known) goes.replies) is.step
+    by_verdict (verdict_on_change is.change g.epoch) (Stages changed d q) g a n over
+    (λ stages. stages_over changed d q a n stages (subst AreNodeTopics (sym (renewed_view (changed.epoch == changed.target_epoch) changed stages.renewed stages.renews)) known)) is.step
 
-joins : (o : Option Name) (sender : Sender) (g : Group) (h : Arrival) (a : group.Answer) (n : Group) → IsOver g → AreNodeTopics h.image → JoinsUnder o sender g h a n → IsOver n
+joins : (o : Option Name) (sender : Sender) (g : Group) (h : Arrival) (a : group.Answer) (n : Group) → IsOver g → AreNodeTopics h.image
+    → MatchOption o (IsRefused CoordinatorNotAvailable g a n) (λ name. TakesIn g (draft_under name sender g h) h.heartbeat h.image a n) → IsOver n
 joins None sender g h a n over present is = subst IsOver (sym is.1) over
 joins (Some name) sender g h a n over present is =
-    let named : Group = record g { serial = name.next_serial } in
-    takes_in g (draft_of_join named (max g.clock h.moment) name.id sender.own sender.other h.heartbeat h.stamp) h.heartbeat h.image a n over
+    takes_in g (draft_under name sender g h) h.heartbeat h.image a n over
     (join_view g name.next_serial (max g.clock h.moment) name.id sender.own sender.other h.heartbeat h) present is
 
 beats : (own : Option Record) (g : Group) (h : Arrival) (a : group.Answer) (n : Group) → IsOver g → AreNodeTopics h.image → BeatsWith own g h a n → IsOver n
@@ -81,7 +76,7 @@ step_of Joins sender g h a n over present is = joins is.name sender g h a n over
 step_of (Beats e) sender g h a n over present is = beats sender.own g h a n over present is
 step_of Leaves sender g h a n over present is = subst IsOver (sym is.1) over
 step_of GoesAway sender g h a n over present is = goes_away sender.own g h a n over is
-step_of IsNone sender g h a n over present is = absurd is
+step_of MeansNothing sender g h a n over present is = absurd is
 
 beaten : (g : Group) (h : Arrival) (a : group.Answer) (n : Group) → IsOver g → AreNodeTopics h.image → HeartbeatStep g h a n → IsOver n
 beaten g h a n over present is =
@@ -114,7 +109,7 @@ put c over name g is q x there = by (found c.groups name g q x there)
     by (this same value) = subst IsOver (sym value) is
     by (another other apart before) = over q x before
 
-makes : (success room : Bool) (c : Coordinator) (name : Text) (g : Group) (reply : group.Reply) (a : group.Answer) (n : Coordinator) → AreOver c → IsOver g → Makes success room c name g reply a n → AreOver n
+makes : (success room : Bool) (c : Coordinator) (name : Text) (g : Group) (reply : group.Reply) (a : group.Answer) (n : Coordinator) → AreOver c → IsOver g → Makes success room c (record { name = name; left = g; reply = reply }) a n → AreOver n
 makes true true c name g reply a n over is made = subst AreOver (sym made.1) (put c over name g is)
 makes true false c name g reply a n over is made = subst AreOver (sym made.1) over
 makes false room c name g reply a n over is made = subst AreOver (sym made.1) over
@@ -165,7 +160,7 @@ views_kept c (Image topics) a n over image is = subst AreOver (sym is.1) over
 heartbeat_image : (there : Option Group) (c : Coordinator) (h : Arrival) (a : group.Answer) (n : Coordinator) → HeartbeatAt there c h a n → n.image ≡ c.image
 heartbeat_image None c h a n is = made_image is.0 is.3
   where
-    makes_image : (success room : Bool) (reply : group.Reply) → Makes success room c h.heartbeat.group is.1 reply a n → n.image ≡ c.image
+    makes_image : (success room : Bool) (reply : group.Reply) → Makes success room c (record { name = h.heartbeat.group; left = is.1; reply = reply }) a n → n.image ≡ c.image
     makes_image true true reply made = ap (λ (x : Coordinator). x.image) made.1
     makes_image true false reply made = ap (λ (x : Coordinator). x.image) made.1
     makes_image false room reply made = ap (λ (x : Coordinator). x.image) made.1

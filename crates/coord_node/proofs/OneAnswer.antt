@@ -34,7 +34,7 @@ same_sent None Closes (Done k) one other = absurd other
 same_sent None (Done k) b one other = absurd one
 
 same_makes : (success room : Bool) (c : Coordinator) (name : List ℕ) (g : Group) (r : group.Reply) (a b : group.Answer) (n o : Coordinator)
-    → Makes success room c name g r a n → Makes success room c name g r b o → (a ≡ b) × (n ≡ o)
+    → Makes success room c (record { name = name; left = g; reply = r }) a n → Makes success room c (record { name = name; left = g; reply = r }) b o → (a ≡ b) × (n ≡ o)
 same_makes true true c name g r a b n o one other = (one.0 ∙ sym other.0, one.1 ∙ sym other.1)
 same_makes true false c name g r a b n o one other = (one.0 ∙ sym other.0, one.1 ∙ sym other.1)
 same_makes false room c name g r a b n o one other = (one.0 ∙ sym other.0, one.1 ∙ sym other.1)

@@ -1,15 +1,17 @@
 -- A reply names the id of the request, or one that was made, which is short.
 use Rattle.std.proofs.Common.{◌≡◌, ℕ, ◌≤◌, Bool, [], ◌∷◌, length, Option, Some, None, IfSome, max, refl, sym, ap, subst, arith}
+use Rattle.std.specs.Option.{MatchOption}
 use Rattle.group_types.specs.Limits.{LONGEST_STRING}
 use Rattle.group_types.specs.Text.{Text}
 use Rattle.group_types.specs.Topics.{Topics}
 use Rattle.group_types.specs.MemberId.{made_id}
-use Rattle.group_types.specs.Request.{Heartbeat, Kind, Joins, Beats, Leaves, GoesAway, IsNone, kind_of}
+use Rattle.group_types.specs.Request.{Heartbeat, Kind, Joins, Beats, Leaves, GoesAway, MeansNothing, kind_of}
 use Rattle.group_types.specs.Group.{Group, Record}
 use Rattle.group_types.specs.Join.{Name, IsNamed, name_of_serial}
 use Rattle.group_types.specs.Renewal.{changed_if, view_for}
 use Rattle.group_types.specs.Checks.{Verdict, Accepted, Refused, Overtaken, Member, Sender, sender_of, verdict_on}
-use Rattle.group_types.specs.HeartbeatStep.{Answer, Replied, Closes, Arrival, Draft, Reply, refusal, heir_or, draft_of_beat, draft_of_join, ByVerdict, verdict_on_change, RepliesTo, SettlesAndReplies, GoesOn, TakesIn, JoinsUnder, BeatsWith, GoesAwayWith, StepOf, HeartbeatStep}
+use Rattle.group_types.specs.HeartbeatStep.{Answer, Replied, Closes, Arrival, Draft, IsRefused, Reply, Stages, refusal, acceptance, draft_of_beat, draft_of_join, draft_under, ByVerdict, verdict_on_change, TakesIn, BeatsWith, GoesAwayWith, StepOf, HeartbeatStep}
+use Rattle.group_types.specs.declared.code.Code.TheVariants.{CoordinatorNotAvailable}
 use Rattle.group_types.proofs.Lookups.{some_is}
 use Rattle.group_types.proofs.MadeIds.{length-made_id}
 use Rattle.coord_node.specs.Answers.{HasShortId}
@@ -42,30 +44,22 @@ by_verdict Accepted Accepts id g a n accepts is = accepts is
 by_verdict (Refused code) Accepts id g a n accepts is = refused id a (refusal code) is.0 refl
 by_verdict Overtaken Accepts id g a n accepts is = subst (Names id) (sym is.0) tt
 
-names_heir : (d : Draft) (g : Group) (r : Option Record) (full : Bool) (a : Answer) (n : Group) → RepliesTo g d r full a n → Names (heir_or d.id d.heir) a
-names_heir d g None full a n is = absurd is
-names_heir d g (Some r) full a n is = replied (heir_or d.id d.heir) a _ is.0 refl
-
-settled_and_replied : (renewed : Group) (d : Draft) (q : Heartbeat) (a : Answer) (n : Group) → SettlesAndReplies renewed d q a n → Names (heir_or d.id d.heir) a
-settled_and_replied renewed d q a n is = names_heir d _ _ _ a n is
-
-taken_in : (g : Group) (d : Draft) (q : Heartbeat) (image : Topics) (a : Answer) (n : Group) → TakesIn g d q image a n → Names (heir_or d.id d.heir) a
+taken_in : (g : Group) (d : Draft) (q : Heartbeat) (image : Topics) (a : Answer) (n : Group) → TakesIn g d q image a n → Names d.id a
 taken_in g d q image a n is =
-    let changed : Group = changed_if is.change d.group (view_for image d.group.records) in
-    by_verdict (verdict_on_change is.change g.epoch) (GoesOn changed d q) (heir_or d.id d.heir) g a n (λ goes. settled_and_replied goes.renewed d q a n goes.replies) is.step
+    by_verdict (verdict_on_change is.change g.epoch) (Stages (changed_if is.change d.group (view_for image d.group.records)) d q) d.id g a n
+    (λ stages. replied d.id a (acceptance d.id stages.kept stages.told) stages.answers refl) is.step
 
 -- whoever joins, the reply names the id under which it does
-heir_is : (g : Group) (now : ℕ) (id : Text) (own : Option Record) (other : Option Member) (q : Heartbeat) (h : Arrival)
-    → heir_or (draft_of_join g now id own other q h.stamp).id (draft_of_join g now id own other q h.stamp).heir ≡ id
-heir_is g now id (Some r) other q h = refl
-heir_is g now id None None q h = refl
-heir_is g now id None (Some old) q h = refl
+id_is : (g : Group) (now : ℕ) (id : Text) (own : Option Record) (other : Option Member) (q : Heartbeat) (h : Arrival)
+    → (draft_of_join g now id own other q h.stamp).id ≡ id
+id_is g now id (Some r) other q h = refl
+id_is g now id None None q h = refl
+id_is g now id None (Some old) q h = refl
 
-joined : (sender : Sender) (g : Group) (h : Arrival) (name : Name) (a : Answer) (n : Group) → JoinsUnder (Some name) sender g h a n → Names name.id a
+joined : (sender : Sender) (g : Group) (h : Arrival) (name : Name) (a : Answer) (n : Group) → TakesIn g (draft_under name sender g h) h.heartbeat h.image a n → Names name.id a
 joined sender g h name a n is =
-    let named : Group = record g { serial = name.next_serial } in
-    subst (λ id. Names id a) (heir_is named (max g.clock h.moment) name.id sender.own sender.other h.heartbeat h)
-    (taken_in g (draft_of_join named (max g.clock h.moment) name.id sender.own sender.other h.heartbeat h.stamp) h.heartbeat h.image a n is)
+    subst (λ id. Names id a) (id_is (record g { serial = name.next_serial }) (max g.clock h.moment) name.id sender.own sender.other h.heartbeat h)
+    (taken_in g (draft_under name sender g h) h.heartbeat h.image a n is)
 
 name_short : (g : Group) (member : Text) (name : Name) → IsNamed g member (Some name) → IsShort member → IsShort name.id
 name_short g [] name (Some serial, is_serial, is) short =
@@ -77,7 +71,8 @@ name_short g (c ∷ m) name is short =
     subst IsShort (sym id) short
 
 joins_short : (sender : Sender) (g : Group) (h : Arrival) (name : Option Name) (a : Answer) (n : Group)
-    → IsShort h.heartbeat.member → IsNamed g h.heartbeat.member name → JoinsUnder name sender g h a n → HasShortId a
+    → IsShort h.heartbeat.member → IsNamed g h.heartbeat.member name
+    → MatchOption name (IsRefused CoordinatorNotAvailable g a n) (λ x. TakesIn g (draft_under x sender g h) h.heartbeat h.image a n) → HasShortId a
 joins_short sender g h None a n short named is = named_short [] a (refused [] a _ is.0 refl) (omega arith)
 joins_short sender g h (Some name) a n short named is =
     named_short name.id a (joined sender g h name a n is) (name_short g h.heartbeat.member name named short)
@@ -97,7 +92,7 @@ step_short (Beats e) sender g h a n short is = named_short h.heartbeat.member a 
 step_short Leaves sender g h a n short is =
     named_short h.heartbeat.member a (replied h.heartbeat.member a _ is.0 refl) short
 step_short GoesAway sender g h a n short is = named_short h.heartbeat.member a (goes_away sender.own g h a n is) short
-step_short IsNone sender g h a n short is = absurd is
+step_short MeansNothing sender g h a n short is = absurd is
 
 whole_short : (v : Verdict) (kind : Kind) (sender : Sender) (g : Group) (h : Arrival) (a : Answer) (n : Group)
     → IsShort h.heartbeat.member → ByVerdict v (StepOf kind sender g h) g a n → HasShortId a

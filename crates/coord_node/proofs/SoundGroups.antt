@@ -31,7 +31,7 @@ put_soundly c sound name g is_sound q x there = by (found c.groups name g q x th
 -- ---- a group that a heartbeat makes
 
 makes_soundly : (success room : Bool) (c : Coordinator) → HasSoundGroups c → (name : Text) (g : Group) → IsSound g
-    → (reply : group.Reply) (answer : group.Answer) (new : Coordinator) → Makes success room c name g reply answer new → HasSoundGroups new
+    → (reply : group.Reply) (answer : group.Answer) (new : Coordinator) → Makes success room c (record { name = name; left = g; reply = reply }) answer new → HasSoundGroups new
 makes_soundly true true c sound name g is_sound reply answer new is = subst HasSoundGroups (sym is.1) (put_soundly c sound name g is_sound)
 makes_soundly true false c sound name g is_sound reply answer new is = subst HasSoundGroups (sym is.1) sound
 makes_soundly false room c sound name g is_sound reply answer new is = subst HasSoundGroups (sym is.1) sound

@@ -31,14 +31,23 @@ is_success UnreleasedInstanceId = false
 is_success UnsupportedAssignor = false
 is_success StaleMemberEpoch = false
 
+-- the node with a group under a name
+abbrev pub with_group : Coordinator → Text → Group → Coordinator
+with_group c name g = record c { groups = finite.insert c.groups name g }
+
+-- a heartbeat of a group that is absent, and what it comes to in a new one
+pub record Opening : Type 0 where
+  pub name : Text
+  pub left : Group
+  pub reply : group.Reply
+
 -- A group that is absent is made by a heartbeat that succeeds in it, where the node has room for one more
 -- group; COORDINATOR_NOT_AVAILABLE where it hasn't.
-abbrev pub Makes : Bool → Bool → Coordinator → List ℕ → Group → group.Reply → group.Answer → Coordinator → Type 0
-Makes true true c name g reply answer new =
-    (answer ≡ group.Replied reply) × (new ≡ record c { groups = finite.insert c.groups name g })
-Makes true false c name g reply answer new =
+abbrev pub Makes : Bool → Bool → Coordinator → Opening → group.Answer → Coordinator → Type 0
+Makes true true c o answer new = (answer ≡ group.Replied o.reply) × (new ≡ with_group c o.name o.left)
+Makes true false c o answer new =
     (answer ≡ group.Replied (group.refusal CoordinatorNotAvailable)) × (new ≡ c)
-Makes false room c name g reply answer new = (answer ≡ group.Replied reply) × (new ≡ c)
+Makes false room c o answer new = (answer ≡ group.Replied o.reply) × (new ≡ c)
 
 abbrev pub has_room : Coordinator → Bool
 has_room c = nat_lt (finite.len c.groups) MOST_GROUPS
@@ -46,12 +55,8 @@ has_room c = nat_lt (finite.len c.groups) MOST_GROUPS
 -- by the answer of the new group
 abbrev pub MakesBy : group.Answer → Coordinator → List ℕ → Group → group.Answer → Coordinator → Type 0
 MakesBy (group.Replied reply) c name g answer new =
-    Makes (is_success reply.code) (has_room c) c name g reply answer new
+    Makes (is_success reply.code) (has_room c) c (record { name = name; left = g; reply = reply }) answer new
 MakesBy group.Closes c name g answer new = (answer ≡ group.Closes) × (new ≡ c)
-
--- the node with a group under a name
-abbrev pub with_group : Coordinator → Text → Group → Coordinator
-with_group c name g = record c { groups = finite.insert c.groups name g }
 
 -- By the group that the node has under the name. Where it has none, a new one answers.
 abbrev pub HeartbeatAt : Option Group → Coordinator → Arrival → group.Answer → Coordinator → Type 0

@@ -44,7 +44,6 @@ impl Kept {
     /// of `out`, which stay. Where memory is short nothing has changed.
     pub(crate) fn heartbeat<'a>(
         &mut self,
-        alloc: Global,
         request: &HeartbeatRequest<'a>,
         stamp: Stamp,
         now: Moment,
@@ -64,7 +63,7 @@ impl Kept {
         let is_current = self.is_current(generation);
         let outcome = self
             .group
-            .heartbeat_over(alloc, request, stamp, now, image, is_current, out)?;
+            .heartbeat_over(request, stamp, now, image, is_current, out)?;
         self.known = known_after(&outcome, self.known, generation);
         Ok(outcome)
     }
@@ -73,7 +72,6 @@ impl Kept {
     /// nothing has changed.
     pub(crate) fn commit<'a>(
         &mut self,
-        alloc: Global,
         request: &CommitRequest<'a>,
         image: &Image,
     ) -> Result<CommitReply<'a>, AllocError>
@@ -82,7 +80,7 @@ impl Kept {
         ensures kept { (generation : Option ℕ) → IsKept generation image.now self.old → IsKept generation image.now self.new }
         ensures err { OnErr result (self.new ≡ self.old) }
     {
-        self.group.commit(alloc, request, image)
+        self.group.commit(request, image)
     }
 
     /// The group meets the moment. Where members were removed, they may have been the last ones that subscribed a topic. Says how

@@ -33,6 +33,7 @@ use topic_meta::Image;
 /// The coordinator of one node: its groups, in the order of their making, and the image of the topics.
 #[derive(Drop)]
 pub struct Node {
+    alloc: Global,
     salt: u64,
     groups: IndexMap<String, Kept, RandomState>,
     image: Image,
@@ -65,6 +66,7 @@ impl Node {
         ensures { result ≡ opening salt }
     {
         Node {
+            alloc,
             salt,
             groups: IndexMap::with_hasher(alloc, hasher),
             image: Image::empty(alloc),
@@ -118,7 +120,6 @@ impl Node {
     /// another one of its member overtook. Where memory is short nothing has changed.
     pub fn answer(
         &mut self,
-        alloc: Global,
         body: &[u8],
         stamp: Stamp,
         now: Moment,
@@ -133,14 +134,13 @@ impl Node {
         if !has_length_of_a_frame(body) {
             return Ok(Answered::Closes);
         }
-        let parsed = ParsedBody::of(alloc, body)?;
-        self.answer_parsed(alloc, &parsed, stamp, now, out)
+        let parsed = ParsedBody::of(self.alloc, body)?;
+        self.answer_parsed(&parsed, stamp, now, out)
     }
 
     /// Answers a body that was read before, as [`Node::answer`] does: its bytes aren't read once more.
     pub fn answer_parsed(
         &mut self,
-        alloc: Global,
         parsed: &ParsedBody<'_>,
         stamp: Stamp,
         now: Moment,
@@ -157,7 +157,7 @@ impl Node {
         }
         let size = parsed.bytes().len();
         match parsed.request() {
-            Some(request) => self.request(alloc, request, size, stamp, now, out),
+            Some(request) => self.request(request, size, stamp, now, out),
             None => Ok(Answered::Closes),
         }
     }
@@ -165,7 +165,6 @@ impl Node {
     /// Answers a request, whose body has so many bytes, by its API.
     fn request(
         &mut self,
-        alloc: Global,
         request: &Request<'_>,
         size: usize,
         stamp: Stamp,
@@ -181,10 +180,10 @@ impl Node {
     {
         match request {
             Request::Heartbeat(header, message) => {
-                self.heartbeat(alloc, header.correlation_id, message, stamp, now, out)
+                self.heartbeat(header.correlation_id, message, stamp, now, out)
             }
             Request::Commit(header, message) => {
-                self.commit(alloc, header.correlation_id, message, size, out)?;
+                self.commit(header.correlation_id, message, size, out)?;
                 Ok(Answered::Replied)
             }
         }
@@ -193,7 +192,6 @@ impl Node {
     /// Answers a heartbeat: the one frame of its reply is appended in the room that is there for it by then.
     fn heartbeat(
         &mut self,
-        alloc: Global,
         correlation: i32,
         request: &HeartbeatRequest<'_>,
         stamp: Stamp,
@@ -206,15 +204,14 @@ impl Node {
             out.old.items out.new.items) }
         ensures err { OnErr result ((self.new ≡ self.old) × (out.new.items ≡ out.old.items)) }
     {
-        let outcome = self.outcome_of(alloc, request, stamp, now, out)?;
-        Ok(send(alloc, correlation, outcome, out))
+        let outcome = self.outcome_of(request, stamp, now, out)?;
+        Ok(send(self.alloc, correlation, outcome, out))
     }
 
     /// Answers a commit, whose body has so many bytes: a reply has no more bytes than its request, so the room for its frame is made
     /// before anything is stored.
     fn commit(
         &mut self,
-        alloc: Global,
         correlation: i32,
         request: &CommitRequest<'_>,
         size: usize,
@@ -228,8 +225,8 @@ impl Node {
         ensures err { OnErr result ((self.new ≡ self.old) × (out.new.items ≡ out.old.items)) }
     {
         out.reserve(size)?;
-        let reply = self.reply_of_commit(alloc, request)?;
-        commit_frame::put(alloc, out, correlation, reply);
+        let reply = self.reply_of_commit(request)?;
+        commit_frame::put(self.alloc, out, correlation, reply);
         Ok(())
     }
 
@@ -237,7 +234,6 @@ impl Node {
     /// short the node has not changed.
     fn reply_of_commit<'a>(
         &mut self,
-        alloc: Global,
         request: &CommitRequest<'a>,
     ) -> Result<CommitReply<'a>, AllocError>
         ensures step { IfOk result (λ reply. CommitsIn self.old (commit_request_value request.now) (commit_reply_value reply) self.new) }
@@ -247,9 +243,9 @@ impl Node {
             Some(place) => {
                 self.last = place;
                 let group = &mut self.groups[place];
-                group.commit(alloc, request, &self.image)
+                group.commit(request, &self.image)
             }
-            None => reply_of_absent(alloc, request),
+            None => reply_of_absent(self.alloc, request),
         }
     }
 
@@ -257,7 +253,6 @@ impl Node {
     /// replies there is room for the reply's frame. Where memory is short the node has not changed.
     fn outcome_of<'a>(
         &mut self,
-        alloc: Global,
         request: &HeartbeatRequest<'a>,
         stamp: Stamp,
         now: Moment,
@@ -274,24 +269,15 @@ impl Node {
             Some(place) => {
                 self.last = place;
                 let kept = &mut self.groups[place];
-                kept.heartbeat(
-                    alloc,
-                    request,
-                    stamp,
-                    now,
-                    &self.image,
-                    self.generation,
-                    out,
-                )
+                kept.heartbeat(request, stamp, now, &self.image, self.generation, out)
             }
-            None => self.outcome_of_new(alloc, request, stamp, now, out),
+            None => self.outcome_of_new(request, stamp, now, out),
         }
     }
 
     /// What a new group makes of a heartbeat. The node keeps it where it has its first member, and there is room for one more group.
     fn outcome_of_new<'a>(
         &mut self,
-        alloc: Global,
         request: &HeartbeatRequest<'a>,
         stamp: Stamp,
         now: Moment,
@@ -305,17 +291,15 @@ impl Node {
         ensures out { out.new.items ≡ out.old.items }
         ensures err { OnErr result (self.new ≡ self.old) }
     {
-        let mut kept = Kept::new(alloc, self.salt, self.hasher);
-        let outcome = kept.heartbeat(
-            alloc,
-            request,
-            stamp,
-            now,
-            &self.image,
-            self.generation,
-            out,
-        )?;
-        admit(alloc, &mut self.groups, request.group_id, kept, outcome)
+        let mut kept = Kept::new(self.alloc, self.salt, self.hasher);
+        let outcome = kept.heartbeat(request, stamp, now, &self.image, self.generation, out)?;
+        admit(
+            self.alloc,
+            &mut self.groups,
+            request.group_id,
+            kept,
+            outcome,
+        )
     }
 }
 

@@ -4,7 +4,7 @@ ghost use Rattle.coord_node.specs.Events.{Runs};
 
 use crate::event::NodeEvent;
 use crate::node::Node;
-use std::alloc::{AllocError, Global};
+use std::alloc::AllocError;
 use std::collections::VecDeque;
 
 impl Node {
@@ -12,7 +12,6 @@ impl Node {
     /// the events that have no answer yet are left, at least one, and the first of them in front.
     pub fn run(
         &mut self,
-        alloc: Global,
         events: &mut VecDeque<NodeEvent>,
         out: &mut Vec<u8>,
     ) -> Result<(), AllocError>
@@ -27,7 +26,7 @@ impl Node {
                     stamp,
                     moment,
                 } => {
-                    self.answer(alloc, body.as_slice(), *stamp, *moment, out)?;
+                    self.answer(body.as_slice(), *stamp, *moment, out)?;
                     let _ = events.pop_front();
                 }
                 NodeEvent::Tick { moment } => {

@@ -1,6 +1,7 @@
 -- The first join's answer, by its checks.
 use Rattle.std.proofs.Common.{◌≡◌, ℕ, suc, max, Bool, true, false, nat_le, refl, ap, subst, [], ◌∷◌, Option, Some, None}
 use Rattle.std.specs.FinMap as finite
+use Rattle.std.specs.Option.{MatchOption}
 use Rattle.group_types.specs.declared.code.Code.TheVariants as codes
 use Rattle.group_types.specs.Limits.{GREATEST_EPOCH}
 use Rattle.group_types.specs.Text.{Text}
@@ -12,7 +13,7 @@ use Rattle.group_types.specs.Group.{Group, Record, Target, starting_group, wante
 use Rattle.group_types.specs.Join.{Name, names_after, record_of_join}
 use Rattle.group_types.specs.Renewal.{IsTarget, RenewsWhere, changed_if, view_for}
 use Rattle.group_types.specs.Checks.{Accepted, Refused, Sender, first_of, sender_of}
-use Rattle.group_types.specs.HeartbeatStep.{Answer, Arrival, GoesOn, JoinsUnder, StepOf, StepBy, HeartbeatStep, ByVerdict, verdict_on_change}
+use Rattle.group_types.specs.HeartbeatStep.{Answer, Arrival, Stages, IsRefused, TakesIn, draft_under, StepOf, StepBy, HeartbeatStep, ByVerdict, verdict_on_change}
 use Rattle.group_core.specs.Checks.{MakesMember, verdict_on_request}
 use Rattle.group_core.specs.FirstMember.{JoinsFirst, first_draft, nobody, one_record}
 use Rattle.group_core.specs.Laws.{IsAnsweredBy, IsFirstAcceptance, FirstJoinsAreAnswered}
@@ -58,15 +59,15 @@ module _ (salt epoch : ℕ) (h : Arrival) (makes : MakesMember h.heartbeat) wher
   abbrev Continues : Bool → Answer → Group → Type 0
   Continues change answer new =
       ByVerdict (verdict_on_change change epoch)
-      (GoesOn (changed_if change (first_draft the_group h).group (view_for h.image (first_draft the_group h).group.records)) (first_draft the_group h) h.heartbeat) the_group answer new
+      (Stages (changed_if change (first_draft the_group h).group (view_for h.image (first_draft the_group h).group.records)) (first_draft the_group h) h.heartbeat) the_group answer new
 
   -- an accepted request joins where the epoch can rise
   by_rising : (answer : Answer) (new : Group) → StepOf Joins nobody the_group h answer new → JoinsIfItRises salt epoch h (nat_le GREATEST_EPOCH epoch) answer new
   by_rising answer new step =
       let named : step.name ≡ Some (first_name salt epoch) =
       same_name the_group h.heartbeat.member step.name (Some (first_name salt epoch)) step.is_named (is_first_name salt epoch h.heartbeat.member makes.has_no_id) in
-      let taken : JoinsUnder (Some (first_name salt epoch)) nobody the_group h answer new =
-      subst (λ (n : Option Name). JoinsUnder n nobody the_group h answer new) named step.joins in
+      let taken : TakesIn the_group (draft_under (first_name salt epoch) nobody the_group h) h.heartbeat h.image answer new =
+      subst (λ (o : Option Name). MatchOption o (IsRefused codes.CoordinatorNotAvailable the_group answer new) (λ n. TakesIn the_group (draft_under n nobody the_group h) h.heartbeat h.image answer new)) named step.joins in
       subst (λ (change : Bool). Continues change answer new) taken.is_change taken.step
 
   -- an accepted join is the closed form's

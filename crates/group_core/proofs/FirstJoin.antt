@@ -15,7 +15,7 @@ use Rattle.group_types.specs.Group.{Record, Target, Group, starting_group, wante
 use Rattle.group_types.specs.Settle.{granting, moved, settled, settled_by, arrived, may_settle, may_move}
 use Rattle.group_types.specs.Renewal.{view_for, changed_if, IsTarget, Renews, RenewsWhere}
 use Rattle.group_types.specs.Join.{record_of_join}
-use Rattle.group_types.specs.HeartbeatStep.{Answer, Replied, Arrival, Draft, RepliesTo, RepliesWith, GoesOn, shown, acceptance}
+use Rattle.group_types.specs.HeartbeatStep.{Answer, Replied, Arrival, Draft, Stages, acceptance, assignment_of, is_news, shown}
 use Rattle.group_types.proofs.BoolLemmas.{or_none}
 use Rattle.group_types.proofs.Orders.{text_cmp_total, text_cmp-IsAntisymmetric, partition_cmp_total, partition_cmp-IsAntisymmetric}
 use Rattle.group_types.proofs.SetLemmas.{is_nothing-Decides}
@@ -73,7 +73,7 @@ settled_of salt epoch m r target view now =
 
 abbrev first_draft_of : ℕ → ℕ → Text → Record → ℕ → Draft
 first_draft_of salt epoch m r now =
-    record { group = group_of_draft salt epoch m r now; id = m; before = None; after = r; heir = None }
+    record { group = group_of_draft salt epoch m r now; id = m; before = None; after = r }
 
 -- the target of the next epoch
 abbrev next_target : ℕ → Target → TargetState
@@ -146,14 +146,10 @@ module _ (salt epoch : ℕ) (m : Text) (r : Record) (q : Heartbeat) (target : Ta
   abbrev the_group_then : Group
   the_group_then = group_then salt epoch m r target view now
 
-  replies : RepliesTo the_group the_draft (finite.get (one_record m the_record) m) (is_full q) the_answer the_group_then
-  replies =
-      let Replying : Option Record → Bool → Type 0 = λ o b. RepliesTo the_group the_draft o b the_answer the_group_then in
-      let Showing : Partitions → Type 0 = λ s. RepliesWith the_group the_draft the_record (Some s) the_answer the_group_then in
-      let shown_so : Showing (wanted target m) = (refl, stored) in
-      let full_so : Replying (Some the_record) true = subst Showing (sym (shows salt epoch m r target view now starts)) shown_so in
-      let so : Replying (Some the_record) (is_full q) = subst (Replying (Some the_record)) (sym (is_full-join q joins)) full_so in
-      subst (λ o. Replying o (is_full q)) (sym (get-inserted text_cmp_total finite.empty m the_record)) so
+  tells : Some (wanted target m) ≡ assignment_of (is_full q || is_news the_record.sent (shown the_group m)) (shown the_group m)
+  tells =
+      ap Some (sym (shows salt epoch m r target view now starts))
+      ∙ ap (λ b. assignment_of (b || is_news the_record.sent (shown the_group m)) (shown the_group m)) (sym (is_full-join q joins))
 
 -- a join reports that it owns nothing
 reported-join : (q : Heartbeat) → q.epoch ≡ pos 0 → reported q ≡ Some nothing
@@ -161,21 +157,26 @@ reported-join q joins = ap (λ e. reported_at (kind_of e) q.owned) joins
 
 goes_on : (salt epoch : ℕ) (m : Text) (r : Record) (q : Heartbeat) (target : Target) (image : Topics) (now : ℕ) → r.epoch ≡ At 0 → q.epoch ≡ pos 0
     → IsTarget (one_record m r) (view_of image r.names) finite.empty target
-    → GoesOn (changed_if true (group_of_draft salt epoch m r now) (view_for image (one_record m r))) (first_draft_of salt epoch m r now) q
+    → Stages (changed_if true (group_of_draft salt epoch m r now) (view_for image (one_record m r))) (first_draft_of salt epoch m r now) q
     (accepts m r (suc epoch) (wanted target m)) (group_then salt epoch m r target (view_of image r.names) now)
 goes_on salt epoch m r q target image now starts joins is =
     let view : Topics = view_for image (one_record m r) in
     let d : Draft = first_draft_of salt epoch m r now in
     let answer : Answer = accepts m r (suc epoch) (wanted target m) in
-    let GoingOn : Topics → Type 0 = λ v. GoesOn (changed_if true (group_of_draft salt epoch m r now) view) d q answer (group_then salt epoch m r target v now) in
+    let GoingOn : Topics → Type 0 = λ v. Stages (changed_if true (group_of_draft salt epoch m r now) view) d q answer (group_then salt epoch m r target v now) in
     let is_then : IsTarget (one_record m r) view finite.empty target = subst (λ v. IsTarget (one_record m r) v finite.empty target) (sym (view_for-single image m r)) is in
-    let Replying : Group → Type 0 = λ g. RepliesTo g d (finite.get g.records m) (is_full q) answer (group_then salt epoch m r target view now) in
-    let last : Replying (settled (renewed_of salt epoch m r target view now) m (Some nothing) now) = subst Replying (sym (settles salt epoch m r target view now starts)) (replies salt epoch m r q target view now starts joins) in
     let on : GoingOn view =
     record {
       renewed = renewed_of salt epoch m r target view now;
       renews = renews salt epoch m r target view now starts is_then;
-      replies = subst (λ o. Replying (settled (renewed_of salt epoch m r target view now) m o now)) (sym (reported-join q joins)) last;
+      settled = settled_of salt epoch m r target view now;
+      settles = sym (ap (λ o. settled (renewed_of salt epoch m r target view now) m o now) (reported-join q joins) ∙ settles salt epoch m r target view now starts);
+      kept = first_settled r (suc epoch);
+      is_kept = get-inserted text_cmp_total finite.empty m (first_settled r (suc epoch));
+      told = Some (wanted target m);
+      tells = tells salt epoch m r q target view now starts joins;
+      answers = refl;
+      leaves = stored salt epoch m r q target view now starts joins;
     } in
     subst GoingOn (view_for-single image m r) on
 
@@ -192,7 +193,7 @@ joins_first salt epoch m h now target named clocked joins = λ is.
     let new : Group = group_of_one salt m (at_epoch r (suc epoch) (wanted target m)) (next_target epoch target) (view_of h.image r.names) now in
     let Goes : Text → ℕ → Type 0 = λ id clock.
     let after = record_of_join None h.heartbeat h.stamp clock in
-    GoesOn (changed_if true (group_of_draft salt epoch id after clock) (view_for h.image (one_record id after))) (first_draft_of salt epoch id after clock) h.heartbeat answer new in
+    Stages (changed_if true (group_of_draft salt epoch id after clock) (view_for h.image (one_record id after))) (first_draft_of salt epoch id after clock) h.heartbeat answer new in
     let here : Goes m now = goes_on salt epoch m r h.heartbeat target h.image now refl joins is in
     let there : Goes (made_id salt 1) now = subst (λ id. Goes id now) (sym named) here in
     subst (Goes (made_id salt 1)) (sym clocked) there

@@ -17,7 +17,7 @@ use Rattle.group_types.specs.Group.{Grants, Group, Record, Records, held, wanted
 use Rattle.group_types.specs.Members.{past_stamp}
 use Rattle.group_types.specs.Settle.{granting, grants_of_others}
 use Rattle.group_types.specs.Renewal.{is_subscribed, view_for}
-use Rattle.group_types.specs.HeartbeatStep.{Heir, heir_or}
+use Rattle.group_core.specs.CodeOrder.{Heir, heir_or}
 use Rattle.group_types.specs.Sound.{IsSound}
 use Rattle.group_types.proofs.GrantLemmas.{has-granting, has-held, has-others}
 use Rattle.group_types.proofs.Lookups.{Tie, ties, differs, tie, not_none, get-insert_other, none_without, removed_is_none}
@@ -169,7 +169,7 @@ twice : {X : Type 0} (b : Bool) (v : X) (o : Option X) → cond b (Some v) (cond
 twice true v o = refl
 twice false v o = refl
 
-insert-removed : (records : Records) (k : Text) (v : Record) → finite.insert (finite.remove records k) k v ≡ finite.insert records k v
+pub insert-removed : (records : Records) (k : Text) (v : Record) → finite.insert (finite.remove records k) k v ≡ finite.insert records k v
 insert-removed records k v =
     finite.same_map text_cmp_total text_cmp-IsAntisymmetric _ _ (λ q. finite.get-insert text_cmp_total (finite.remove records k) k v q
     ∙ ap (cond (eq_by_cmp text_cmp q k) (Some v)) (finite.get-remove text_cmp_total records k q)

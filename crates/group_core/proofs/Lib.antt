@@ -12,6 +12,9 @@ pub mod Renewing
 pub mod HandOvers
 pub mod Idle
 pub mod Settling
+pub mod Mirrored
+pub mod RenamedTargets
+pub mod Renamings
 pub mod SoleMember
 pub mod Answered
 pub mod ListingLemmas

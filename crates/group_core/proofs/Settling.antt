@@ -1,4 +1,4 @@
--- The settling of a draft and its reply are the machine's.
+-- The stages of a draft are the machine's, once its target was renewed.
 use Rattle.std.proofs.Common.{◌≡◌, ℕ, ◌||◌, Option, Some, None, refl, sym, ap, subst, ◌∙◌}
 use Rattle.std.specs.FinMap as finite
 use Rattle.std.specs.Option.{IfSome}
@@ -6,10 +6,11 @@ use Rattle.group_types.specs.Topics.{Topics}
 use Rattle.group_types.specs.Partition.{Partitions}
 use Rattle.group_types.specs.Request.{Heartbeat, is_full, reported}
 use Rattle.group_types.specs.Group.{Group, Record, Records}
-use Rattle.group_types.specs.Renewal.{view_for}
+use Rattle.group_types.specs.Renewal.{Renews, view_for}
 use Rattle.group_types.specs.Settle.{settled, settled_by}
 use Rattle.group_types.specs.Members.{past_stamp, remembering, without_past}
-use Rattle.group_types.specs.HeartbeatStep.{Draft, Heir, Replied, RepliesTo, RepliesWith, SettlesAndReplies, acceptance, assignment_of, handed_over, heir_or, is_news, sent_after}
+use Rattle.group_types.specs.HeartbeatStep.{Replied, acceptance, assignment_of, is_news, sent_after}
+use Rattle.group_core.specs.CodeOrder.{Heir, LateStages, renamed_last, heir_or}
 use Rattle.group_types.proofs.Lookups.{get-inserted}
 use Rattle.group_types.proofs.Orders.{text_cmp_total, text_cmp-IsAntisymmetric}
 use Rattle.group_core.specs.declared.state.State.{State}
@@ -53,30 +54,33 @@ module _ (s : State) (d : Drafted) (now : ℕ) (r : Renewal) (q : Heartbeat) whe
   abbrev Granted : Group
   Granted = record (carried s d now r) { grants = grants_then s d r Owned }
 
-  stored : (o : Option Heir) → IfSome o (λ h. past_stamp s.records.past d.member.id ≡ None) → (last : Record) → stored_in Granted d.member.id last o ≡ handed_over Settled d.member.id last o
+  stored : (o : Option Heir) → IfSome o (λ h. past_stamp s.records.past d.member.id ≡ None) → (last : Record) → stored_in Granted d.member.id last o ≡ renamed_last Settled d.member.id last o
   stored None fresh last = ap (λ (rs : Records). record Settled { records = rs })
       (sym (insert-insert text_cmp_total text_cmp-IsAntisymmetric Before d.member.id After last
       ∙ insert-insert text_cmp_total text_cmp-IsAntisymmetric s.records.records d.member.id d.member.record last))
   stored (Some h) fresh last =
       let without : finite.remove Settled.records d.member.id ≡ finite.remove s.records.records d.member.id =
       remove-inserted Before d.member.id After ∙ remove-inserted s.records.records d.member.id d.member.record in
-      λ i. record (handed_over Settled d.member.id last (Some h)) {
+      λ i. record (renamed_last Settled d.member.id last (Some h)) {
         records = finite.insert (sym without i) h.id last;
         past = remembering (without_past (sym (kept_past s.records.past d.member.id fresh) i) h.id) d.member.id h.last;
       }
 
-  pub settles_and_replies : IfSome (heir_in s d) (λ h. past_stamp s.records.past d.member.id ≡ None)
-      → SettlesAndReplies Renewed (draft_in (group_of s) d now) q (Replied (acceptance (heir_or d.member.id (heir_in s d)) After Assigned)) (group_then s d now r Owned Assigned)
-  settles_and_replies fresh =
-      let D : Draft = draft_in (group_of s) d now in
-      let new : Group = group_then s d now r Owned Assigned in
-      let answer = Replied (acceptance (heir_or d.member.id (heir_in s d)) After Assigned) in
-      let replied : RepliesWith Settled D After Assigned answer new = (refl, stored (heir_in s d) fresh (sent_after After Assigned)) in
-      let told : RepliesTo Settled D (Some After) (is_full q) answer new =
-      subst (λ o. RepliesWith Settled D After (assignment_of (is_full q || is_news o Shown) Shown) answer new) (sym (settled_sent (moves s d r Owned) d.member.record _ now)) replied in
-      let looked : RepliesTo Settled D (finite.get Settled.records d.member.id) (is_full q) answer new =
-      subst (λ o. RepliesTo Settled D o (is_full q) answer new) (sym (get-inserted Before d.member.id After)) told in
-      subst (λ (g : Group). RepliesTo g D (finite.get g.records d.member.id) (is_full q) answer new) (sym settles) looked
+  pub stages : IfSome (heir_in s d) (λ h. past_stamp s.records.past d.member.id ≡ None) → (changed : Group) → Renews changed Renewed
+      → LateStages changed (draft_in (group_of s) d now) q (Replied (acceptance (heir_or d.member.id (heir_in s d)) After Assigned)) (group_then s d now r Owned Assigned)
+  stages fresh changed renews =
+      record {
+        renewed = Renewed;
+        renews = renews;
+        settled = Settled;
+        settles = sym settles;
+        kept = After;
+        is_kept = get-inserted Before d.member.id After;
+        told = Assigned;
+        tells = ap (λ o. assignment_of (is_full q || is_news o Shown) Shown) (sym (settled_sent (moves s d r Owned) d.member.record _ now));
+        answers = refl;
+        leaves = stored (heir_in s d) fresh (sent_after After Assigned);
+      }
 
   -- the view is that of the image still
   pub current_then : IfSome (heir_in s d) (λ h. finite.get s.records.records h.id ≡ None) → (image : Topics) (owned sent : Option Partitions) → r.view ≡ view_for image Before

@@ -1,7 +1,7 @@
 -- A heartbeat has an answer in every group: each stage of the machine's step has its value.
 use Rattle.std.proofs.Common.{◌≡◌, ℕ, ◌+◌, ◌-◌, ◌^◌, Bool, true, false, cond, is_some, is_none, List, [], ◌∷◌, Option, Some, None, max, ◌==◌, inl, inr, refl, sym, ap, subst, ◌∙◌, arith, true≢false}
 use Rattle.std.specs.FinMap as finite
-use Rattle.std.specs.Option.{option_map}
+use Rattle.std.specs.Option.{MatchOption, option_map}
 use Rattle.group_types.specs.declared.assignor_name.AssignorName.{AssignorName}
 use Rattle.group_types.specs.declared.assignor_name.AssignorName.TheVariants.{Range, Uniform}
 use Rattle.group_types.specs.declared.stamp.Stamp.{Stamp}
@@ -10,7 +10,7 @@ use Rattle.group_types.specs.Text.{Text, text_cmp}
 use Rattle.group_types.specs.Sets.{has, of_list}
 use Rattle.group_types.specs.Topics.{Topic, Topics, view_of}
 use Rattle.group_types.specs.MemberId.{made_id}
-use Rattle.group_types.specs.Request.{Heartbeat, Kind, Joins, Beats, Leaves, GoesAway, IsNone, is_full, kind_of, reported}
+use Rattle.group_types.specs.Request.{Heartbeat, Kind, Joins, Beats, Leaves, GoesAway, MeansNothing, is_full, kind_of, reported}
 use Rattle.group_types.specs.Group.{Group, Record}
 use Rattle.group_types.specs.Members.{is_remembered, members_of}
 use Rattle.group_types.specs.Settle.{may_settle, settled, settled_by, settled_record}
@@ -18,7 +18,7 @@ use Rattle.group_types.specs.Group.{wanted}
 use Rattle.group_types.specs.Join.{IsNamed, IsSerial, Name, name_of_serial}
 use Rattle.group_types.specs.Renewal.{IsChange, IsUnchanged, RenewsWhere, changed_if, is_subscribed, view_for}
 use Rattle.group_types.specs.Checks.{Member, Sender, Verdict, Accepted, Refused, Overtaken, is_another, sender_of, verdict_on}
-use Rattle.group_types.specs.HeartbeatStep.{Answer, Arrival, BeatsWith, ByVerdict, Draft, GoesAwayWith, GoesOn, JoinsUnder, RepliesTo, StepOf, TakesIn, draft_of_beat, draft_of_join, verdict_on_change}
+use Rattle.group_types.specs.HeartbeatStep.{Answer, Arrival, BeatsWith, ByVerdict, Draft, GoesAwayWith, IsRefused, Stages, StepOf, TakesIn, draft_of_beat, draft_of_join, draft_under, verdict_on_change}
 use Rattle.group_types.proofs.Lookups.{get-inserted}
 use Rattle.group_types.proofs.Orders.{text_cmp_total, text_cmp-IsAntisymmetric}
 use Rattle.group_types.proofs.SetLemmas.{has-of_list}
@@ -177,17 +177,16 @@ settled_has_record g m owned now (r, is) =
     let after : Record = settled_record may r g.target_epoch now in
     (after, ap (λ o. finite.get (settled_by may g m o now).records m) is ∙ get-inserted g.records m after)
 
-replies : (g : Group) (d : Draft) (o : Option Record) (r : Record) (full : Bool) → o ≡ Some r → IsAnswered (RepliesTo g d o full)
-replies g d None r full is = cc
-replies g d (Some s) r full is = record { answer = _; new = _; step = (refl, refl) }
-
-goes_on : (changed : Group) (d : Draft) (q : Heartbeat) → AreImageTopics changed.view → HasRecord changed d.id → IsAnswered (GoesOn changed d q)
-goes_on changed d q image (r, is) =
+stages : (changed : Group) (d : Draft) (q : Heartbeat) → AreImageTopics changed.view → HasRecord changed d.id → IsAnswered (Stages changed d q)
+stages changed d q image (r, is) =
     let (renewed, renews, same) = renewed_where (changed.epoch == changed.target_epoch) changed image in
     let (last, there) = settled_has_record renewed d.id (reported q) renewed.clock (r, ap (λ records. finite.get records d.id) same ∙ is) in
-    let g : Group = settled renewed d.id (reported q) renewed.clock in
-    let replied = replies g d (finite.get g.records d.id) last (is_full q) there in
-    record { answer = replied.answer; new = replied.new; step = record { renewed = renewed; renews = renews; replies = replied.step } }
+    let done : Group = settled renewed d.id (reported q) renewed.clock in
+    record {
+      answer = _;
+      new = _;
+      step = record { renewed = renewed; renews = renews; settled = done; settles = refl; kept = last; is_kept = there; told = _; tells = refl; answers = refl; leaves = refl };
+    }
 
 by_verdict : (v : Verdict) (Accepts : Answer → Group → Type 0) (g : Group) → (v ≡ Accepted → IsAnswered Accepts) → IsAnswered (ByVerdict v Accepts g)
 by_verdict Accepted Accepts g accepted = let is = accepted refl in record { answer = is.answer; new = is.new; step = is.step }
@@ -213,7 +212,7 @@ takes_in g d q image stored are begun =
     let (change, is) = is_change_or_not d.before d.after g.view view in
     let changed : Group = changed_if change d.group view in
     let good : AreImageTopics changed.view = changed_view change d.group view (subst AreImageTopics (sym begun.view) stored) (view_for-AreImageTopics image d.group.records are) in
-    let taken = by_verdict (verdict_on_change change g.epoch) (GoesOn changed d q) g (λ so. goes_on changed d q good (changed_record change d.group view d.id begun.recorded)) in
+    let taken = by_verdict (verdict_on_change change g.epoch) (Stages changed d q) g (λ so. stages changed d q good (changed_record change d.group view d.id begun.recorded)) in
     record { answer = taken.answer; new = taken.new; step = record { change = change; is_change = is; step = taken.step } }
 
 -- ---- by the kind of heartbeat
@@ -222,13 +221,14 @@ join_begun : (g : Group) (serial now : ℕ) (m : Text) (own : Option Record) (ot
     → IsBegun g (draft_of_join (record g { serial = serial }) now m own other q stamp)
 join_begun g serial now m (Some r) other q stamp = record { recorded = (_, get-inserted g.records m _); view = refl }
 join_begun g serial now m None None q stamp = record { recorded = (_, get-inserted g.records m _); view = refl }
-join_begun g serial now m None (Some old) q stamp = record { recorded = (_, get-inserted g.records old.id _); view = refl }
+join_begun g serial now m None (Some old) q stamp = record { recorded = (_, get-inserted (finite.insert (finite.remove g.records old.id) m old.kept) m _); view = refl }
 
-joins_under : (name : Option Name) (sender : Sender) (g : Group) (h : Arrival) → AreImageTopics g.view → AreImageTopics h.image → IsAnswered (JoinsUnder name sender g h)
+-- what comes of a name, or of none
+joins_under : (name : Option Name) (sender : Sender) (g : Group) (h : Arrival) → AreImageTopics g.view → AreImageTopics h.image
+    → IsAnswered (λ answer new. MatchOption name (IsRefused codes.CoordinatorNotAvailable g answer new) (λ n. TakesIn g (draft_under n sender g h) h.heartbeat h.image answer new))
 joins_under None sender g h stored image = record { answer = _; new = _; step = (refl, refl) }
 joins_under (Some name) sender g h stored image =
-    let named : Group = record g { serial = name.next_serial } in
-    let is = takes_in g (draft_of_join named (max g.clock h.moment) name.id sender.own sender.other h.heartbeat h.stamp) h.heartbeat h.image stored image
+    let is = takes_in g (draft_under name sender g h) h.heartbeat h.image stored image
     (join_begun g name.next_serial (max g.clock h.moment) name.id sender.own sender.other h.heartbeat h.stamp) in
     record { answer = is.answer; new = is.new; step = is.step }
 
@@ -273,7 +273,7 @@ step_of GoesAway sender g h stored image accepted =
     let known = passed _ _ _ (refuses codes.UnknownMemberId) valid.1 in
     let is = goes_away_with sender.own g h (is_there sender.own h.heartbeat.instance known.0) in
     record { answer = is.answer; new = is.new; step = is.step }
-step_of IsNone sender g h stored image accepted = cc
+step_of MeansNothing sender g h stored image accepted = cc
 
 pub has_an_answer : HasAnAnswer
 has_an_answer g h stored image =

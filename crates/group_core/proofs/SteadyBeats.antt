@@ -24,7 +24,7 @@ use Rattle.group_types.specs.Sets.{has}
 use Rattle.group_types.specs.Renewal.{RenewsWhere}
 use Rattle.group_types.specs.Checks.{Accepted, Overtaken, Refused, Sender, Verdict, are_granted, is_current, is_fenced, is_late, is_overtaken, sender_of, verdict_on}
 use Rattle.group_types.specs.declared.code.Code.TheVariants as codes
-use Rattle.group_types.specs.HeartbeatStep.{Answer, Arrival, BeatsWith, ByVerdict, Draft, GoesOn, HeartbeatStep, Replied, RepliesTo, RepliesWith, StepBy, StepOf, TakesIn, acceptance, assignment_of, draft_of, draft_of_beat, is_news, shown}
+use Rattle.group_types.specs.HeartbeatStep.{Answer, Arrival, BeatsWith, ByVerdict, Draft, HeartbeatStep, Replied, Stages, StepBy, StepOf, TakesIn, acceptance, assignment_of, draft_of, draft_of_beat, is_news, shown}
 use Rattle.group_types.specs.Sound.{IsSound}
 use Rattle.group_types.proofs.GrantLemmas.{grant_cmp_total, grant_cmp-IsAntisymmetric, has-held, has-moved}
 use Rattle.group_types.proofs.Lookups.{Tie, ties, differs, tie, get-inserted, get-insert_other, not_none, same_text, some_is}
@@ -91,7 +91,7 @@ module _ (g : Group) (m : Text) (steady : IsSteady g m) (after : Record) (now : 
     (epoch : after.epoch ≡ steady.kept.epoch) (release : after.release_deadline ≡ steady.kept.release_deadline) (sent : after.sent ≡ steady.kept.sent)
     (renewed : g.epoch ≡ g.target_epoch) where
   abbrev Drafted : Draft
-  Drafted = draft_of g now m (Some steady.kept) after None
+  Drafted = draft_of g now m (Some steady.kept) after
 
   abbrev Here : Group
   Here = Drafted.group
@@ -116,21 +116,21 @@ module _ (g : Group) (m : Text) (steady : IsSteady g m) (after : Record) (now : 
       ∙ ap (λ s. assignment_of (is_news after.sent s) (shown Here m)) sees
       ∙ ap (λ b. assignment_of b (shown Here m)) (no_news after (wanted g.target m) (sent ∙ steady.sent))
 
-  replies : (q : Heartbeat) → is_full q ≡ false → RepliesTo Here Drafted (finite.get Here.records m) (is_full q) (Replied (acceptance m after None)) Here
-  replies q short =
-      let answer : Answer = Replied (acceptance m after None) in
-      let silent : RepliesWith Here Drafted after None answer Here = (refl, λ i. record Here { records = sym (insert-insert text_cmp_total text_cmp-IsAntisymmetric g.records m after after) i }) in
-      let told : RepliesTo Here Drafted (Some after) (is_full q) answer Here = subst (λ o. RepliesWith Here Drafted after o answer Here) (sym (quiet q short)) silent in
-      subst (λ o. RepliesTo Here Drafted o (is_full q) answer Here) (sym found) told
-
   pub taken_in : (q : Heartbeat) (image : Topics) → is_full q ≡ false → IsCurrent g image → TakesIn g Drafted q image (Replied (acceptance m after None)) Here
   taken_in q image short current =
       let answer : Answer = Replied (acceptance m after None) in
-      let goes : GoesOn Here Drafted q answer Here =
+      let stages : Stages Here Drafted q answer Here =
       record {
         renewed = Here;
         renews = subst (λ b. RenewsWhere b Here Here) (sym ((Decides-eqb g.epoch g.target_epoch).1 renewed)) refl;
-        replies = subst (λ (s : Group). RepliesTo s Drafted (finite.get s.records m) (is_full q) answer Here) (sym (settles (reported q))) (replies q short);
+        settled = Here;
+        settles = sym (settles (reported q));
+        kept = after;
+        is_kept = found;
+        told = None;
+        tells = sym (quiet q short);
+        answers = refl;
+        leaves = λ i. record Here { records = sym (insert-insert text_cmp_total text_cmp-IsAntisymmetric g.records m after after) i };
       } in
       record {
         change = false;
@@ -139,7 +139,7 @@ module _ (g : Group) (m : Text) (steady : IsSteady g m) (after : Record) (now : 
           assignor = sym assignor;
           view = current ∙ sym (view_for-insert image g.records m steady.kept after steady.is_kept names);
         };
-        step = goes;
+        step = stages;
       }
 
 -- a beat that gives nothing leaves the record but for its stamp and its session
@@ -210,11 +210,11 @@ module _ (g : Group) (sound : IsSound g) (a : Arrival) (steady : IsSteady g a.he
   beats : BeatsWith (Some steady.kept) g a TheAnswer New
   beats =
       let taken = taken_in g Q.member steady After Now refl refl refl refl refl renewed Q a.image short current in
-      let drafted : draft_of_beat g Now steady.kept Q a.stamp ≡ draft_of g Now Q.member (Some steady.kept) After None = ap (λ r. draft_of g Now Q.member (Some steady.kept) r None) (only_beaten steady.kept Q a.stamp Now gives) in
-      let same : (draft_of g Now Q.member (Some steady.kept) After None).group ≡ New =
+      let drafted : draft_of_beat g Now steady.kept Q a.stamp ≡ draft_of g Now Q.member (Some steady.kept) After = ap (λ r. draft_of g Now Q.member (Some steady.kept) r) (only_beaten steady.kept Q a.stamp Now gives) in
+      let same : (draft_of g Now Q.member (Some steady.kept) After).group ≡ New =
       λ i. record New { past = kept_past g.past Q.member (not_past g.records g.past Q.member steady.kept sound.past steady.is_kept) i } in
       subst (λ (d : Draft). TakesIn g d Q a.image TheAnswer New) (sym drafted)
-      (subst (λ (x : Group). TakesIn g (draft_of g Now Q.member (Some steady.kept) After None) Q a.image TheAnswer x) same taken)
+      (subst (λ (x : Group). TakesIn g (draft_of g Now Q.member (Some steady.kept) After) Q a.image TheAnswer x) same taken)
 
   pub steady_step : HeartbeatStep g a TheAnswer New
   steady_step =

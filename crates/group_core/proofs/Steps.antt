@@ -15,7 +15,7 @@ use Rattle.group_types.specs.Members.{members_of, is_remembered}
 use Rattle.group_types.specs.Renewal.{changed_if, view_for}
 use Rattle.group_types.specs.Join.{Name, IsNamed, IsNextSerial, name_of_serial}
 use Rattle.group_types.specs.Checks.{Verdict, Accepted, Refused, Overtaken, Member as Another, Sender, first_of, other_with, record_under, sender_of, verdict_on}
-use Rattle.group_types.specs.HeartbeatStep.{Answer, Replied, Arrival, refusal, ByVerdict, GoesOn, TakesIn, JoinsAs, StepOf, StepBy, HeartbeatStep}
+use Rattle.group_types.specs.HeartbeatStep.{Answer, Replied, Arrival, refusal, ByVerdict, Stages, TakesIn, JoinsAs, StepOf, StepBy, HeartbeatStep}
 use Rattle.std.proofs.lemmas.Bool.{lt-leb}
 use Rattle.group_core.specs.Checks.{MakesMember, verdict_on_request}
 use Rattle.group_core.specs.FirstMember.{JoinsFirst, first_draft, nobody}
@@ -81,7 +81,7 @@ module _ (salt epoch : ℕ) (h : Arrival) where
   abbrev pub JoinsIfItRises : Bool → Answer → Group → Type 0
   JoinsIfItRises greatest answer new =
       ByVerdict (cond greatest (Refused codes.CoordinatorNotAvailable) Accepted)
-      (GoesOn (changed_if true (first_draft TheStart h).group (view_for h.image (first_draft TheStart h).group.records)) (first_draft TheStart h) h.heartbeat) TheStart answer new
+      (Stages (changed_if true (first_draft TheStart h).group (view_for h.image (first_draft TheStart h).group.records)) (first_draft TheStart h) h.heartbeat) TheStart answer new
 
   pub step_joins : MakesMember h.heartbeat → (verdict : Verdict) → verdict_on_request h.heartbeat ≡ verdict → (answer : Answer) (new : Group)
       → ByVerdict verdict (StepOf Joins nobody TheStart h) TheStart answer new → HeartbeatStep TheStart h answer new

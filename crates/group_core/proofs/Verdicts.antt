@@ -4,7 +4,7 @@ use Rattle.std.specs.FinMap as finite
 use Rattle.group_types.specs.declared.code.Code.{Code}
 use Rattle.group_types.specs.declared.code.Code.TheVariants as codes
 use Rattle.group_types.specs.declared.stamp.Stamp.{Stamp}
-use Rattle.group_types.specs.Request.{Heartbeat, Kind, Joins, Beats, Leaves, GoesAway, IsNone, kind_of, is_empty, is_invalid, is_invalid_as, is_unknown, is_unsupported}
+use Rattle.group_types.specs.Request.{Heartbeat, Kind, Joins, Beats, Leaves, GoesAway, MeansNothing, kind_of, is_empty, is_invalid, is_invalid_as, is_unknown, is_unsupported}
 use Rattle.group_types.specs.Group.{Group, Record}
 use Rattle.group_types.specs.Checks.{Check, Member, Verdict, Accepted, Refused, Overtaken, Sender, are_granted, checks_of, first_of, is_fenced, is_of_past, is_overtaken, is_too_many, is_unreleased, verdict_on}
 use Rattle.group_types.specs.Members.{members_of}
@@ -177,4 +177,4 @@ refusals_differ (Beats n) sender g q stamp =
     first_refuses (checks_of (Beats n) sender g q stamp) (invalid_is, (unsupported_is, (unknown_is, (tt, (fenced_is, tt)))))
 refusals_differ Leaves sender g q stamp = first_refuses (checks_of Leaves sender g q stamp) (invalid_is, (unknown_is, (tt, tt)))
 refusals_differ GoesAway sender g q stamp = first_refuses (checks_of GoesAway sender g q stamp) (invalid_is, (unknown_is, (tt, tt)))
-refusals_differ IsNone sender g q stamp = invalid_is
+refusals_differ MeansNothing sender g q stamp = invalid_is

@@ -2,7 +2,7 @@
 use Rattle.std.specs.Prelude.{◌≡◌, ℕ, nat_le, pos, [], ◌∷◌, None}
 use Rattle.group_types.specs.declared.code.Code.TheVariants as codes
 use Rattle.group_types.specs.Limits.{GREATEST_EPOCH}
-use Rattle.group_types.specs.Request.{Heartbeat, Kind, Joins, Beats, Leaves, GoesAway, IsNone, is_invalid, is_unsupported}
+use Rattle.group_types.specs.Request.{Heartbeat, Kind, Joins, Beats, Leaves, GoesAway, MeansNothing, is_invalid, is_unsupported}
 use Rattle.group_types.specs.Group.{Grants}
 use Rattle.group_types.specs.Checks.{Verdict, Accepted, Refused, Overtaken, Sender, are_granted, first_of, is_fenced}
 
@@ -24,7 +24,7 @@ verdict_on_epoch (Beats n) sender grants q =
 verdict_on_epoch Joins sender grants q = Accepted
 verdict_on_epoch Leaves sender grants q = Accepted
 verdict_on_epoch GoesAway sender grants q = Accepted
-verdict_on_epoch IsNone sender grants q = Accepted
+verdict_on_epoch MeansNothing sender grants q = Accepted
 
 -- the former checks, and then the latter
 abbrev pub and_then : Verdict → Verdict → Verdict

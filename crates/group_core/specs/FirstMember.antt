@@ -11,7 +11,7 @@ use Rattle.group_types.specs.MemberId.{made_id}
 use Rattle.group_types.specs.Settle.{granting}
 use Rattle.group_types.specs.Renewal.{changed_if, view_for}
 use Rattle.group_types.specs.Checks.{Sender}
-use Rattle.group_types.specs.HeartbeatStep.{Answer, Arrival, Draft, GoesOn, draft_of_join}
+use Rattle.group_types.specs.HeartbeatStep.{Answer, Arrival, Draft, Stages, draft_of_join}
 use Rattle.group_target.specs.TargetState.{TargetState}
 
 -- KIP-848, "Reconciliation of the group": a new record at the member's first epoch, once it was sent its set
@@ -35,7 +35,7 @@ first_draft g a =
 abbrev pub JoinsFirst : Group → Arrival → Answer → Group → Type 0
 JoinsFirst g a answer new =
     let d = first_draft g a in
-    GoesOn (changed_if true d.group (view_for a.image d.group.records)) d a.heartbeat answer new
+    Stages (changed_if true d.group (view_for a.image d.group.records)) d a.heartbeat answer new
 
 -- the group of one member, which may read its whole target, at a moment
 abbrev pub group_of_one : ℕ → Text → Record → TargetState → Topics → ℕ → Group

@@ -1,15 +1,17 @@
 -- What the machine's definition comes to.
-use Rattle.std.specs.Prelude.{◌≡◌, ℕ, suc}
+use Rattle.std.specs.Prelude.{◌≡◌, ◌↔◌, ℕ, suc, Some}
 use Rattle.group_types.specs.Sets.{nothing}
 use Rattle.group_types.specs.Partition.{Partitions}
 use Rattle.group_types.specs.Topics.{Topics, Names, view_of}
 use Rattle.group_types.specs.MemberId.{made_id}
 use Rattle.group_types.specs.Group.{Group, starting_group}
-use Rattle.group_types.specs.Join.{names_after}
+use Rattle.group_types.specs.Join.{IsNamed, Name, names_after}
 use Rattle.group_types.specs.Owners.{IsAllSubscribed}
-use Rattle.group_types.specs.Checks.{Verdict, Accepted, Refused, Overtaken}
-use Rattle.group_types.specs.HeartbeatStep.{Answer, Replied, Arrival, refusal, HeartbeatStep}
+use Rattle.group_types.specs.Checks.{Verdict, Accepted, Refused, Overtaken, sender_of}
+use Rattle.group_types.specs.HeartbeatStep.{Answer, Replied, Arrival, TakesIn, draft_under, refusal, HeartbeatStep}
+use Rattle.group_types.specs.Sound.{IsSound}
 use Rattle.group_core.specs.Checks.{MakesMember, verdict_on_first}
+use Rattle.group_core.specs.CodeOrder.{TakesInLate, late_draft_under}
 use Rattle.group_core.specs.Outcome.{accepted}
 
 -- a heartbeat has one answer in a group, and leaves one group
@@ -37,3 +39,11 @@ FirstJoinsAreAnswered =
     (salt epoch : ℕ) (h : Arrival) (answer : Answer) (new : Group)
     → MakesMember h.heartbeat → HeartbeatStep (starting_group salt epoch) h answer new
     → IsAnsweredBy (verdict_on_first h.heartbeat epoch) salt epoch h.image (names_after nothing h.heartbeat.names) answer new
+
+-- A take-over comes to the same whether its member is renamed first, as the machine says, or last, as the code does it. It
+-- rests on no two members having one instance: the target is renewed in member order.
+abbrev pub RenamingMayComeLast : Type 0
+RenamingMayComeLast =
+    (g : Group) (a : Arrival) (name : Name) (answer : Answer) (new : Group) → IsSound g → IsNamed g a.heartbeat.member (Some name)
+    → TakesIn g (draft_under name (sender_of g.records a.heartbeat) g a) a.heartbeat a.image answer new
+    ↔ TakesInLate g (late_draft_under name (sender_of g.records a.heartbeat) g a) a.heartbeat a.image answer new

@@ -7,6 +7,7 @@ pub mod Group
 pub mod GroupView
 pub mod FirstMember
 pub mod Commits
+pub mod CodeOrder
 pub mod Laws
 pub mod Stages
 pub mod Steady

@@ -15,7 +15,8 @@ use Rattle.group_reconcile.specs.Holders.{pairs}
 use Rattle.group_types.specs.declared.stamp.Stamp.{Stamp}
 use Rattle.group_types.specs.Request.{Heartbeat, is_full, kind_of, reported}
 use Rattle.group_types.specs.Members.{members_of, with_members, with_record}
-use Rattle.group_types.specs.HeartbeatStep.{Draft, Heir, draft_of, assignment_of, handed_over, is_news, sent_after, verdict_on_change}
+use Rattle.group_types.specs.HeartbeatStep.{assignment_of, is_news, sent_after, verdict_on_change}
+use Rattle.group_core.specs.CodeOrder.{LateDraft, Heir, late_draft, renamed_last}
 use Rattle.group_types.specs.declared.code.Code.TheVariants.{CoordinatorNotAvailable}
 use Rattle.group_types.specs.Renewal.{IsChange, IsTarget, view_for}
 use Rattle.group_types.specs.Checks.{Accepted, Refused, sender_of}
@@ -49,10 +50,10 @@ heir_of None heir = None
 heir_of (Some r) heir = option_map (λ m. record { id = m; last = r.stamp }) heir
 
 -- the draft as the machine's, at a moment: where its id has a record it has it in place of that
-abbrev pub draft_in : Group → Drafted → ℕ → Draft
+abbrev pub draft_in : Group → Drafted → ℕ → LateDraft
 draft_in g d now =
     let before = finite.get g.records d.member.id in
-    draft_of (record g { serial = suc d.ids_made }) now d.member.id before d.member.record (heir_of before (heir_id d))
+    late_draft (record g { serial = suc d.ids_made }) now d.member.id before d.member.record (heir_of before (heir_id d))
 
 -- a draft for which there is room, and whose instance is no other member's
 pub record IsFit (s : State) (d : Drafted) : Type 0 where
@@ -142,7 +143,7 @@ shown_then s d r owned = common (held (grants_then s d r owned) d.member.id) (pa
 -- a member's record stands under its id, or its heir has it
 abbrev pub stored_in : Group → Text → Record → Option Heir → Group
 stored_in g m r None = with_members g (with_record (members_of g) m r)
-stored_in g m r (Some heir) = handed_over g m r (Some heir)
+stored_in g m r (Some heir) = renamed_last g m r (Some heir)
 
 -- the group with all that comes of a draft and its renewal, but for the record and the grants
 abbrev pub carried : State → Drafted → ℕ → Renewal → Group

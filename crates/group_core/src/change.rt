@@ -10,7 +10,7 @@ use crate::draft::Draft;
 use crate::state::State;
 use group_target::Target;
 use group_types::{Code, EpochNumber};
-use std::alloc::{AllocError, Global};
+use std::alloc::AllocError;
 use topic_meta::{Image, View};
 
 /// What a draft makes of the group epoch, the stored view and the target.
@@ -26,23 +26,19 @@ pub struct Renewal {
 /// memory is short.
 pub fn renewal_of(
     state: &State,
-    alloc: Global,
     draft: &Draft,
     image: &Image,
 ) -> Result<Option<Renewal>, AllocError>
     ensures { IfOk result (λ renewal. MatchOption renewal (CannotRise state.now draft.now image.now) (IsRenewalOf state.now draft.now image.now)) }
 {
-    let view = state.records.view_with(
-        alloc,
-        image,
-        draft.member.id.as_str(),
-        &draft.member.record,
-    )?;
+    let view = state
+        .records
+        .view_with(image, draft.member.id.as_str(), &draft.member.record)?;
     let is_change = is_change(state, draft, &view);
     let Some(epoch) = epoch_after(state.epoch, is_change) else {
         return Ok(None);
     };
-    let target = renewed_target(state, alloc, draft, &view, epoch)?;
+    let target = renewed_target(state, draft, &view, epoch)?;
     Ok(Some(Renewal {
         epoch,
         view,
@@ -73,7 +69,6 @@ fn epoch_after(epoch: EpochNumber, is_change: bool) -> Option<EpochNumber>
 /// where memory is short.
 fn renewed_target(
     state: &State,
-    alloc: Global,
     draft: &Draft,
     view: &View,
     epoch: EpochNumber,
@@ -87,7 +82,7 @@ fn renewed_target(
     }
     let subs = state
         .records
-        .subs_with(alloc, &draft.member.id, &draft.member.record)?;
-    let target = state.target.renew(alloc, &subs, view, epoch)?;
+        .subs_with(&draft.member.id, &draft.member.record)?;
+    let target = state.target.renew(state.alloc, &subs, view, epoch)?;
     Ok(Some(target))
 }

@@ -7,13 +7,12 @@ ghost use Rattle.group_core.specs.GroupView.{group_of};
 
 use crate::state::State;
 use kip_msgs::{CommitReply, CommitRequest};
-use std::alloc::{AllocError, Global};
+use std::alloc::AllocError;
 use topic_meta::Image;
 
 /// Answers a commit, and stores what of it is answered with success. Where memory is short, the group is as it was.
 pub fn commit<'a>(
     state: &mut State,
-    alloc: Global,
     request: &CommitRequest<'a>,
     image: &Image,
 ) -> Result<CommitReply<'a>, AllocError>
@@ -21,5 +20,5 @@ pub fn commit<'a>(
     ensures records { state.new.records ≡ state.old.records }
     ensures err { OnErr result (group_of state.new ≡ group_of state.old) }
 {
-    state.offsets.commit(alloc, &state.records, request, image)
+    state.offsets.commit(&state.records, request, image)
 }

@@ -15,13 +15,12 @@ use crate::state::State;
 use crate::taking::{refuse, take_in};
 use group_types::{Code, Moment, Stamp};
 use kip_msgs::HeartbeatRequest;
-use std::alloc::{AllocError, Global};
+use std::alloc::AllocError;
 use topic_meta::Image;
 
 /// Answers a join or a beat that the checks accept. Where memory is short, the group is as it was.
 pub fn enter<'a>(
     state: &mut State,
-    alloc: Global,
     request: &HeartbeatRequest<'a>,
     stamp: Stamp,
     moment: Moment,
@@ -40,8 +39,8 @@ pub fn enter<'a>(
     ensures keeps { Keeps result state.old state.new out.old.items out.new.items }
 {
     let now = state.clock.later(moment);
-    match draft_of(state, alloc, request, stamp, now)? {
-        Some(draft) => take_in(state, alloc, draft, request, now, image, out),
+    match draft_of(state, request, stamp, now)? {
+        Some(draft) => take_in(state, draft, request, now, image, out),
         None => refuse(Code::CoordinatorNotAvailable, out),
     }
 }

@@ -127,7 +127,6 @@ impl Group {
     /// where memory is short, and then nothing has changed.
     pub fn heartbeat<'a>(
         &mut self,
-        alloc: Global,
         request: &HeartbeatRequest<'a>,
         stamp: Stamp,
         now: Moment,
@@ -141,14 +140,13 @@ impl Group {
         ensures out { out.new.items ≡ out.old.items }
         ensures err { OnErr result (self.new ≡ self.old) }
     {
-        self.heartbeat_over(alloc, request, stamp, now, image, false, out)
+        self.heartbeat_over(request, stamp, now, image, false, out)
     }
 
     /// The same where it may be known that the group's view is that of the image: a member that has nothing to be told then costs
     /// no look at a topic or at another member, and no memory beside that in `out`.
     pub fn heartbeat_over<'a>(
         &mut self,
-        alloc: Global,
         request: &HeartbeatRequest<'a>,
         stamp: Stamp,
         now: Moment,
@@ -164,30 +162,20 @@ impl Group {
         ensures out { out.new.items ≡ out.old.items }
         ensures err { OnErr result (self.new ≡ self.old) }
     {
-        heartbeat::respond(
-            &mut self.state,
-            alloc,
-            request,
-            stamp,
-            now,
-            image,
-            is_current,
-            out,
-        )
+        heartbeat::respond(&mut self.state, request, stamp, now, image, is_current, out)
     }
 
     /// Answers a commit of offsets (KIP-848, "OffsetCommit") over the node's image: it is refused as a whole, or taken and answered
     /// partition by partition, in the request's order. Fails where memory is short, and then nothing has changed.
     pub fn commit<'a>(
         &mut self,
-        alloc: Global,
         request: &CommitRequest<'a>,
         image: &Image,
     ) -> Result<CommitReply<'a>, AllocError>
         ensures step { IfOk result (λ reply. Commits self.old (commit_of (commit_request_value request.now)) image.now (commit_reply_value reply) self.new) }
         ensures err { OnErr result (self.new ≡ self.old) }
     {
-        commit::commit(&mut self.state, alloc, request, image)
+        commit::commit(&mut self.state, request, image)
     }
 
     /// Removes the members whose session or release deadline has come (KIP-848, "Session Management", "Rebalance Timeout"), and says

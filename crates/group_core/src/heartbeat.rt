@@ -23,14 +23,13 @@ use crate::taking::refuse;
 use group_epochs::Refusal;
 use group_types::{Moment, Stamp};
 use kip_msgs::HeartbeatRequest;
-use std::alloc::{AllocError, Global};
+use std::alloc::AllocError;
 use topic_meta::Image;
 
 /// Answers a heartbeat, where it may be known that the view is that of the image. Where memory is short, the group is
 /// as it was.
 pub fn respond<'a>(
     state: &mut State,
-    alloc: Global,
     request: &HeartbeatRequest<'a>,
     stamp: Stamp,
     moment: Moment,
@@ -51,15 +50,14 @@ pub fn respond<'a>(
             return Ok(outcome);
         }
     }
-    let outcome = answer(state, alloc, request, stamp, moment, image, out)?;
-    mark_replied(state, alloc, &outcome);
+    let outcome = answer(state, request, stamp, moment, image, out)?;
+    mark_replied(state, &outcome);
     Ok(outcome)
 }
 
 /// Answers a heartbeat. Where memory is short, the group is as it was.
 fn answer<'a>(
     state: &mut State,
-    alloc: Global,
     request: &HeartbeatRequest<'a>,
     stamp: Stamp,
     moment: Moment,
@@ -74,7 +72,7 @@ fn answer<'a>(
     ensures keeps { Keeps result state.old state.new out.old.items out.new.items }
 {
     match judge(state, request, stamp) {
-        Ok(()) => accept(state, alloc, request, stamp, moment, image, out),
+        Ok(()) => accept(state, request, stamp, moment, image, out),
         Err(Refusal::Refused(code)) => refuse(code, out),
         Err(Refusal::Overtaken) => Ok(Outcome::Overtaken),
     }
@@ -83,7 +81,6 @@ fn answer<'a>(
 /// Answers a heartbeat that the checks accept. Where memory is short, the group is as it was.
 fn accept<'a>(
     state: &mut State,
-    alloc: Global,
     request: &HeartbeatRequest<'a>,
     stamp: Stamp,
     moment: Moment,
@@ -101,7 +98,7 @@ fn accept<'a>(
     ensures keeps { Keeps result state.old state.new out.old.items out.new.items }
 {
     match request.member_epoch {
-        0.. => enter(state, alloc, request, stamp, moment, image, out),
+        0.. => enter(state, request, stamp, moment, image, out),
         -2 => go_away(state, request.member_id, stamp, moment, out),
         _ => leave(state, request.member_id, stamp, moment, out),
     }

@@ -1,7 +1,7 @@
 //! Laws of the group's machine, proved where nothing runs.
 
 ghost use Rattle.group_core.specs.Existence.{HasAnAnswer, TargetsExist};
-ghost use Rattle.group_core.specs.Laws.{FirstJoinsAreAnswered, HasOneAnswer};
+ghost use Rattle.group_core.specs.Laws.{FirstJoinsAreAnswered, HasOneAnswer, RenamingMayComeLast};
 
 /// A heartbeat has one answer in a group, and leaves one group.
 pub fn heartbeats_have_one_answer()
@@ -24,4 +24,10 @@ pub fn heartbeats_have_an_answer()
 /// that it subscribes, at the next epoch.
 pub fn first_joins_are_answered()
     ensures { FirstJoinsAreAnswered }
+{}
+
+/// A take-over comes to the same whether its member is renamed first, as in the machine's definition (KIP-848, "Static
+/// Membership"), or last, as here. That no two members of a group have one instance is what it rests on.
+pub fn renaming_may_come_last()
+    ensures { RenamingMayComeLast }
 {}

@@ -8,37 +8,36 @@ use crate::outcome::Outcome;
 use crate::state::State;
 use group_epochs::Record;
 use group_types::{Epoch, EpochNumber, PartSet};
-use std::alloc::Global;
 
 /// Marks the member that is replied to, where it has nothing to be told now. Takes no memory.
-pub fn mark_replied(state: &mut State, alloc: Global, outcome: &Outcome<'_>)
+pub fn mark_replied(state: &mut State, outcome: &Outcome<'_>)
     requires { AreMarked (group_of state.old) state.old.records.marks }
     ensures group { group_of state.new ≡ group_of state.old }
     ensures marks { AreMarked (group_of state.new) state.new.records.marks }
 {
     if let Outcome::Replied(reply) = outcome {
         if let Some(id) = &reply.member {
-            mark_if_steady(state, alloc, id.as_str());
+            mark_if_steady(state, id.as_str());
         }
     }
 }
 
 /// Marks the member where it has nothing to be told. Takes no memory.
-fn mark_if_steady(state: &mut State, alloc: Global, member: &str)
+fn mark_if_steady(state: &mut State, member: &str)
     requires { AreMarked (group_of state.old) state.old.records.marks }
     ensures group { group_of state.new ≡ group_of state.old }
     ensures marks { AreMarked (group_of state.new) state.new.records.marks }
 {
-    if is_steady(state, alloc, member) {
+    if is_steady(state, member) {
         state.records.mark(member, state.target.epoch());
     }
 }
 
 /// Whether the member is at the target's epoch, holds its part of the target and nothing else, was sent it, and is asked nothing.
-fn is_steady(state: &State, alloc: Global, member: &str) -> bool
+fn is_steady(state: &State, member: &str) -> bool
     ensures { IsTrue result → IsSteady (group_of state.now) member.now }
 {
-    let nothing = PartSet::new(alloc);
+    let nothing = PartSet::new(state.alloc);
     let target = state.target.of(member);
     let wanted = set_or(target.set(), &nothing);
     let held = set_or(state.grants.held(member), &nothing);

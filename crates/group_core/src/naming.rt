@@ -13,7 +13,7 @@ use crate::draft::Draft;
 use crate::state::State;
 use group_types::{MemberId, Moment, Stamp};
 use kip_msgs::HeartbeatRequest;
-use std::alloc::{AllocError, Global};
+use std::alloc::AllocError;
 
 /// An id, and the serial of the last id that was made.
 #[derive(Drop)]
@@ -26,7 +26,6 @@ pub struct Name {
 /// records.
 pub fn draft_of(
     state: &mut State,
-    alloc: Global,
     request: &HeartbeatRequest<'_>,
     stamp: Stamp,
     now: Moment,
@@ -39,24 +38,24 @@ pub fn draft_of(
     ensures group { group_of state.new ≡ group_of state.old }
     ensures marks { state.new.records.marks ≡ state.old.records.marks }
 {
-    let Some(name) = name_for(state, alloc, request.member_id)? else {
+    let Some(name) = name_for(state, request.member_id)? else {
         return Ok(None);
     };
     let Name { id, ids_made } = name;
-    let member = state.records.draft(alloc, id, request, stamp, now)?;
+    let member = state.records.draft(id, request, stamp, now)?;
     Ok(Some(Draft { member, ids_made }))
 }
 
 /// The id under which a member joins or beats: the one that it names, or one that is made where it names none; none where no serial is
 /// left. Fails where memory is short.
-fn name_for(state: &State, alloc: Global, member: &str) -> Result<Option<Name>, AllocError>
+fn name_for(state: &State, member: &str) -> Result<Option<Name>, AllocError>
     requires { length member.now ≤ LONGEST_STRING }
     ensures { IfOk result (λ name. IsNamed (group_of state.now) member.now (name_in name)) }
 {
     if member.is_empty() {
-        return made_name(state, alloc);
+        return made_name(state);
     }
-    let id = MemberId::of(alloc, member)?;
+    let id = MemberId::of(state.alloc, member)?;
     Ok(Some(Name {
         id,
         ids_made: state.ids_made,
@@ -64,13 +63,13 @@ fn name_for(state: &State, alloc: Global, member: &str) -> Result<Option<Name>, 
 }
 
 /// The id of the next serial whose id isn't remembered. Fails where memory is short.
-fn made_name(state: &State, alloc: Global) -> Result<Option<Name>, AllocError>
+fn made_name(state: &State) -> Result<Option<Name>, AllocError>
     ensures { IfOk result (λ name. IsNamed (group_of state.now) [] (name_in name)) }
 {
     let mut ids_made = state.ids_made;
     while ids_made < u64::MAX {
         ids_made += 1;
-        let id = MemberId::made(alloc, state.salt, ids_made)?;
+        let id = MemberId::made(state.alloc, state.salt, ids_made)?;
         if !state.records.remembers(id.as_str()) {
             return Ok(Some(Name { id, ids_made }));
         }

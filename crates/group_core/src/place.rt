@@ -1,7 +1,7 @@
 //! Where a draft is stored, and a take-over's end (KIP-848, "Static Membership").
 ghost use Rattle.std.specs.Prelude.{◌≡◌, IfSome, None, Some};
 ghost use Rattle.std.specs.FinMap as finite;
-ghost use Rattle.group_types.specs.HeartbeatStep.{handed_over};
+ghost use Rattle.group_core.specs.CodeOrder.{renamed_last};
 ghost use Rattle.group_types.specs.Group.{Record as Stored};
 ghost use Rattle.group_reconcile.specs.Holders.{pairs};
 ghost use Rattle.group_epochs.specs.Drafts.{CanStore, placed_heir};
@@ -43,7 +43,7 @@ fn hand_over(state: &mut State, draft: Draft, heir: Successor)
     requires grants { placed_heir draft.place ≡ Some heir.in_grants }
     requires nothing { HasNothing state.old.target.owners (pairs state.old.grants) heir.in_target }
     ensures group { (r : Stored) → finite.get state.old.records.records draft.id ≡ Some r
-        → group_of state.new ≡ handed_over (group_of state.old) draft.id draft.record (Some (record { id = heir.in_target; last = r.stamp })) }
+        → group_of state.new ≡ renamed_last (group_of state.old) draft.id draft.record (Some (record { id = heir.in_target; last = r.stamp })) }
     ensures marks { KeepsMarks state.old.records state.new.records draft.id }
 {
     let Successor {

@@ -38,7 +38,6 @@ pub struct Plan<'a> {
 /// Plans the reply to a member whose draft was renewed; there is room for it in `out` then. Fails where memory is short.
 pub fn plan_of<'a>(
     state: &State,
-    alloc: Global,
     draft: &Draft,
     renewal: &Renewal,
     request: &HeartbeatRequest<'a>,
@@ -53,8 +52,9 @@ pub fn plan_of<'a>(
 {
     // so that the view is known to have no more partitions than an image
     let _ = renewal.view.topics();
+    let alloc = state.alloc;
     let owned = reported(alloc, request)?;
-    let shown = shown_of(state, alloc, draft, renewal, &owned)?;
+    let shown = shown_of(state, draft, renewal, &owned)?;
     let is_said = is_said(request, &draft.member.record, &shown);
     let said = said_of(alloc, shown, is_said)?;
     let id = id_with_room(alloc, draft.told_id(), request.member_id, &said.0, out)?;
@@ -90,7 +90,6 @@ fn id_with_room<'a>(
 /// What the member of a draft that was renewed is shown, where it reports so. Fails where memory is short.
 fn shown_of(
     state: &State,
-    alloc: Global,
     draft: &Draft,
     renewal: &Renewal,
     owned: &Option<PartSet>,
@@ -99,7 +98,7 @@ fn shown_of(
 {
     let id = draft.member.id.as_str();
     let wanted = target_of(&renewal.target, &state.target).of(id);
-    state.grants.shown_after(alloc, id, &wanted, owned.as_ref())
+    state.grants.shown_after(id, &wanted, owned.as_ref())
 }
 
 /// The shown set, where it is said, and its copy. Fails where memory is short.

@@ -2,14 +2,14 @@
 ghost use Rattle.std.specs.Prelude.{◌≡◌, ◌≤ℤ◌, ◌-◌, IfOk, IfSome, OnErr, OnOk, Option, length, pos, vec_capacity};
 ghost use Rattle.std.specs.FinMap as finite;
 ghost use Rattle.group_types.specs.Topics.{Topics};
-ghost use Rattle.group_types.specs.Renewal.{view_for};
-ghost use Rattle.group_types.specs.HeartbeatStep.{SettlesAndReplies};
+ghost use Rattle.group_types.specs.Renewal.{Renews, view_for};
+ghost use Rattle.group_core.specs.CodeOrder.{LateStages};
 ghost use Rattle.kip_msgs.specs.Views.{heartbeat_request_value};
 ghost use Rattle.group_epochs.specs.Request.{heartbeat_of};
 ghost use Rattle.group_types.specs.Sound.{IsSound};
 ghost use Rattle.group_reconcile.specs.Holders.{pairs};
 ghost use Rattle.group_reconcile.specs.Offers.{AreIndexed};
-ghost use Rattle.group_types.specs.Group.{wanted};
+ghost use Rattle.group_types.specs.Group.{Group, wanted};
 ghost use Rattle.group_types.specs.Settle.{grants_after, may_settle};
 ghost use Rattle.group_epochs.specs.Records.{KeepsMarks};
 ghost use Rattle.group_core.specs.GroupView.{group_of};
@@ -27,13 +27,12 @@ use group_reconcile::{Grants, Verdict};
 use group_target::Target;
 use group_types::{MemberId, Moment, PartSet};
 use kip_msgs::HeartbeatRequest;
-use std::alloc::{AllocError, Global};
+use std::alloc::AllocError;
 
 /// Settles the member of a draft on the target that its renewal leaves, and replies (KIP-848, "Reconciliation of the group").
 /// Where memory is short, the group is as it was.
 pub fn settle<'a>(
     state: &mut State,
-    alloc: Global,
     draft: Draft,
     renewal: Renewal,
     request: &HeartbeatRequest<'a>,
@@ -45,8 +44,8 @@ pub fn settle<'a>(
     requires idle { IfSome (heir_id draft) (HasNothing (target_then state.old renewal).owners (pairs state.old.grants)) }
     requires owned { AreOfView (target_then state.old renewal).owners renewal.view }
     requires epoch { pos 0 ≤ℤ request.now.member_epoch }
-    ensures settles { IfOk result (λ outcome. SettlesAndReplies (renewed_by state.old draft now renewal) (draft_in (group_of state.old) draft now)
-        (heartbeat_of (heartbeat_request_value request.now)) (answer_of outcome) (group_of state.new)) }
+    ensures settles { IfOk result (λ outcome. (changed : Group) → Renews changed (renewed_by state.old draft now renewal)
+        → LateStages changed (draft_in (group_of state.old) draft now) (heartbeat_of (heartbeat_request_value request.now)) (answer_of outcome) (group_of state.new)) }
     ensures current { OnOk result ((image : Topics) → renewal.view ≡ view_for image (finite.insert state.old.records.records draft.member.id draft.member.record)
         → IsCurrent (group_of state.new) image) }
     ensures few { IfOk result (λ outcome. HasFewPartitions (answer_of outcome)) }
@@ -57,15 +56,9 @@ pub fn settle<'a>(
     ensures err { OnErr result (group_of state.new ≡ group_of state.old) }
     ensures same { OnErr result (state.new.records.marks ≡ state.old.records.marks) }
 {
-    let plan = plan_of(state, alloc, &draft, &renewal, request, out)?;
+    let plan = plan_of(state, &draft, &renewal, request, out)?;
     let target = target_of(&renewal.target, &state.target);
-    let moves = offered(
-        &mut state.grants,
-        alloc,
-        target,
-        &draft.member.id,
-        &plan.owned,
-    )?;
+    let moves = offered(&mut state.grants, target, &draft.member.id, &plan.owned)?;
     let reply = carry_out(state, draft, renewal, plan, moves, now);
     Ok(Outcome::Replied(reply))
 }
@@ -73,7 +66,6 @@ pub fn settle<'a>(
 /// Offers its part of the target to a member, and says whether it moves.
 fn offered(
     grants: &mut Grants,
-    alloc: Global,
     target: &Target,
     id: &MemberId,
     owned: &Option<PartSet>,
@@ -84,7 +76,7 @@ fn offered(
         ≡ grants_after (may_settle (pairs grants.old) id.now (wanted target.now.owners id.now) owned.now) (pairs grants.old) id.now (wanted target.now.owners id.now)) }
     ensures err { OnErr result (grants.new ≡ grants.old) }
 {
-    match grants.offer(alloc, id, &target.of(id.as_str()), owned.as_ref())? {
+    match grants.offer(id, &target.of(id.as_str()), owned.as_ref())? {
         Verdict::Moves => Ok(true),
         Verdict::StillHolds => Ok(false),
     }

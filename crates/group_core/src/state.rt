@@ -15,6 +15,7 @@ use topic_meta::View;
 /// The state of a group, field by field (KIP-848, "Group Coordinator").
 #[derive(Drop)]
 pub struct State {
+    pub alloc: Global,
     pub salt: u64,
     pub epoch: EpochNumber,
     pub target: Target,
@@ -38,6 +39,7 @@ impl State {
         ensures marks { result.records.marks ≡ finite.empty }
     {
         State {
+            alloc,
             salt,
             epoch,
             target: Target::new(alloc, epoch),

@@ -2,7 +2,8 @@
 ghost use Rattle.std.specs.Prelude.{◌≡◌, ◌≢◌, ◌≤ℤ◌, ◌-◌, IfOk, MatchOption, OnErr, length, pos, vec_capacity};
 ghost use Rattle.group_types.specs.Topics.{Topics};
 ghost use Rattle.group_types.specs.Group.{Group};
-ghost use Rattle.group_types.specs.HeartbeatStep.{Replied, TakesIn, refusal};
+ghost use Rattle.group_types.specs.HeartbeatStep.{Replied, refusal};
+ghost use Rattle.group_core.specs.CodeOrder.{TakesInLate};
 ghost use Rattle.kip_msgs.specs.Views.{heartbeat_request_value};
 ghost use Rattle.group_epochs.specs.Request.{heartbeat_of};
 ghost use Rattle.group_core.specs.GroupView.{IsGroup, Keeps, group_of};
@@ -18,13 +19,12 @@ use crate::settle::settle;
 use crate::state::State;
 use group_types::{Code, Moment};
 use kip_msgs::HeartbeatRequest;
-use std::alloc::{AllocError, Global};
+use std::alloc::AllocError;
 use topic_meta::Image;
 
 /// Takes in a draft, over the node's image. Where memory is short, the group is as it was.
 pub fn take_in<'a>(
     state: &mut State,
-    alloc: Global,
     draft: Draft,
     request: &HeartbeatRequest<'a>,
     now: Moment,
@@ -34,13 +34,13 @@ pub fn take_in<'a>(
     requires group { IsGroup state.old }
     requires fit { IsFit state.old draft }
     requires epoch { pos 0 ≤ℤ request.now.member_epoch }
-    ensures step { IfOk result (λ outcome. TakesIn (group_of state.old) (draft_in (group_of state.old) draft now)
+    ensures step { IfOk result (λ outcome. TakesInLate (group_of state.old) (draft_in (group_of state.old) draft now)
         (heartbeat_of (heartbeat_request_value request.now)) image.now (answer_of outcome) (group_of state.new)) }
     ensures response { IfOk result (λ outcome. IsResponse (answer_of outcome) (group_of state.new) image.now (vec_capacity out.new - length out.new.items)) }
     ensures keeps { Keeps result state.old state.new out.old.items out.new.items }
 {
-    match renewal_of(state, alloc, &draft, image)? {
-        Some(renewal) => settle(state, alloc, draft, renewal, request, now, out),
+    match renewal_of(state, &draft, image)? {
+        Some(renewal) => settle(state, draft, renewal, request, now, out),
         None => refuse(Code::CoordinatorNotAvailable, out),
     }
 }

@@ -7,7 +7,7 @@ use Rattle.group_types.specs.Text.{Text}
 use Rattle.group_types.specs.Group.{Record}
 use Rattle.group_types.specs.Members.{Members}
 use Rattle.group_types.specs.Sound.{IsPast}
-use Rattle.group_types.specs.Request.{Heartbeat, Kind, Joins, Beats, Leaves, GoesAway, IsNone}
+use Rattle.group_types.specs.Request.{Heartbeat, Kind, Joins, Beats, Leaves, GoesAway, MeansNothing}
 use Rattle.group_types.specs.Checks.{Verdict, Accepted, Refused, Overtaken, Sender, first_of, is_another, is_fenced, is_of_past, is_overtaken, is_too_many, is_unreleased}
 use Rattle.group_epochs.specs.declared.refusal.Refusal.{Refusal}
 use Rattle.group_epochs.specs.declared.refusal.Refusal.TheVariants as refusals
@@ -32,7 +32,7 @@ is_unknown Joins own instance = false
 is_unknown (Beats n) own instance = is_none own
 is_unknown Leaves own instance = is_none own
 is_unknown GoesAway own instance = is_another own instance
-is_unknown IsNone own instance = is_none own
+is_unknown MeansNothing own instance = is_none own
 
 -- of a join, those that look at other members: its instance is released, and the group takes one member more
 abbrev pub verdict_on_place : Sender → ℕ → Verdict
@@ -62,7 +62,7 @@ verdict_on_member Joins sender s q stamp = verdict_on_join sender s q.member sta
 verdict_on_member (Beats n) sender s q stamp = verdict_on_own (Beats n) sender.own q.instance stamp
 verdict_on_member Leaves sender s q stamp = verdict_on_own Leaves sender.own q.instance stamp
 verdict_on_member GoesAway sender s q stamp = verdict_on_own GoesAway sender.own q.instance stamp
-verdict_on_member IsNone sender s q stamp = verdict_on_own IsNone sender.own q.instance stamp
+verdict_on_member MeansNothing sender s q stamp = verdict_on_own MeansNothing sender.own q.instance stamp
 
 -- Of a beat: its epoch is the member's or, where all that is reported is granted, the one before. Without a look at grants that is
 -- either so, or so where they are, or never.

@@ -4,7 +4,7 @@ use Rattle.std.specs.FinMap as finite
 use Rattle.group_types.specs.declared.stamp.Stamp.{Stamp}
 use Rattle.group_types.specs.Text.{Text}
 use Rattle.group_types.specs.Group.{Record, Records}
-use Rattle.group_types.specs.Request.{Heartbeat, Kind, Joins, Beats, Leaves, GoesAway, IsNone}
+use Rattle.group_types.specs.Request.{Heartbeat, Kind, Joins, Beats, Leaves, GoesAway, MeansNothing}
 use Rattle.group_types.specs.Checks.{Member}
 use Rattle.group_types.specs.Join.{record_of_beat, record_of_join}
 use Rattle.group_epochs.specs.Records.{CanJoin, CanReplace, IsMember, RecordsState}
@@ -53,7 +53,7 @@ record_after Joins r q stamp now = record_of_join (Some r) q stamp now
 record_after (Beats n) r q stamp now = record_of_beat r q stamp now
 record_after Leaves r q stamp now = record_of_join (Some r) q stamp now
 record_after GoesAway r q stamp now = record_of_join (Some r) q stamp now
-record_after IsNone r q stamp now = record_of_join (Some r) q stamp now
+record_after MeansNothing r q stamp now = record_of_join (Some r) q stamp now
 
 -- By the record of the sender, which has this id, and another member that has its instance: its own record, a new one, or the
 -- other's.

@@ -59,7 +59,6 @@ impl Records {
     /// memory is short, or else, nothing changes but the room.
     pub fn draft(
         &mut self,
-        alloc: Global,
         id: MemberId,
         request: &HeartbeatRequest<'_>,
         stamp: Stamp,
@@ -76,10 +75,10 @@ impl Records {
     {
         match self.get(request.member_id) {
             Some(own) => {
-                let after = record_after(alloc, own, request, stamp, now)?;
-                self.draft_again(alloc, id, after)
+                let after = record_after(self.alloc, own, request, stamp, now)?;
+                self.draft_again(id, after)
             }
-            None => self.draft_first(alloc, id, request, stamp, now),
+            None => self.draft_first(id, request, stamp, now),
         }
     }
 
@@ -118,19 +117,14 @@ impl Records {
     }
 
     /// The draft of a member that has a record.
-    fn draft_again(
-        &mut self,
-        alloc: Global,
-        id: MemberId,
-        record: Record,
-    ) -> Result<Draft, AllocError>
+    fn draft_again(&mut self, id: MemberId, record: Record) -> Result<Draft, AllocError>
         requires { IsMember self.old id }
         ensures draft { IfOk result (λ d. drafted_in d ≡ record { id = id; kept = «record»; heir = None }) }
         ensures room { IfOk result (λ d. CanStore self.new d.id d.record d.place) }
         ensures members { members_in self.new ≡ members_in self.old }
         ensures marks { self.new.marks ≡ self.old.marks }
     {
-        let names = self.prepare_names(alloc, id.as_str(), &record)?;
+        let names = self.prepare_names(id.as_str(), &record)?;
         Ok(Draft {
             id,
             record,
@@ -141,7 +135,6 @@ impl Records {
     /// The draft of a join whose member has no record.
     fn draft_first(
         &mut self,
-        alloc: Global,
         id: MemberId,
         request: &HeartbeatRequest<'_>,
         stamp: Stamp,
@@ -160,13 +153,13 @@ impl Records {
     {
         match self.other_of(request) {
             Some((old, former)) => {
-                let standing = old.copy(alloc)?;
-                let taken = Record::joining(alloc, Some(former), request, stamp, now)?;
-                self.draft_heir(alloc, standing, &id, taken)
+                let standing = old.copy(self.alloc)?;
+                let taken = Record::joining(self.alloc, Some(former), request, stamp, now)?;
+                self.draft_heir(standing, &id, taken)
             }
             None => {
-                let first = Record::joining(alloc, None, request, stamp, now)?;
-                self.draft_new(alloc, id, first)
+                let first = Record::joining(self.alloc, None, request, stamp, now)?;
+                self.draft_new(id, first)
             }
         }
     }
@@ -174,7 +167,6 @@ impl Records {
     /// The draft of a member that takes over a record.
     fn draft_heir(
         &mut self,
-        alloc: Global,
         old: MemberId,
         heir: &MemberId,
         record: Record,
@@ -185,7 +177,7 @@ impl Records {
         ensures members { members_in self.new ≡ members_in self.old }
         ensures marks { self.new.marks ≡ self.old.marks }
     {
-        let member = self.prepare(alloc, heir, &record)?;
+        let member = self.prepare(heir, &record)?;
         Ok(Draft {
             id: old,
             record,
@@ -194,12 +186,7 @@ impl Records {
     }
 
     /// The draft of a new member.
-    fn draft_new(
-        &mut self,
-        alloc: Global,
-        id: MemberId,
-        record: Record,
-    ) -> Result<Draft, AllocError>
+    fn draft_new(&mut self, id: MemberId, record: Record) -> Result<Draft, AllocError>
         requires absent { finite.get self.old.records id ≡ None }
         requires named { id ≢ [] }
         ensures draft { IfOk result (λ d. drafted_in d ≡ record { id = id; kept = «record»; heir = None }) }
@@ -207,7 +194,7 @@ impl Records {
         ensures members { members_in self.new ≡ members_in self.old }
         ensures marks { self.new.marks ≡ self.old.marks }
     {
-        let member = self.prepare(alloc, &id, &record)?;
+        let member = self.prepare(&id, &record)?;
         Ok(Draft {
             id,
             record,

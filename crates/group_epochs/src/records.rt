@@ -66,6 +66,7 @@ impl NewMember {
 /// The records of a group's members, by their ids, and the ids of former members that are remembered.
 #[derive(Drop)]
 pub struct Records {
+    pub(crate) alloc: Global,
     members: Table,
     /// The members' places, in the order of their ids.
     by_id: VecDeque<usize>,
@@ -106,6 +107,7 @@ impl Records {
         ensures marks { result.marks ≡ finite.empty }
     {
         Records {
+            alloc,
             members: IndexMap::with_hasher(alloc, hasher),
             by_id: VecDeque::new(alloc),
             in_member_order: VecDeque::new(alloc),
@@ -162,7 +164,6 @@ impl Records {
     /// that order, and no two of them are compared. Fails where memory is short.
     pub fn subs_with<'a>(
         &'a self,
-        alloc: Global,
         id: &'a MemberId,
         record: &'a Record,
     ) -> Result<Subs<'a>, AllocError>
@@ -170,7 +171,7 @@ impl Records {
     {
         // rounded up, so that a growing group asks the allocator for one size again and again
         let room = (self.members.len() / 1024 + 1) * 1024;
-        let mut members = Vec::with_capacity(alloc, room)?;
+        let mut members = Vec::with_capacity(self.alloc, room)?;
         let own = self.members.get_index_of(id.as_str());
         let (before, after) = around(
             &self.members,
@@ -186,25 +187,18 @@ impl Records {
 
     /// The image's topics that some member subscribes, with this record for the id in place of the one that is kept, if any. The time
     /// grows with the members' names or with the image, whichever are fewer. Fails where memory is short.
-    pub fn view_with(
-        &self,
-        alloc: Global,
-        image: &Image,
-        id: &str,
-        record: &Record,
-    ) -> Result<View, AllocError>
+    pub fn view_with(&self, image: &Image, id: &str, record: &Record) -> Result<View, AllocError>
         ensures { IfOk result (λ view. view ≡ view_for image.now (finite.insert self.now.records id.now «record».now)) }
     {
         let former = self.get(id);
-        let asked = asked_of(alloc, image, record.names(), &self.counts, former)?;
-        image.view(alloc, &asked)
+        let asked = asked_of(self.alloc, image, record.names(), &self.counts, former)?;
+        image.view(self.alloc, &asked)
     }
 
     /// Makes room for one member more with this record, and what the records need of its id and its names. Where memory is short,
     /// or else, nothing changes but the room.
     pub(crate) fn prepare(
         &mut self,
-        alloc: Global,
         id: &MemberId,
         record: &Record,
     ) -> Result<NewMember, AllocError>
@@ -214,10 +208,10 @@ impl Records {
         ensures marks { self.new.marks ≡ self.old.marks }
     {
         self.make_room(record.names())?;
-        let text = String::from_str(alloc, id.as_str())?;
-        let names = NewNames::of(alloc, record.names())?;
+        let text = String::from_str(self.alloc, id.as_str())?;
+        let names = NewNames::of(self.alloc, record.names())?;
         Ok(NewMember {
-            id: id.copy(alloc)?,
+            id: id.copy(self.alloc)?,
             text,
             names,
         })
@@ -227,7 +221,6 @@ impl Records {
     /// short, or else, nothing changes but the room.
     pub(crate) fn prepare_names(
         &mut self,
-        alloc: Global,
         id: &str,
         record: &Record,
     ) -> Result<Option<NewNames>, AllocError>
@@ -239,7 +232,7 @@ impl Records {
             return Ok(None);
         }
         self.counts.reserve(record.names().len())?;
-        Ok(Some(NewNames::of(alloc, record.names())?))
+        Ok(Some(NewNames::of(self.alloc, record.names())?))
     }
 
     /// Stores the record of a new member, which is no former member any more. Takes no memory.
@@ -328,6 +321,7 @@ impl Records {
         );
         count_down(&mut self.counts, former.kept.names());
         self.past.remember(former.id, stamp);
+        self.give_back();
     }
 
     /// The member at a rank, in the order of the members' ids, leaves for good, and its id is remembered with its last stamp; where
@@ -348,6 +342,7 @@ impl Records {
         count_down(&mut self.counts, former.kept.names());
         let latest = former.kept.stamp();
         self.past.remember(former.id, latest);
+        self.give_back();
     }
 
     /// A static member goes away for a while (KIP-848, member epoch -2), and its mark is taken away. Takes no memory.
@@ -400,6 +395,20 @@ impl Records {
             text,
             entry,
         );
+    }
+
+    /// Gives back the room of the tables where no member is left. Former ids stay. Takes no memory.
+    fn give_back(&mut self)
+        ensures members { members_in self.new ≡ members_in self.old }
+        ensures marks { self.new.marks ≡ self.old.marks }
+    {
+        if !self.members.is_empty() {
+            return;
+        }
+        self.members.shrink_to_fit();
+        self.by_id.shrink_to_fit();
+        self.in_member_order.shrink_to_fit();
+        self.counts.shrink_to_fit();
     }
 
     /// The first rank, from one on, in the order of the members' ids, at which a member's deadline has come (KIP-848, "Session

@@ -12,3 +12,4 @@ pub mod Offering
 pub mod Settles
 pub mod Shown
 pub mod Stays
+pub mod Emptied

@@ -6,9 +6,10 @@ use Rattle.std.specs.Cmp.{Equal-is, eq_by_cmp_equiv}
 use Rattle.group_types.specs.declared.partition.Partition.{Partition}
 use Rattle.group_types.specs.Partition.{partition_cmp}
 use Rattle.group_types.proofs.Orders.{partition_cmp_total, partition_cmp-IsAntisymmetric}
-use Rattle.group_reconcile.specs.Tables.{Sizes, HasRoom, IsWithin, KeepsRoom}
+use Rattle.group_types.specs.Owners.{IsIndex}
+use Rattle.group_reconcile.specs.Tables.{Sizes, HasRoom, KeepsRoom}
 
-within_more : (k : ℤ) (m n : ℕ) → m ≤ n → IsWithin k m → IsWithin k n
+within_more : (k : ℤ) (m n : ℕ) → m ≤ n → IsIndex k m → IsIndex k n
 within_more (pos i) m n more within = omega arith
 within_more (negsuc i) m n more within = within
 

@@ -17,7 +17,8 @@ use Rattle.group_types.specs.Text.{Text, text_cmp}
 use Rattle.group_types.specs.Partition.{partition_cmp}
 use Rattle.group_types.proofs.Orders.{text_cmp_total, text_cmp-IsAntisymmetric, partition_cmp_total, partition_cmp-IsAntisymmetric}
 use Rattle.group_reconcile.specs.declared.cell.Cell.{Cell}
-use Rattle.group_reconcile.specs.Tables.{Sizes, TopicCells, cell_at, cells_in, sizes_in, IsWithin, SetsCell, KeepsRoom, size_of}
+use Rattle.group_types.specs.Owners.{IsIndex}
+use Rattle.group_reconcile.specs.Tables.{Sizes, TopicCells, cell_at, cells_in, sizes_in, SetsCell, KeepsRoom, size_of}
 use Rattle.group_reconcile.proofs.Lookups.{get-cells_in, get-sizes_in, lookup-items, of_topic, eq-partition, index_same, index_less, index_more}
 use Rattle.group_reconcile.proofs.Bools.{same_both}
 
@@ -62,7 +63,7 @@ if_within i n x y h = ap (λ b. cond b x y) (ltb_of i n h)
 if_past : {A : Type 0} (i n : ℕ) (x y : A) → n ≤ i → cond (nat_lt i n) x y ≡ y
 if_past i n x y h = ap (λ b. cond b x y) (ltb_not i n h)
 
-pub puts : (old new : List (Option Cell)) (k : ℤ) (cell : Option Cell) → IsWithin k (length old) → SetsCell old new k cell → Puts old new k cell
+pub puts : (old new : List (Option Cell)) (k : ℤ) (cell : Option Cell) → IsIndex k (length old) → SetsCell old new k cell → Puts old new k cell
 puts old new (negsuc i) cell within sets j = absurd within
 puts old new (pos i) cell within sets (pos n) =
     ap (λ cs. get_or cs n None) (sets ∙ if_within i (length old) (set old i cell) old within) ∙ set_at old i n cell within
@@ -137,13 +138,13 @@ module _ (ts us : List TopicCells) (p : Partition) (v w : Vec (Option Cell) Glob
 
 -- where there is room for a partition, its topic's cells go that far
 pub room_at : (ts : List TopicCells) (sizes : Sizes) (p : Partition) (o : Option (Vec (Option Cell) Global)) → sizes_in ts ≡ sizes
-    → lookup (is_at (text_cmp p.topic)) ts ≡ o → IsWithin p.index (unwrap_or (finite.get sizes p.topic) 0)
-    → IsWithin p.index (unwrap_or (option_map (λ c. length c.items) o) 0)
+    → lookup (is_at (text_cmp p.topic)) ts ≡ o → IsIndex p.index (unwrap_or (finite.get sizes p.topic) 0)
+    → IsIndex p.index (unwrap_or (option_map (λ c. length c.items) o) 0)
 room_at ts sizes p o is finds room =
-    subst (λ n. IsWithin p.index (unwrap_or n 0))
+    subst (λ n. IsIndex p.index (unwrap_or n 0))
     (ap (λ s. finite.get s p.topic) (sym is) ∙ get-sizes_in p.topic ts ∙ ap (option_map (λ c. length c.items)) finds) room
 
-pub no_room : (k : ℤ) → IsWithin k 0 → ⊥
+pub no_room : (k : ℤ) → IsIndex k 0 → ⊥
 no_room (pos i) h = omega arith
 no_room (negsuc i) h = h
 
@@ -189,9 +190,9 @@ module _ (ts us : List TopicCells) (p : Partition) (v w : Vec (Option Cell) Glob
       ∙ at_grown q (is_eq (text_cmp p.topic q.topic)) refl
       ∙ sym (get-cells_in ts q ∙ ap (λ o. of_topic o q.index) (lookup-items q.topic ts)))
 
-  pub room-grown : IsWithin p.index (length w.items) → IsWithin p.index (unwrap_or (finite.get (sizes_in us) p.topic) 0)
+  pub room-grown : IsIndex p.index (length w.items) → IsIndex p.index (unwrap_or (finite.get (sizes_in us) p.topic) 0)
   room-grown far =
-      subst (λ n. IsWithin p.index (unwrap_or n 0))
+      subst (λ n. IsIndex p.index (unwrap_or n 0))
       (sym (get-sizes_in p.topic us ∙ ap (option_map (λ c. length c.items)) (updates p.topic)
       ∙ ap (λ b. option_map (λ (c : Vec (Option Cell) Global). length c.items) (cond b (Some w) (lookup (is_at (text_cmp p.topic)) ts))) ((eq_by_cmp_equiv text_cmp_total).refl p.topic)))
       far

@@ -1,11 +1,12 @@
 -- The cells of the partitions that are held: a table a topic, indexed by partition (ours).
-use Rattle.std.specs.Prelude.{ℕ, suc, ◌<◌, ◌≤◌, ◌≡◌, ℤ, pos, negsuc, not, List, [], ◌∷◌, map, length, Option, Some, None, unwrap_or, refl, slice_index_or, nat_lt, if◌then◌else◌, slice_set}
+use Rattle.std.specs.Prelude.{ℕ, suc, ◌≤◌, ◌≡◌, ℤ, pos, negsuc, not, List, [], ◌∷◌, map, length, Option, Some, None, unwrap_or, refl, slice_index_or, nat_lt, if◌then◌else◌, slice_set}
 use Rattle.std.specs.declared.alloc.Global.{Global}
 use Rattle.std.specs.declared.vec.Vec.{Vec}
 use Rattle.std.specs.Ordering.{eq_by_cmp}
 use Rattle.std.specs.Coded.{Coded, code_by, coded×, coded_ℕ, coded_list}
 use Rattle.std.specs.FinMap as finite
 use Rattle.group_types.specs.declared.partition.Partition.{Partition}
+use Rattle.group_types.specs.Owners.{IsIndex}
 use Rattle.group_types.specs.Text.{Text, text_cmp}
 use Rattle.group_types.specs.Partition.{partition_cmp, partition_code}
 use Rattle.group_reconcile.specs.declared.cell.Cell.{Cell}
@@ -60,17 +61,13 @@ abbrev pub IsAtLeastZero : ℤ → Type 0
 IsAtLeastZero (pos i) = Unit {0}
 IsAtLeastZero (negsuc i) = ⊥
 
-abbrev pub IsWithin : ℤ → ℕ → Type 0
-IsWithin (pos i) n = i < n
-IsWithin (negsuc i) n = ⊥
-
 -- how many indexes of a topic have a place
 abbrev pub size_of : Sizes → Text → ℕ
 size_of sizes topic = unwrap_or (finite.get sizes topic) 0
 
 -- the partition has a place for its cell
 abbrev pub HasRoom : Sizes → Partition → Type 0
-HasRoom sizes p = IsWithin p.index (size_of sizes p.topic)
+HasRoom sizes p = IsIndex p.index (size_of sizes p.topic)
 
 -- no topic has fewer places than before
 abbrev pub KeepsRoom : Sizes → Sizes → Type 0

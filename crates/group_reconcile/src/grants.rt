@@ -21,6 +21,7 @@ use std::marker::Model;
 /// holder.
 #[derive(Drop)]
 pub struct Grants {
+    alloc: Global,
     table: Table,
     members: Members,
 }
@@ -44,6 +45,7 @@ impl Grants {
         ensures { result ≡ finite.empty }
     {
         Grants {
+            alloc,
             table: Table::new(alloc),
             members: Members::new(alloc),
         }
@@ -100,7 +102,6 @@ impl Grants {
     /// Where memory is short, nothing has changed.
     pub fn offer(
         &mut self,
-        alloc: Global,
         member: &MemberId,
         target: &Wanted<'_>,
         owned: Option<&PartSet>,
@@ -118,7 +119,7 @@ impl Grants {
         if !self.may_settle(id, target, owned) {
             return Ok(Verdict::StillHolds);
         }
-        self.settle_on(alloc, member, target)?;
+        self.settle_on(member, target)?;
         Ok(Verdict::Moves)
     }
 
@@ -146,20 +147,15 @@ impl Grants {
     }
 
     /// Settles a member on its target: what can fail comes first. Where memory is short, nothing has changed.
-    fn settle_on(
-        &mut self,
-        alloc: Global,
-        member: &MemberId,
-        target: &Wanted<'_>,
-    ) -> Result<(), AllocError>
+    fn settle_on(&mut self, member: &MemberId, target: &Wanted<'_>) -> Result<(), AllocError>
         requires { AreIndexed target.now.partitions }
         ensures settled { OnOk result (Settles self.old member.now target.now.partitions target.now.epoch self.new) }
         ensures err { OnErr result (self.new ≡ self.old) }
     {
         let number = self.members.find(member.as_str());
-        let next = next_of(&self.table, alloc, number, target)?;
-        make_room_for(&mut self.table, alloc, &next)?;
-        let number = self.members.number_for(alloc, member)?;
+        let next = next_of(&self.table, self.alloc, number, target)?;
+        make_room_for(&mut self.table, self.alloc, &next)?;
+        let number = self.members.number_for(self.alloc, member)?;
         settle(
             &mut self.table,
             &mut self.members,
@@ -174,7 +170,6 @@ impl Grants {
     /// reply then shows. Fails where memory is short.
     pub fn shown_after(
         &self,
-        alloc: Global,
         member: &str,
         target: &Wanted<'_>,
         owned: Option<&PartSet>,
@@ -183,28 +178,23 @@ impl Grants {
             IfOk result (λ set. set ≡ common (held (grants_after may (pairs self.now) member.now target.now.partitions) member.now) target.now.partitions) }
     {
         if self.is_settled(member, target) {
-            return target.copy_set(alloc);
+            return target.copy_set(self.alloc);
         }
         if self.may_settle(member, target, owned) {
-            next_of(&self.table, alloc, self.members.find(member), target)
+            next_of(&self.table, self.alloc, self.members.find(member), target)
         } else {
-            self.held_of(alloc, member, target)
+            self.held_of(member, target)
         }
     }
 
     /// What the member may read of its target today. Fails where memory is short.
-    fn held_of(
-        &self,
-        alloc: Global,
-        member: &str,
-        target: &Wanted<'_>,
-    ) -> Result<PartSet, AllocError>
+    fn held_of(&self, member: &str, target: &Wanted<'_>) -> Result<PartSet, AllocError>
         ensures { IfOk result (λ set. set ≡ common (held (pairs self.now) member.now) target.now.partitions) }
     {
         let Some(held) = self.held(member) else {
-            return Ok(PartSet::new(alloc));
+            return Ok(PartSet::new(self.alloc));
         };
-        let mut set = target.copy_set(alloc)?;
+        let mut set = target.copy_set(self.alloc)?;
         set.retain_common(held);
         Ok(set)
     }
@@ -216,6 +206,16 @@ impl Grants {
     {
         if let Some(parts) = self.members.take(member) {
             clear_each(&mut self.table, &parts);
+            self.give_back();
+        }
+    }
+
+    /// Gives back the room of the tables where no member is left who could hold a partition. Takes no memory.
+    fn give_back(&mut self)
+        ensures { self.new ≡ self.old }
+    {
+        if self.members.give_back() {
+            self.table.clear_all();
         }
     }
 

@@ -1,6 +1,6 @@
 //! The members that were offered a target, by their numbers.
 
-ghost use Rattle.std.specs.Prelude.{ℕ, ◌≡◌, ◌<◌, IfOk, IsSome};
+ghost use Rattle.std.specs.Prelude.{ℕ, ◌≡◌, ◌<◌, IfOk, IsSome, IsTrue, None};
 ghost use Rattle.std.specs.Option.{option_copied, option_map};
 ghost use Rattle.std.specs.List.Sorted.{IsStrictlySortedBy};
 ghost use Rattle.std.specs.VecDeque.{deque_capacity, deque_len};
@@ -105,6 +105,19 @@ impl Members {
         };
         let Member { id: _, parts } = self.members.try_remove(number)?;
         Some(parts)
+    }
+
+    /// Gives back the room of the table where no member is left, and says whether none is. Takes no memory.
+    pub fn give_back(&mut self) -> bool
+        ensures none { IsTrue result → (k : ℕ) → get self.old k ≡ None }
+        ensures members { (k : ℕ) → get self.new k ≡ get self.old k }
+    {
+        if !self.by_id.is_empty() {
+            return false;
+        }
+        self.members.shrink_to_fit();
+        self.by_id.shrink_to_fit();
+        true
     }
 
     /// Gives the member with the old id the new one, which no member has. Its number stays. Takes no memory.

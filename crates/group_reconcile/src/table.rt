@@ -2,7 +2,8 @@
 
 ghost use Rattle.std.specs.Prelude.{◌≡◌, length, OnOk, IsSome};
 ghost use Rattle.std.specs.FinMap as finite;
-ghost use Rattle.group_reconcile.specs.Tables.{AddsBlanks, HasRoom, IsAtLeastZero, IsWithin, KeepsRoom, SetsCell, cell_at};
+ghost use Rattle.group_types.specs.Owners.{IsIndex};
+ghost use Rattle.group_reconcile.specs.Tables.{AddsBlanks, HasRoom, IsAtLeastZero, KeepsRoom, SetsCell, cell_at};
 
 use crate::cell::Cell;
 use group_types::Partition;
@@ -11,7 +12,7 @@ use std::collections::BTreeMap;
 use std::marker::Model;
 use uuid::Uuid;
 
-/// The cells of all partitions: a table a topic id, indexed by partition. Tables never shrink, and none is taken out.
+/// The cells of all partitions: a table a topic id, indexed by partition. A table never shrinks, and all go together.
 #[derive(Drop)]
 pub struct Table {
     topics: BTreeMap<Uuid, Vec<Option<Cell>>>,
@@ -104,6 +105,13 @@ impl Table {
             set_cell(cells, p.index, None);
         }
     }
+
+    /// Frees every partition, and gives all room back. Takes no memory.
+    pub fn clear_all(&mut self)
+        ensures { self.new.cells ≡ finite.empty }
+    {
+        self.topics.clear();
+    }
 }
 
 /// The cell at an index, or none where there is no such cell.
@@ -122,7 +130,7 @@ fn cell_at(cells: &Vec<Option<Cell>>, index: i32) -> Option<Cell>
 fn add_blanks(cells: &mut Vec<Option<Cell>>, index: i32) -> Result<(), AllocError>
     requires { IsAtLeastZero index }
     ensures blanks { AddsBlanks cells.old.items cells.new.items }
-    ensures far { OnOk result (IsWithin index (length cells.new.items)) }
+    ensures far { OnOk result (IsIndex index (length cells.new.items)) }
 {
     let Ok(index) = usize::try_from(index) else {
         return Ok(());

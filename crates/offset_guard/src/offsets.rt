@@ -4,10 +4,10 @@ ghost use Rattle.std.specs.Prelude.{ℤ, ◌≡◌, IfOk, OnErr, OnOk};
 ghost use Rattle.std.specs.Option.{option_copied, option_or};
 ghost use Rattle.std.specs.List.{flat_map};
 ghost use Rattle.std.specs.FinMap as finite;
-ghost use Rattle.kip_msgs.specs.Views.{commit_reply_value as reply_value, commit_request_topic_value, commit_request_value};
+ghost use Rattle.kip_msgs.specs.Views.{commit_reply_value as reply_value, commit_request_partition_value, commit_request_topic_value, commit_request_value};
 ghost use Rattle.group_types.specs.Text.{Text};
 ghost use Rattle.group_types.specs.Commit.{commit_reply, named_commitments, offsets_after, refusal_of_commit, with_offsets};
-ghost use Rattle.group_epochs.specs.Request.{commit_of};
+ghost use Rattle.group_epochs.specs.Request.{commit_of, commitment_of};
 ghost use Rattle.offset_guard.specs.Requests.{topic_of};
 ghost use Rattle.offset_guard.specs.Replies.{commit_reply_value};
 
@@ -18,7 +18,7 @@ use crate::store::{Topics, append, make_room, put};
 use group_epochs::Records;
 use group_types::Code;
 use indexmap::IndexMap;
-use kip_msgs::{CommitReply, CommitRequest, CommitRequestTopic};
+use kip_msgs::{CommitReply, CommitRequest, CommitRequestPartition, CommitRequestTopic};
 use std::alloc::{AllocError, Global};
 use std::collections::hash_map::RandomState;
 use std::marker::Model;
@@ -27,6 +27,7 @@ use topic_meta::Image;
 /// What a group's members have committed, by a topic's name and an index.
 #[derive(Drop)]
 pub struct Offsets {
+    alloc: Global,
     topics: Topics,
     hasher: RandomState,
 }
@@ -49,6 +50,7 @@ impl Offsets {
         ensures { result ≡ finite.empty }
     {
         Offsets {
+            alloc,
             topics: IndexMap::with_hasher(alloc, hasher),
             hasher,
         }
@@ -69,7 +71,6 @@ impl Offsets {
     /// group is there; one that isn't is its caller's to answer. Where memory is short, nothing has changed.
     pub fn commit<'a>(
         &mut self,
-        alloc: Global,
         records: &Records,
         request: &CommitRequest<'a>,
         image: &Image,
@@ -81,60 +82,58 @@ impl Offsets {
         ensures err { OnErr result (self.new ≡ self.old) }
     {
         let refusal = refusal_of(records, request);
-        let reply = reply_to(alloc, refusal, request, image)?;
+        let reply = reply_to(self.alloc, refusal, request, image)?;
         if refusal.is_none() {
-            let news = self.news_of(alloc, request, image)?;
+            let news = self.news_of(request, image)?;
             self.absorb(news)?;
         }
         Ok(reply)
     }
 
     /// What a taken commit stores, by itself. Fails where memory is short.
-    fn news_of(
-        &self,
-        alloc: Global,
-        request: &CommitRequest<'_>,
-        image: &Image,
-    ) -> Result<Offsets, AllocError>
+    fn news_of(&self, request: &CommitRequest<'_>, image: &Image) -> Result<Offsets, AllocError>
         ensures { IfOk result (λ news. news ≡ with_offsets image.now finite.empty (flat_map named_commitments (commit_of (commit_request_value request.now)).topics)) }
     {
-        let mut news = Offsets::new(alloc, self.hasher);
+        let mut news = Offsets::new(self.alloc, self.hasher);
         for topic in request.topics.as_slice() {
-            news.put_topic(alloc, topic, image)?;
+            news.put_topic(topic, image)?;
         }
         Ok(news)
     }
 
     /// Stores what a taken commit has for a topic. Fails where memory is short.
-    fn put_topic(
-        &mut self,
-        alloc: Global,
-        topic: &CommitRequestTopic<'_>,
-        image: &Image,
-    ) -> Result<(), AllocError>
+    fn put_topic(&mut self, topic: &CommitRequestTopic<'_>, image: &Image) -> Result<(), AllocError>
         ensures { OnOk result (self.new ≡ with_offsets image.now self.old (named_commitments (topic_of (commit_request_topic_value topic.now)))) }
     {
         let count = partitions_of(image, topic.name);
         for partition in topic.partitions.as_slice() {
             if code_of_taken(count, partition) == Code::NoError {
-                let committed = Committed::of(alloc, partition)?;
-                self.put(alloc, topic.name, partition.partition_index, committed)?;
+                let committed = self.committed_of(partition)?;
+                self.put(topic.name, partition.partition_index, committed)?;
             }
         }
         Ok(())
     }
 
+    /// What a request commits for a partition. Fails where memory is short.
+    fn committed_of(&self, partition: &CommitRequestPartition<'_>) -> Result<Committed, AllocError>
+        ensures { IfOk result (λ c. c ≡ (commitment_of (commit_request_partition_value partition.now)).committed) }
+    {
+        Committed::of(self.alloc, partition)
+    }
+
     /// Stores what is committed for an index of a topic. Fails where memory is short.
-    fn put(
-        &mut self,
-        alloc: Global,
-        name: &str,
-        index: i32,
-        committed: Committed,
-    ) -> Result<(), AllocError>
+    fn put(&mut self, name: &str, index: i32, committed: Committed) -> Result<(), AllocError>
         ensures { OnOk result (self.new ≡ finite.insert self.old (name.now, index) committed) }
     {
-        put(&mut self.topics, alloc, self.hasher, name, index, committed)
+        put(
+            &mut self.topics,
+            self.alloc,
+            self.hasher,
+            name,
+            index,
+            committed,
+        )
     }
 
     /// Takes over all of the news: room for all of it is made first. Where memory is short, nothing has changed.
@@ -143,6 +142,7 @@ impl Offsets {
         ensures err { OnErr result (self.new ≡ self.old) }
     {
         let Offsets {
+            alloc: _,
             topics: news,
             hasher: _,
         } = news;

@@ -21,7 +21,7 @@ use Rattle.group_types.specs.Join.{record_of_beat}
 use Rattle.group_types.specs.Settle.{is_free_for, may_settle, moved, arrived, asked, settled, settled_by}
 use Rattle.group_types.specs.Renewal.{IsChange, RenewsWhere, changed_if, view_for}
 use Rattle.group_types.specs.Checks.{Verdict, Accepted, Refused, Sender, sender_of, record_under, checks_of, first_of, verdict_on, is_current, is_fenced, is_overtaken, are_granted}
-use Rattle.group_types.specs.HeartbeatStep.{Answer, Replied, Reply, Arrival, Draft, shown, is_news, assignment_of, epoch_number, acceptance, draft_of_beat, HeartbeatStep, StepOf, BeatsWith, ByVerdict, TakesIn, GoesOn, RepliesTo, RepliesWith, verdict_on_change}
+use Rattle.group_types.specs.HeartbeatStep.{Answer, Replied, Reply, Arrival, Draft, shown, is_news, assignment_of, epoch_number, acceptance, draft_of_beat, HeartbeatStep, StepOf, BeatsWith, ByVerdict, TakesIn, verdict_on_change, Stages, sent_after}
 use Rattle.group_types.specs.Sound.{IsSound}
 use Rattle.group_types.proofs.Lookups.{get-inserted, get-insert_other}
 use Rattle.group_types.proofs.Orders.{partition_cmp_total}
@@ -34,7 +34,7 @@ use Rattle.world_sim.specs.Invariant.{IsOfSettings}
 use Rattle.world_sim.proofs.Messages.{of_list-in_order}
 use Rattle.world_sim.proofs.Groups.{given_some}
 use Rattle.world_sim.proofs.Settling.{moved_other, moved_own}
-use Rattle.world_sim.proofs.Stages.{HasSettled, has_settled, settled_same, arrives, asked_at}
+use Rattle.world_sim.proofs.Stages.{HasSettled, has_settled, settled_same, arrives, asked_at, told_by}
 use Rattle.world_sim.proofs.Verdicts.{NoneApplies}
 
 -- ---- the words
@@ -229,7 +229,7 @@ module _ (g : Group) (sound : IsSound g) (image : Topics) (s : Settings) (m : Te
 
   -- ---- what it leaves
 
-  module _ (c : Group) (changed : IsChanged c) (on : GoesOn c TheDraft q answer new) where
+  module _ (c : Group) (changed : IsChanged c) (on : Stages c TheDraft q answer new) where
     abbrev n : Group
     n = on.renewed
 
@@ -255,15 +255,12 @@ module _ (g : Group) (sound : IsSound g) (image : Topics) (s : Settings) (m : Te
     Sent = record x { records = finite.insert x.records m z }
 
     replied : (answer ≡ Replied (acceptance m settles.after (Some (shown x m)))) × (new ≡ Sent)
-    replied = with_full (subst (λ (o : Option Record). RepliesTo x TheDraft o (is_full q) answer new) kept on.replies)
-      where
-        full : is_full q ≡ true
-        full = or_right (int_eq (pos (suc below)) (pos 0)) true refl
-
-        with_full : RepliesWith x TheDraft settles.after (assignment_of (is_full q || is_news settles.after.sent (shown x m)) (shown x m)) answer new
-            → (answer ≡ Replied (acceptance m settles.after (Some (shown x m)))) × (new ≡ Sent)
-        with_full replies =
-            subst (λ b. RepliesWith x TheDraft settles.after (assignment_of (b || is_news settles.after.sent (shown x m)) (shown x m)) answer new) full replies
+    replied =
+        let told = told_by c TheDraft q answer new on settles.after kept in
+        let full : is_full q ≡ true = or_right (int_eq (pos (suc below)) (pos 0)) true refl in (
+          told.answers ∙ ap (λ b. Replied (acceptance m settles.after (assignment_of (b || is_news settles.after.sent (shown x m)) (shown x m)))) full,
+          told.leaves ∙ ap (λ b. record x { records = finite.insert x.records m (sent_after settles.after (assignment_of (b || is_news settles.after.sent (shown x m)) (shown x m))) }) full,
+        )
 
     same_target : x.target ≡ n.target
     same_target = settled_target _ n m (finite.get n.records m) n.clock
@@ -358,7 +355,7 @@ module _ (g : Group) (sound : IsSound g) (image : Topics) (s : Settings) (m : Te
               (goes.0 ∙ sym settles.target_epoch ∙ ap (λ (t : Group). t.target_epoch) (sym replied.1), λ p. of_new m p ∙ goes.1 p);
         }
 
-  by_change : (change : Bool) → IsChange change (Some r) after g.view view → ByVerdict (verdict_on_change change g.epoch) (GoesOn (changed_if change TheDraft.group view) TheDraft q) g answer new → HasBeat g image m own answer new
+  by_change : (change : Bool) → IsChange change (Some r) after g.view view → ByVerdict (verdict_on_change change g.epoch) (Stages (changed_if change TheDraft.group view) TheDraft q) g answer new → HasBeat g image m own answer new
   by_change false is step =
       left TheDraft.group (record { records = refl; grants = refl; stored = is.view; stays = λ before. (before.epoch, refl, refl) }) step
   by_change true is step =
@@ -373,10 +370,10 @@ module _ (g : Group) (sound : IsSound g) (image : Topics) (s : Settings) (m : Te
       full false so below = refl
 
       by_room : (g.epoch < GREATEST_EPOCH) ⊎ (g.view ≡ view_for image g.records)
-          → ByVerdict (verdict_on_change true g.epoch) (GoesOn (record TheDraft.group { epoch = suc g.epoch; view = view }) TheDraft q) g answer new
-          → GoesOn (record TheDraft.group { epoch = suc g.epoch; view = view }) TheDraft q answer new
+          → ByVerdict (verdict_on_change true g.epoch) (Stages (record TheDraft.group { epoch = suc g.epoch; view = view }) TheDraft q) g answer new
+          → Stages (record TheDraft.group { epoch = suc g.epoch; view = view }) TheDraft q answer new
       by_room (inl below) step =
-          subst (λ (b : Bool). ByVerdict (if true && b then Refused codes.CoordinatorNotAvailable else Accepted) (GoesOn (record TheDraft.group { epoch = suc g.epoch; view = view }) TheDraft q) g answer new)
+          subst (λ (b : Bool). ByVerdict (if true && b then Refused codes.CoordinatorNotAvailable else Accepted) (Stages (record TheDraft.group { epoch = suc g.epoch; view = view }) TheDraft q) g answer new)
           (full (nat_le GREATEST_EPOCH g.epoch) refl below) step
       by_room (inr same) step = absurd (never same)
 

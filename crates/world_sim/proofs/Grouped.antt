@@ -52,7 +52,7 @@ put_adds by c g name (x, there) = from (found c.groups by g name x there)
     from (this same is) = inr same
     from (another _ _ before) = inl (x, before)
 
-makes_adds : (success room : Bool) (c : Coordinator) (name : Text) (g : Group) (reply : group.Reply) (answer : group.Answer) (new : Coordinator) → Makes success room c name g reply answer new → AddsOnly name c new
+makes_adds : (success room : Bool) (c : Coordinator) (name : Text) (g : Group) (reply : group.Reply) (answer : group.Answer) (new : Coordinator) → Makes success room c (record { name = name; left = g; reply = reply }) answer new → AddsOnly name c new
 makes_adds true true c name g reply answer new is = subst (λ (x : Coordinator). AddsOnly name c x) (sym is.1) (put_adds name c g)
 makes_adds true false c name g reply answer new is = same_adds name c new is.1
 makes_adds false room c name g reply answer new is = same_adds name c new is.1

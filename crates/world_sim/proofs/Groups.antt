@@ -168,7 +168,7 @@ fails_as answer reply is fails other said success =
     true≢false (ap is_success (sym success) ∙ ap (λ (r : group.Reply). is_success r.code) (sym (replied_is reply other (sym is ∙ said))) ∙ fails)
 
 made_turns : (success room : Bool) (c : Coordinator) (q : Heartbeat) (stamp : Stamp) (g : Group) (reply : group.Reply) → is_success reply.code ≡ success
-    → Turn (group_at c q.group) q stamp (group.Replied reply) g → (answer : group.Answer) (new : Coordinator) → Makes success room c q.group g reply answer new → HasTurned c q stamp answer new
+    → Turn (group_at c q.group) q stamp (group.Replied reply) g → (answer : group.Answer) (new : Coordinator) → Makes success room c (record { name = q.group; left = g; reply = reply }) answer new → HasTurned c q stamp answer new
 made_turns true true c q stamp g reply success turn answer new is =
     subst (λ (x : Coordinator). HasTurned c q stamp answer x) (sym is.1)
     (put_turned c q stamp answer g (subst (λ (x : group.Answer). Turn (group_at c q.group) q stamp x g) (sym is.0) turn))

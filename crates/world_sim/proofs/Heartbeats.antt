@@ -2,7 +2,7 @@
 use Rattle.std.proofs.Common.{◌≡◌, ◌≢◌, ℕ, zero, suc, ◌≤◌, ℤ, pos, negsuc, Bool, true, false, not, ◌&&◌, ◌||◌, if◌then◌else◌, List, [], ◌∷◌, Option, Some, None, is_none, refl, sym, ap, subst, ◌∙◌, inl, inr, true≢false, max, arith}
 use Rattle.std.specs.FinMap as finite
 use Rattle.std.specs.List.{Contains, list_all, list_any}
-use Rattle.std.specs.Option.{option_map}
+use Rattle.std.specs.Option.{MatchOption, option_map}
 use Rattle.std.specs.Ordering.{eq_by_cmp}
 use Rattle.group_types.specs.declared.code.Code.{Code}
 use Rattle.group_types.specs.declared.code.Code.TheVariants as codes
@@ -18,12 +18,13 @@ use Rattle.group_types.specs.declared.epoch.Epoch.{Epoch}
 use Rattle.group_types.specs.declared.epoch.Epoch.TheVariants.{At, Away}
 use Rattle.group_types.specs.Group.{Past, Record, Records, Group}
 use Rattle.group_types.specs.Checks.{Verdict, Accepted, Refused, Overtaken, Member, Sender, sender_of, first_of, checks_of, record_under, other_with, verdict_on, is_away, is_late, is_of_past, is_fenced, is_overtaken, is_unreleased, are_granted}
-use Rattle.group_types.specs.HeartbeatStep.{Answer, Arrival, Replied, Closes, Reply, refusal, draft_of_join, with_record_at, BeatsWith, ByVerdict, GoesAwayWith, HeartbeatStep, JoinsUnder, StepOf, StepBy, TakesIn}
+use Rattle.group_types.specs.HeartbeatStep.{Answer, Arrival, Replied, Closes, Reply, refusal, draft_of_join, draft_under, with_record_at, BeatsWith, ByVerdict, GoesAwayWith, HeartbeatStep, IsRefused, StepOf, StepBy, TakesIn}
 use Rattle.group_types.specs.Sound.{IsSound}
 use Rattle.world_sim.specs.Turn.{IsLater, IsNamedBy, Seen, Turn}
 use Rattle.world_sim.proofs.Turns.{NoSuccess, unavailable, unchanged, replied_is}
 use Rattle.world_sim.proofs.Verdicts.{at_again, drafted_at, none_applies, fenced_at, beats, leaves, goes_away, rejoins}
 use Rattle.world_sim.proofs.Lists.{In, to_in}
+use Rattle.group_core.proofs.Renamings.{instance_given, same_taken_over}
 use Rattle.world_sim.proofs.JoinSteps.{takes_heir, takes_new}
 
 -- ---- refusals are no successes
@@ -152,10 +153,6 @@ module _ (g : Group) (q : Heartbeat) (stamp : Stamp) where
   comes_after member name named in_time absent s (inr past) = after_former member name named in_time s past
 
 -- an instance that another member has is a given one
-instance_given : (records : Records) (m : Text) (o : Option Text) (old : Member) → other_with records m o ≡ Some old → (given : Text) × (o ≡ Some given)
-instance_given records m None old is = absurd (not_none old is)
-instance_given records m (Some given) old is = (given, refl)
-
 away_of : (e : Epoch) → not (is_away e) ≡ false → e ≡ Away
 away_of (At e) never = absurd (true≢false never)
 away_of Away is = refl
@@ -214,13 +211,15 @@ module _ (g : Group) (sound : IsSound g) (a : Arrival) (answer : Answer) (new : 
       })
       (with_record_at (record g { serial = name.next_serial }) now old.id after) a.image answer new
       (drafted_at g sound.target_epoch name.next_serial (next_serial g q a.stamp q.member name named) now old.id after)
-      (λ n next. named_by g q a.stamp q.member refl name named n next) takes
+      (λ n next. named_by g q a.stamp q.member refl name named n next)
+      ((same_taken_over g sound old name.id there.0 fresh.0 fresh.1 given.0 (there.1 ∙ given.1) after (sym there.1) now name.next_serial q (Some old.kept) answer new a.image).0 takes)
   by_sender joins name named (Some r) other own is valid supported in_time past released takes =
       rejoins g sound q a.stamp (given_of g.records q.member r own) name.next_serial now r other a.image answer new joins
       (next_serial g q a.stamp q.member name named) (own_is g.records q.member r own) in_time
       (subst (λ (m : Text). TakesIn g (draft_of_join (record g { serial = name.next_serial }) now m (Some r) other q a.stamp) q a.image answer new) (named_own g q.member name r named own) takes)
 
-  joins_under : q.epoch ≡ pos 0 → verdict_on Joins TheSender g q a.stamp ≡ Accepted → (name : Option Name) → IsNamed g q.member name → JoinsUnder name TheSender g a answer new → Turn g q a.stamp answer new
+  joins_under : q.epoch ≡ pos 0 → verdict_on Joins TheSender g q a.stamp ≡ Accepted → (name : Option Name) → IsNamed g q.member name
+      → MatchOption name (IsRefused codes.CoordinatorNotAvailable g answer new) (λ n. TakesIn g (draft_under n TheSender g a) q a.image answer new) → Turn g q a.stamp answer new
   joins_under joins verdict None named step = unchanged g q a.stamp answer new step.1 (unavailable answer step.0)
   joins_under joins verdict (Some name) named step =
       let none = none_applies (checks_of Joins TheSender g q a.stamp) refl verdict in

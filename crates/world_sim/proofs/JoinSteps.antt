@@ -11,19 +11,20 @@ use Rattle.group_types.specs.Request.{Heartbeat, is_full, reported}
 use Rattle.group_types.specs.Group.{Record, Records, Past, Group}
 use Rattle.group_types.specs.Settle.{settled}
 use Rattle.group_types.specs.Checks.{Accepted, Refused}
-use Rattle.group_types.specs.HeartbeatStep.{Answer, Replied, Reply, Draft, shown, is_news, assignment_of, sent_after, epoch_number, acceptance, RepliesTo, RepliesWith, GoesOn, ByVerdict, TakesIn}
+use Rattle.group_types.specs.HeartbeatStep.{Answer, Replied, Reply, Draft, Stages, shown, is_news, assignment_of, sent_after, epoch_number, acceptance, ByVerdict, TakesIn}
+use Rattle.group_core.specs.CodeOrder.{LateDraft, LateStages, TakesInLate}
 use Rattle.group_types.specs.Renewal.{changed_if, view_for}
 use Rattle.group_types.specs.Limits.{GREATEST_EPOCH}
 use Rattle.group_types.specs.Sound.{IsSound}
 use Rattle.world_sim.specs.Turn.{IsNamedBy, Promises, WasPast, Turn}
-use Rattle.group_types.proofs.Lookups.{get-inserted, some_is}
-use Rattle.world_sim.proofs.Stages.{shows_held, sent_at, IsRenewed, renewed_by, renewed_rises, HasSettled, has_settled}
+use Rattle.group_types.proofs.Lookups.{get-inserted}
+use Rattle.world_sim.proofs.Stages.{shows_held, sent_at, IsRenewed, renewed_by, renewed_rises, HasSettled, has_settled, told_by, told_late}
 use Rattle.world_sim.proofs.Acts.{IsDrafted}
 use Rattle.world_sim.proofs.Turns.{unchanged, unavailable, replied_is}
 use Rattle.world_sim.proofs.Joins.{IsFresh, is_at, came_new, IsHeir, takes_over}
 
 abbrev pub new_draft : Group → Text → Record → Draft
-new_draft c m after = record { group = c; id = m; before = None; after = after; heir = None }
+new_draft c m after = record { group = c; id = m; before = None; after = after }
 
 module _ (g : Group) (sound : IsSound g) (q : Heartbeat) (stamp : Stamp) (m : Text) (after : Record) (fresh : IsFresh g q stamp m after) where
   new_turn : (c n s : Group) (drafted : IsDrafted g m after c) (renewed : IsRenewed c n) (risen : c.target_epoch < n.target_epoch) (settles : HasSettled n m after (reported q) s)
@@ -58,18 +59,9 @@ module _ (g : Group) (sound : IsSound g) (q : Heartbeat) (stamp : Stamp) (m : Te
             subst (λ (t : Reply). Promises q stamp new t) (replied_is (acceptance m settles.after assignment) reply (sym answers ∙ said)) promises;
       }
 
-  by_record : (c n s d : Group) (drafted : IsDrafted g m after c) (renewed : IsRenewed c n) (risen : c.target_epoch < n.target_epoch) (settles : HasSettled n m after (reported q) s)
-      → ((new : Group) → new.serial ≡ c.serial → IsNamedBy g q new m)
-      → (o : Option Record) (full : Bool) (answer : Answer) (new : Group) → o ≡ Some settles.after → RepliesTo s (new_draft d m after) o full answer new → Turn g q stamp answer new
-  by_record c n s d drafted renewed risen settles names None full answer new is replies = absurd replies
-  by_record c n s d drafted renewed risen settles names (Some y) full answer new is replies =
-      let x = settles.after in
-      let with_x = subst (λ (t : Record). RepliesWith s (new_draft d m after) t (assignment_of (full || is_news t.sent (shown s m)) (shown s m)) answer new) (some_is y x is) replies in
-      new_turn c n s drafted renewed risen settles names (full || is_news x.sent (shown s m)) answer new with_x.0 with_x.1
-
   by_change : (change b : Bool) (d : Group) (view : Topics) (answer : Answer) (new : Group) → change ≡ true → IsDrafted g m after d → d.target_epoch ≤ d.epoch
       → ((new : Group) → new.serial ≡ d.serial → IsNamedBy g q new m)
-      → ByVerdict (if b then Refused codes.CoordinatorNotAvailable else Accepted) (GoesOn (changed_if change d view) (new_draft d m after) q) g answer new → Turn g q stamp answer new
+      → ByVerdict (if b then Refused codes.CoordinatorNotAvailable else Accepted) (Stages (changed_if change d view) (new_draft d m after) q) g answer new → Turn g q stamp answer new
   by_change false b d view answer new no_change drafted below names step = absurd (true≢false (sym no_change))
   by_change true true d view answer new is drafted below names step = unchanged g q stamp answer new step.1 (unavailable answer step.0)
   by_change true false d view answer new is drafted below names step =
@@ -81,9 +73,9 @@ module _ (g : Group) (sound : IsSound g) (q : Heartbeat) (stamp : Stamp) (m : Te
       let risen = renewed_rises (c.epoch == c.target_epoch) c n (omega (arith, below)) refl step.renews in
       let there : finite.get n.records m ≡ Some after = ap (λ (t : Records). finite.get t m) (renewed.records ∙ drafted.records) ∙ get-inserted g.records m after in
       let settles = has_settled n m after (reported q) n.clock there in
-      by_record c n (settled n m (reported q) n.clock) d drafted_c renewed risen settles names
-      (finite.get (settled n m (reported q) n.clock).records m) (is_full q) answer new
-      (ap (λ (t : Records). finite.get t m) settles.records ∙ get-inserted n.records m settles.after) step.replies
+      let s : Group = settled n m (reported q) n.clock in
+      let told = told_by c (new_draft d m after) q answer new step settles.after (ap (λ (t : Records). finite.get t m) settles.records ∙ get-inserted n.records m settles.after) in
+      new_turn c n s drafted_c renewed risen settles names (is_full q || is_news settles.after.sent (shown s m)) answer new told.answers told.leaves
 
   pub takes_new : (d : Group) (image : Topics) (answer : Answer) (new : Group) → IsDrafted g m after d → d.target_epoch ≤ d.epoch
       → ((new : Group) → new.serial ≡ d.serial → IsNamedBy g q new m)
@@ -91,36 +83,27 @@ module _ (g : Group) (sound : IsSound g) (q : Heartbeat) (stamp : Stamp) (m : Te
   takes_new d image answer new drafted below names takes =
       by_change takes.change (takes.change && nat_le GREATEST_EPOCH g.epoch) d (view_for image d.records) answer new takes.is_change drafted below names takes.step
 
--- ---- a take-over
+-- ---- a take-over, in the code's order
 
-abbrev pub taking_draft : Group → Text → Record → Record → Text → Draft
+abbrev pub taking_draft : Group → Text → Record → Record → Text → LateDraft
 taking_draft c old r after heir = record { group = c; id = old; before = Some r; after = after; heir = Some (record { id = heir; last = r.stamp }) }
 
 module _ (g : Group) (sound : IsSound g) (q : Heartbeat) (stamp : Stamp) (old : Text) (r after : Record) (heir : Text) (is_heir : IsHeir g q stamp old r after heir) where
-  over_record : (c n s d : Group) (drafted : IsDrafted g old after c) (renewed : IsRenewed c n) (settles : HasSettled n old after (reported q) s)
-      → ((new : Group) → new.serial ≡ c.serial → IsNamedBy g q new heir)
-      → (o : Option Record) (full : Bool) (answer : Answer) (new : Group) → o ≡ Some settles.after → RepliesTo s (taking_draft d old r after heir) o full answer new → Turn g q stamp answer new
-  over_record c n s d drafted renewed settles names None full answer new is replies = absurd replies
-  over_record c n s d drafted renewed settles names (Some y) full answer new is replies =
-      let x = settles.after in
-      let with_x = subst (λ (t : Record). RepliesWith s (taking_draft d old r after heir) t (assignment_of (full || is_news t.sent (shown s old)) (shown s old)) answer new) (some_is y x is) replies in
-      takes_over g sound q stamp old r after heir is_heir c n s drafted renewed settles (full || is_news x.sent (shown s old)) new with_x.1
-      (names new (ap (λ (t : Group). t.serial) with_x.1 ∙ settles.serial ∙ renewed.serial)) answer with_x.0
-
   over_draft : (c d : Group) (answer : Answer) (new : Group) → IsDrafted g old after c → ((new : Group) → new.serial ≡ c.serial → IsNamedBy g q new heir)
-      → GoesOn c (taking_draft d old r after heir) q answer new → Turn g q stamp answer new
+      → LateStages c (taking_draft d old r after heir) q answer new → Turn g q stamp answer new
   over_draft c d answer new drafted names step =
       let n = step.renewed in
       let renewed = renewed_by (c.epoch == c.target_epoch) c n drafted.epoch refl step.renews in
       let there : finite.get n.records old ≡ Some after = ap (λ (t : Records). finite.get t old) (renewed.records ∙ drafted.records) ∙ get-inserted g.records old after in
       let settles = has_settled n old after (reported q) n.clock there in
-      over_record c n (settled n old (reported q) n.clock) d drafted renewed settles names
-      (finite.get (settled n old (reported q) n.clock).records old) (is_full q) answer new
-      (ap (λ (t : Records). finite.get t old) settles.records ∙ get-inserted n.records old settles.after) step.replies
+      let s : Group = settled n old (reported q) n.clock in
+      let told = told_late c (taking_draft d old r after heir) q answer new step settles.after (ap (λ (t : Records). finite.get t old) settles.records ∙ get-inserted n.records old settles.after) in
+      takes_over g sound q stamp old r after heir is_heir c n s drafted renewed settles (is_full q || is_news settles.after.sent (shown s old)) new told.leaves
+      (names new (ap (λ (t : Group). t.serial) told.leaves ∙ settles.serial ∙ renewed.serial)) answer told.answers
 
   over_change : (change b : Bool) (d : Group) (view : Topics) (answer : Answer) (new : Group) → IsDrafted g old after d
       → ((new : Group) → new.serial ≡ d.serial → IsNamedBy g q new heir)
-      → ByVerdict (if b then Refused codes.CoordinatorNotAvailable else Accepted) (GoesOn (changed_if change d view) (taking_draft d old r after heir) q) g answer new → Turn g q stamp answer new
+      → ByVerdict (if b then Refused codes.CoordinatorNotAvailable else Accepted) (LateStages (changed_if change d view) (taking_draft d old r after heir) q) g answer new → Turn g q stamp answer new
   over_change change true d view answer new drafted names step = unchanged g q stamp answer new step.1 (unavailable answer step.0)
   over_change false false d view answer new drafted names step = over_draft d d answer new drafted names step
   over_change true false d view answer new drafted names step =
@@ -130,6 +113,6 @@ module _ (g : Group) (sound : IsSound g) (q : Heartbeat) (stamp : Stamp) (old : 
 
   pub takes_heir : (d : Group) (image : Topics) (answer : Answer) (new : Group) → IsDrafted g old after d
       → ((new : Group) → new.serial ≡ d.serial → IsNamedBy g q new heir)
-      → TakesIn g (taking_draft d old r after heir) q image answer new → Turn g q stamp answer new
+      → TakesInLate g (taking_draft d old r after heir) q image answer new → Turn g q stamp answer new
   takes_heir d image answer new drafted names takes =
       over_change takes.change (takes.change && nat_le GREATEST_EPOCH g.epoch) d (view_for image d.records) answer new drafted names takes.step

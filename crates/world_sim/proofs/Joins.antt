@@ -16,7 +16,8 @@ use Rattle.group_types.specs.Members.{without_past}
 use Rattle.group_types.specs.Settle.{granting, grants_of_others, moved, may_move, may_settle, arrived, asked}
 use Rattle.group_types.proofs.Orders.{text_cmp_total, partition_cmp_total, partition_cmp-IsAntisymmetric}
 use Rattle.group_types.proofs.SetLemmas.{has-in_order, has-nothing, has-minus, same_set, is_nothing-Decides}
-use Rattle.group_types.specs.HeartbeatStep.{Answer, Replied, Reply, shown, assignment_of, sent_after, epoch_number, acceptance, handed_over}
+use Rattle.group_types.specs.HeartbeatStep.{Answer, Replied, Reply, shown, assignment_of, sent_after, epoch_number, acceptance}
+use Rattle.group_core.specs.CodeOrder.{renamed_last}
 use Rattle.group_types.specs.Leave.{last_epoch, last_epoch_at}
 use Rattle.group_types.specs.Sound.{IsSound}
 use Rattle.world_sim.specs.Turn.{Holds, Seen, IsLater, IsNamedBy, GivesFirst, IsNew, HasTakenOver, Came, Kept, New, TookOver, Promises, Went, WasPast, WasAway, Turn}
@@ -97,7 +98,7 @@ module _ (g : Group) (sound : IsSound g) (q : Heartbeat) (stamp : Stamp) (old : 
         ∙ has-held s.grants old p
 
     abbrev new_of : Record → Group
-    new_of z = handed_over s old z (Some (record { id = heir; last = r.stamp }))
+    new_of z = renamed_last s old z (Some (record { id = heir; last = r.stamp }))
 
     abbrev sent : Bool → Record
     sent b = sent_after x (assignment_of b (shown s old))

@@ -1,4 +1,4 @@
--- A renewed target is lawful, also once its member has settled and its heir has taken over.
+-- A renewed target is lawful, also once its member has settled.
 use Rattle.std.proofs.Common.{◌≡◌, ◌≢◌, ℕ, suc, ◌==◌, Bool, true, false, cond, ◌&&◌, ◌||◌, nat_le, max, List, [], ◌∷◌, map, Option, Some, None, refl, sym, ap, subst, ◌∙◌, inl, inr}
 use Rattle.std.specs.List.{All, AllByRecursion, Contains}
 use Rattle.std.specs.Option.{MatchOption, option_map}
@@ -21,15 +21,14 @@ use Rattle.group_types.specs.Partition.{Partitions}
 use Rattle.group_types.specs.Topics.{Topics}
 use Rattle.group_types.specs.Assignors.{Subscriber, assignor_of}
 use Rattle.group_types.specs.Owners.{Spread, IsLawful, IsSubscribed, IsSubscriber, renamed, renamed_id}
-use Rattle.group_types.specs.Request.{Heartbeat, Kind, Joins, Beats, Leaves, GoesAway, IsNone, kind_of, is_full, reported}
+use Rattle.group_types.specs.Request.{Heartbeat, Kind, Joins, Beats, Leaves, GoesAway, MeansNothing, kind_of, is_full, reported}
 use Rattle.group_types.specs.Group.{Group, Record, Records, Target, wanted}
 use Rattle.group_types.specs.Settle.{arrived, asked, may_settle, settled, settled_by, settled_record}
 use Rattle.group_types.specs.Renewal.{AreOwners, IsTarget, RenewsWhere, changed_if, subscriber_of, view_for}
 use Rattle.group_types.specs.Join.{IsNamed, Name}
 use Rattle.group_types.specs.Checks.{Verdict, Accepted, Refused, Overtaken, Member, Sender, checks_of, sender_of, verdict_on}
-use Rattle.group_types.specs.HeartbeatStep.{Answer, Arrival, Draft, Heir, BeatsWith, ByVerdict, GoesAwayWith, GoesOn, HeartbeatStep, JoinsUnder, RepliesTo, StepOf, TakesIn, assignment_of, draft_of_beat, draft_of_join, handed_over, is_news, sent_after, shown}
+use Rattle.group_types.specs.HeartbeatStep.{Answer, Arrival, Draft, BeatsWith, ByVerdict, GoesAwayWith, HeartbeatStep, IsRefused, Stages, StepOf, TakesIn, draft_of_beat, draft_of_join, draft_under, sent_after}
 use Rattle.group_types.specs.Sound.{IsSound}
-use Rattle.group_types.proofs.Drafts.{IsHeir, IsReady, join_is_ready}
 use Rattle.group_types.proofs.Entries.{entries_found}
 use Rattle.group_types.proofs.Lookups.{Found, this, another, found, found_without, Tie, ties, differs, tie, get-inserted, get-insert_other, not_none, some_is, text_ties}
 use Rattle.group_types.proofs.Orders.{text_cmp_total}
@@ -118,18 +117,6 @@ module _ (range : RangeIsLawful) (uniform : UniformIsLawful) where
       (λ s there. Contains-permutation (subscribers records) subs s members.same there)
       (owners_lawful (assignor_of subs) view subs former target owners)
 
--- ---- a new name for an old one
-
-renamed_itself : (old new : Text) → renamed_id old new old ≡ new
-renamed_itself old new = ap (λ b. cond b new old) ((bytes_eq-Decides old old).1 refl)
-
-renamed_other : (old new id : Text) → id ≢ old → renamed_id old new id ≡ id
-renamed_other old new id other =
-    elim (bytes_eq id old) as (λ b. bytes_eq id old ≡ b → cond b new id ≡ id) [
-      | true ↦ λ same. absurd (other ((bytes_eq-Decides id old).0 same))
-      | false ↦ λ apart. refl
-    ] refl
-
 -- ---- records that move
 
 -- each member is there under its new name, and subscribes what it did
@@ -158,53 +145,6 @@ put records m r s there same =
     back : (id : Text) (x : Record) → Found records m s id x → (old : Text) × (y : Record) × (finite.get records old ≡ Some y) × (old ≡ id) × (x.names ≡ y.names)
     back id x (this is_m is_s) = (m, r, there, sym is_m, ap (λ (y : Record). y.names) is_s ∙ same)
     back id x (another _ _ before) = (id, x, before, refl, refl)
-
-over : (records : Records) (old heir : Text) (r z : Record) → finite.get records old ≡ Some r → finite.get records heir ≡ None → z.names ≡ r.names
-    → Renames records (finite.insert (finite.remove records old) heir z) (renamed_id old heir)
-over records old heir r z there absent same =
-    record {
-      forth = λ id x has_x. forth id x has_x (tie id old);
-      back = λ id x has_x. back id x (found (finite.remove records old) heir z id x has_x);
-    }
-  where
-    forth : (id : Text) (x : Record) → finite.get records id ≡ Some x → Tie id old
-        → (y : Record) × (finite.get (finite.insert (finite.remove records old) heir z) (renamed_id old heir id) ≡ Some y) × (y.names ≡ x.names)
-    forth id x has_x (ties is_old) = (
-      z,
-      ap (finite.get (finite.insert (finite.remove records old) heir z)) (ap (renamed_id old heir) is_old ∙ renamed_itself old heir) ∙ get-inserted (finite.remove records old) heir z,
-      same ∙ ap (λ (y : Record). y.names) (some_is r x (sym there ∙ ap (finite.get records) (sym is_old) ∙ has_x)),
-    )
-    forth id x has_x (differs other apart) = (
-      x,
-      ap (finite.get (finite.insert (finite.remove records old) heir z)) (renamed_other old heir id other)
-          ∙ get-insert_other (finite.remove records old) heir z id (not_heir (tie id heir))
-          ∙ finite.get-remove text_cmp_total records old id ∙ ap (λ b. cond b None (finite.get records id)) apart ∙ has_x,
-      refl,
-    )
-      where
-        not_heir : Tie id heir → eq_by_cmp text_cmp id heir ≡ false
-        not_heir (ties is_heir) = absurd (not_none x (sym absent ∙ ap (finite.get records) (sym is_heir) ∙ has_x))
-        not_heir (differs _ is) = is
-
-    back : (id : Text) (x : Record) → Found (finite.remove records old) heir z id x
-        → (was : Text) × (y : Record) × (finite.get records was ≡ Some y) × (renamed_id old heir was ≡ id) × (x.names ≡ y.names)
-    back id x (this is_heir is_z) = (old, r, there, renamed_itself old heir ∙ sym is_heir, ap (λ (y : Record). y.names) is_z ∙ same)
-    back id x (another _ _ before) =
-        let was = found_without records old id x before in
-        (id, x, was.0, renamed_other old heir id was.1, refl)
-
-then_put : (records middle new : Records) (name : Text → Text) → Renames records middle same_name → Renames middle new name → Renames records new name
-then_put records middle new name first second =
-    record {
-      forth = λ id r there.
-          let one = first.forth id r there in
-          let two = second.forth id one.0 one.1 in
-          (two.0, two.1, two.2 ∙ one.2);
-      back = λ id s there.
-          let two = second.back id s there in
-          let one = first.back two.0 two.1 two.2 in
-          (one.0, one.1, one.2, ap name one.3 ∙ two.3, two.4 ∙ one.4);
-    }
 
 -- what was lawful is lawful under the new names
 lawful_renamed : (records new : Records) (name : Text → Text) (view : Topics) (target after : Target) → Renames records new name
@@ -256,39 +196,21 @@ record Settles (g s : Group) : Type 0 where
   target : s.target ≡ g.target
   target_epoch : s.target_epoch ≡ g.target_epoch
   renames : Renames g.records s.records same_name
-  none : (id : Text) → finite.get g.records id ≡ None → finite.get s.records id ≡ None
 
 settles_by : (may : Bool) (g : Group) (m : Text) (o : Option Record) → finite.get g.records m ≡ o → (now : ℕ) → Settles g (settled_by may g m o now)
-settles_by may g m None is now = record { view = refl; target = refl; target_epoch = refl; renames = stay g.records; none = λ id none. none }
+settles_by may g m None is now = record { view = refl; target = refl; target_epoch = refl; renames = stay g.records }
 settles_by may g m (Some r) is now =
     record {
       view = refl;
       target = refl;
       target_epoch = refl;
       renames = put g.records m r (settled_record may r g.target_epoch now) is (settled_names may r g.target_epoch now);
-      none = λ id none. absent id none (tie id m);
     }
-  where
-    absent : (id : Text) → finite.get g.records id ≡ None → Tie id m → finite.get (finite.insert g.records m (settled_record may r g.target_epoch now)) id ≡ None
-    absent id none (ties is_m) = absurd (not_none r (sym none ∙ ap (finite.get g.records) is_m ∙ is))
-    absent id none (differs _ apart) = get-insert_other g.records m (settled_record may r g.target_epoch now) id apart ∙ none
 
--- the heir, if any, has no record yet
-abbrev NoHeir : Records → Option Heir → Type 0
-NoHeir records None = Unit {0}
-NoHeir records (Some heir) = finite.get records heir.id ≡ None
-
-handed_lawfully : (g : Group) (m : Text) (r z : Record) → finite.get g.records m ≡ Some r → z.names ≡ r.names → (heir : Option Heir) → NoHeir g.records heir
-    → LawfulFor g.records g.view g.target → LawfulFor (handed_over g m z heir).records (handed_over g m z heir).view (handed_over g m z heir).target
-handed_lawfully g m r z there same None none lawful =
+sent_lawfully : (g : Group) (m : Text) (r z : Record) → finite.get g.records m ≡ Some r → z.names ≡ r.names
+    → LawfulFor g.records g.view g.target → LawfulFor (finite.insert g.records m z) g.view g.target
+sent_lawfully g m r z there same lawful =
     lawful_renamed g.records (finite.insert g.records m z) same_name g.view g.target g.target (put g.records m r z there same) (same_owners g.target) lawful
-handed_lawfully g m r z there same (Some heir) none lawful =
-    lawful_renamed g.records (finite.insert (finite.remove g.records m) heir.id z) (renamed_id m heir.id) g.view g.target (renamed g.target m heir.id)
-    (over g.records m heir.id r z there none same) (get-renamed g.target m heir.id) lawful
-
-handed_epoch : (g : Group) (m : Text) (z : Record) (heir : Option Heir) → (handed_over g m z heir).target_epoch ≡ g.target_epoch
-handed_epoch g m z None = refl
-handed_epoch g m z (Some heir) = refl
 
 -- ---- the stages
 
@@ -299,74 +221,53 @@ unrenewed : (g new : Group) → new.target_epoch ≡ g.target_epoch → RenewedL
 unrenewed g new same other = absurd (other (sym same))
 
 module _ (range : RangeIsLawful) (uniform : UniformIsLawful) where
-  replied_lawfully : (s : Group) (d : Draft) (o : Option Record) → finite.get s.records d.id ≡ o → (full : Bool) (answer : Answer) (new : Group) → RepliesTo s d o full answer new
-      → NoHeir s.records d.heir → LawfulFor s.records s.view s.target → HasLawfulTarget new
-  replied_lawfully s d None is full answer new replies none lawful = absurd replies
-  replied_lawfully s d (Some r) is full answer new replies none lawful =
-      let sent = assignment_of (full || is_news r.sent (shown s d.id)) (shown s d.id) in
-      subst HasLawfulTarget (sym replies.1)
-      (lawful_by_members (handed_over s d.id (sent_after r sent) d.heir).records (handed_over s d.id (sent_after r sent) d.heir).view (handed_over s d.id (sent_after r sent) d.heir).target
-      (handed_lawfully s d.id r (sent_after r sent) is (sent_names r sent) d.heir none lawful))
-
-  replied_epoch : (s : Group) (d : Draft) (o : Option Record) (full : Bool) (answer : Answer) (new : Group) → RepliesTo s d o full answer new → new.target_epoch ≡ s.target_epoch
-  replied_epoch s d None full answer new replies = absurd replies
-  replied_epoch s d (Some r) full answer new replies =
-      let sent = assignment_of (full || is_news r.sent (shown s d.id)) (shown s d.id) in
-      ap (λ (x : Group). x.target_epoch) replies.1 ∙ handed_epoch s d.id (sent_after r sent) d.heir
-
   -- from a changed draft on
-  goes_lawfully : (changed : Group) (d : Draft) (q : Heartbeat) (answer : Answer) (new : Group) → NoHeir changed.records d.heir → GoesOn changed d q answer new → RenewedLawfully changed new
-  goes_lawfully changed d q answer new none goes = by (changed.epoch == changed.target_epoch) goes.renews
+  goes_lawfully : (changed : Group) (d : Draft) (q : Heartbeat) (answer : Answer) (new : Group) → Stages changed d q answer new → RenewedLawfully changed new
+  goes_lawfully changed d q answer new stages = by (changed.epoch == changed.target_epoch) stages.renews
     where
       renewed : Group
-      renewed = goes.renewed
+      renewed = stages.renewed
 
-      settling : Settles renewed (settled renewed d.id (reported q) renewed.clock)
+      s : Group
+      s = settled renewed d.id (reported q) renewed.clock
+
+      settling : Settles renewed s
       settling = settles_by (may_settle renewed.grants d.id (wanted renewed.target d.id) (reported q)) renewed d.id (finite.get renewed.records d.id) refl renewed.clock
 
+      leaves : new ≡ record s { records = finite.insert s.records d.id (sent_after stages.kept stages.told) }
+      leaves = stages.leaves ∙ ap (λ (x : Group). record x { records = finite.insert x.records d.id (sent_after stages.kept stages.told) }) stages.settles
+
       epoch_after : new.target_epoch ≡ renewed.target_epoch
-      epoch_after =
-          replied_epoch (settled renewed d.id (reported q) renewed.clock) d (finite.get (settled renewed d.id (reported q) renewed.clock).records d.id) (is_full q) answer new goes.replies
-          ∙ settling.target_epoch
+      epoch_after = ap (λ (x : Group). x.target_epoch) leaves ∙ settling.target_epoch
 
-      no_heir : (heir : Option Heir) → NoHeir changed.records heir → renewed.records ≡ changed.records → NoHeir (settled renewed d.id (reported q) renewed.clock).records heir
-      no_heir None none same = tt
-      no_heir (Some heir) none same = settling.none heir.id (ap (λ (x : Records). finite.get x heir.id) same ∙ none)
-
-      after : renewed.records ≡ changed.records → LawfulFor renewed.records renewed.view renewed.target → HasLawfulTarget new
-      after same lawful =
-          let s = settled renewed d.id (reported q) renewed.clock in
-          replied_lawfully s d (finite.get s.records d.id) refl (is_full q) answer new goes.replies (no_heir d.heir none same)
-          (subst (λ (view : Topics). LawfulFor s.records view s.target) (sym settling.view)
+      after : LawfulFor renewed.records renewed.view renewed.target → HasLawfulTarget new
+      after lawful =
+          let kept : finite.get s.records d.id ≡ Some stages.kept = ap (λ (x : Group). finite.get x.records d.id) (sym stages.settles) ∙ stages.is_kept in
+          let last : Record = sent_after stages.kept stages.told in
+          let here : LawfulFor s.records s.view s.target =
+          subst (λ (view : Topics). LawfulFor s.records view s.target) (sym settling.view)
           (lawful_renamed renewed.records s.records same_name renewed.view renewed.target s.target settling.renames
-          (λ p. ap (λ (t : Target). finite.get t p) settling.target ∙ same_owners renewed.target p) lawful))
+          (λ p. ap (λ (t : Target). finite.get t p) settling.target ∙ same_owners renewed.target p) lawful) in
+          subst HasLawfulTarget (sym leaves)
+          (lawful_by_members (finite.insert s.records d.id last) s.view s.target (sent_lawfully s d.id stages.kept last kept (sent_names stages.kept stages.told) here))
 
       by : (b : Bool) → RenewsWhere b changed renewed → RenewedLawfully changed new
       by true is other = unrenewed changed new (epoch_after ∙ ap (λ (x : Group). x.target_epoch) is) other
       by false (target, is_target, is) other =
-          after (ap (λ (x : Group). x.records) is)
-          (subst (λ (x : Group). LawfulFor x.records x.view x.target) (sym is) (target_lawful range uniform changed.records changed.view changed.target target is_target))
+          after (subst (λ (x : Group). LawfulFor x.records x.view x.target) (sym is) (target_lawful range uniform changed.records changed.view changed.target target is_target))
 
-  changed_lawfully : (change : Bool) (g : Group) (view : Topics) (d : Draft) (q : Heartbeat) (answer : Answer) (new : Group) → NoHeir g.records d.heir
-      → GoesOn (changed_if change g view) d q answer new → RenewedLawfully g new
-  changed_lawfully true g view d q answer new none goes = goes_lawfully (record g { epoch = suc g.epoch; view = view }) d q answer new (keep d.heir none) goes
-    where
-      keep : (heir : Option Heir) → NoHeir g.records heir → NoHeir (record g { epoch = suc g.epoch; view = view }).records heir
-      keep None none = none
-      keep (Some heir) none = none
-  changed_lawfully false g view d q answer new none goes = goes_lawfully g d q answer new none goes
+  changed_lawfully : (change : Bool) (g : Group) (view : Topics) (d : Draft) (q : Heartbeat) (answer : Answer) (new : Group)
+      → Stages (changed_if change g view) d q answer new → RenewedLawfully g new
+  changed_lawfully true g view d q answer new stages = goes_lawfully (record g { epoch = suc g.epoch; view = view }) d q answer new stages
+  changed_lawfully false g view d q answer new stages = goes_lawfully g d q answer new stages
 
-  module _ (g : Group) (d : Draft) (same : d.group.target_epoch ≡ g.target_epoch) (none : NoHeir d.group.records d.heir) (q : Heartbeat) (image : Topics) (answer : Answer) (new : Group) where
+  module _ (g : Group) (d : Draft) (same : d.group.target_epoch ≡ g.target_epoch) (q : Heartbeat) (image : Topics) (answer : Answer) (new : Group) where
     takes_lawfully : TakesIn g d q image answer new → RenewedLawfully g new
     takes_lawfully takes = by (takes.change && nat_le GREATEST_EPOCH g.epoch) takes.step
       where
-        by : (b : Bool) → ByVerdict (cond b (Refused codes.CoordinatorNotAvailable) Accepted) (GoesOn (changed_if takes.change d.group (view_for image d.group.records)) d q) g answer new → RenewedLawfully g new
+        by : (b : Bool) → ByVerdict (cond b (Refused codes.CoordinatorNotAvailable) Accepted) (Stages (changed_if takes.change d.group (view_for image d.group.records)) d q) g answer new → RenewedLawfully g new
         by true is other = unrenewed g new (ap (λ (x : Group). x.target_epoch) is.1) other
-        by false goes other = changed_lawfully takes.change d.group (view_for image d.group.records) d q answer new none goes (λ is. other (sym same ∙ is))
-
-  ready_heir : (records : Group) (heir : Option Heir) → IsHeir records heir → NoHeir records.records heir
-  ready_heir g None is = tt
-  ready_heir g (Some heir) is = is.0
+        by false goes other = changed_lawfully takes.change d.group (view_for image d.group.records) d q answer new goes (λ is. other (sym same ∙ is))
 
   -- ---- by the kind of heartbeat
 
@@ -374,13 +275,9 @@ module _ (range : RangeIsLawful) (uniform : UniformIsLawful) where
     abbrev TheSender : Sender
     TheSender = sender_of g.records a.heartbeat
 
-    joins_lawfully : verdict_on Joins TheSender g a.heartbeat a.stamp ≡ Accepted → (name : Option Name) → IsNamed g a.heartbeat.member name → JoinsUnder name TheSender g a answer new → RenewedLawfully g new
-    joins_lawfully verdict None named is = unrenewed g new (ap (λ (x : Group). x.target_epoch) is.1)
-    joins_lawfully verdict (Some name) named is =
-        let none = none_applies (checks_of Joins TheSender g a.heartbeat a.stamp) refl verdict in
-        let d : Draft = draft_of_join (record g { serial = name.next_serial }) (max g.clock a.moment) name.id TheSender.own TheSender.other a.heartbeat a.stamp in
-        let ready : IsReady g d = join_is_ready g sound (max g.clock a.moment) a.heartbeat a.stamp name named TheSender.own refl TheSender.other refl none.1.1.1.0 none.1.1.1.1.0 in
-        takes_lawfully g d (draft_epoch TheSender.own TheSender.other) (ready_heir d.group d.heir ready.heir) a.heartbeat a.image answer new is
+    joins_lawfully : (name : Option Name) → MatchOption name (IsRefused codes.CoordinatorNotAvailable g answer new) (λ n. TakesIn g (draft_under n TheSender g a) a.heartbeat a.image answer new) → RenewedLawfully g new
+    joins_lawfully None is = unrenewed g new (ap (λ (x : Group). x.target_epoch) is.1)
+    joins_lawfully (Some name) is = takes_lawfully g (draft_under name TheSender g a) (draft_epoch TheSender.own TheSender.other) a.heartbeat a.image answer new is
       where
         draft_epoch : (own : Option Record) (other : Option Member) → (draft_of_join (record g { serial = name.next_serial }) (max g.clock a.moment) name.id own other a.heartbeat a.stamp).group.target_epoch ≡ g.target_epoch
         draft_epoch None None = refl
@@ -389,18 +286,18 @@ module _ (range : RangeIsLawful) (uniform : UniformIsLawful) where
 
     beats_lawfully : (own : Option Record) → BeatsWith own g a answer new → RenewedLawfully g new
     beats_lawfully None is = absurd is
-    beats_lawfully (Some r) is = takes_lawfully g (draft_of_beat g (max g.clock a.moment) r a.heartbeat a.stamp) refl tt a.heartbeat a.image answer new is
+    beats_lawfully (Some r) is = takes_lawfully g (draft_of_beat g (max g.clock a.moment) r a.heartbeat a.stamp) refl a.heartbeat a.image answer new is
 
     goes_away_lawfully : (own : Option Record) → GoesAwayWith own g a answer new → RenewedLawfully g new
     goes_away_lawfully None is = absurd is
     goes_away_lawfully (Some r) is = unrenewed g new (ap (λ (x : Group). x.target_epoch) is.1)
 
     steps_lawfully : (kind : Kind) → verdict_on kind TheSender g a.heartbeat a.stamp ≡ Accepted → StepOf kind TheSender g a answer new → RenewedLawfully g new
-    steps_lawfully Joins verdict is = joins_lawfully verdict is.name is.is_named is.joins
+    steps_lawfully Joins verdict is = joins_lawfully is.name is.joins
     steps_lawfully (Beats n) verdict is = beats_lawfully TheSender.own is
     steps_lawfully Leaves verdict is = unrenewed g new (ap (λ (x : Group). x.target_epoch) is.1)
     steps_lawfully GoesAway verdict is = goes_away_lawfully TheSender.own is
-    steps_lawfully IsNone verdict is = absurd is
+    steps_lawfully MeansNothing verdict is = absurd is
 
     by_verdict : (kind : Kind) (v : Verdict) → verdict_on kind TheSender g a.heartbeat a.stamp ≡ v → ByVerdict v (StepOf kind TheSender g a) g answer new → RenewedLawfully g new
     by_verdict kind Accepted verdict is = steps_lawfully kind verdict is

@@ -29,7 +29,7 @@ use Rattle.group_types.specs.Renewal.{AreMembers, AreOwners, Renews, RenewsWhere
 use Rattle.group_types.specs.Settle.{arrived, is_free_for, may_settle, moved, settled, settled_by}
 use Rattle.group_types.specs.Join.{IsNextSerial}
 use Rattle.group_types.specs.Checks.{Verdict, Accepted, Refused, sender_of, verdict_on}
-use Rattle.group_types.specs.HeartbeatStep.{Replied, Reply, ByVerdict, Draft, GoesOn, HeartbeatStep, JoinsAs, RepliesTo, StepOf, acceptance, draft_of_join, epoch_number, sent_after, shown, verdict_on_change}
+use Rattle.group_types.specs.HeartbeatStep.{Replied, Reply, ByVerdict, Draft, HeartbeatStep, JoinsAs, StepOf, acceptance, draft_of_join, epoch_number, sent_after, shown, verdict_on_change, Stages}
 use Rattle.group_types.proofs.BoolLemmas.{or_none}
 use Rattle.group_types.proofs.GrantLemmas.{eq-grant, grant_cmp_total, grant_cmp-IsAntisymmetric, has-held, has-moved}
 use Rattle.group_types.proofs.ListLemmas.{any_append}
@@ -277,13 +277,19 @@ module _ (x : Newcomer) (image : Topics) (records : Records) (grants : Grants) (
   leaves : After ≡ joined_by x records target grants view
   leaves = λ i. after_joins (number_of x) (new_records i) NewTarget (new_grants i) (new_view i)
 
-  goes_on : GoesOn Changed Drafted (join_of x) (Replied Said) After
+  goes_on : Stages Changed Drafted (join_of x) (Replied Said) After
   goes_on =
       record {
         renewed = Renewed;
         renews = renews;
-        replies = subst (λ (g : Group). RepliesTo g Drafted (finite.get g.records (id_of x)) (is_full (join_of x)) (Replied Said) After) (sym settles)
-            (subst (λ (o : Option Record). RepliesTo Settled Drafted o (is_full (join_of x)) (Replied Said) After) (sym (get-inserted text_cmp_total Came (id_of x) Arrived)) (refl, refl));
+        settled = Settled;
+        settles = sym settles;
+        kept = Arrived;
+        is_kept = get-inserted text_cmp_total Came (id_of x) Arrived;
+        told = Some (shown Settled (id_of x));
+        tells = refl;
+        answers = refl;
+        leaves = refl;
       }
 
   next : IsNextSerial Before (number_of x)
@@ -306,7 +312,7 @@ module _ (x : Newcomer) (image : Topics) (records : Records) (grants : Grants) (
         joins = record {
           change = true;
           is_change = refl;
-          step = subst (λ (v : Verdict). ByVerdict v (GoesOn Changed Drafted (join_of x)) Before (Replied Said) After) (sym may_rise) goes_on;
+          step = subst (λ (v : Verdict). ByVerdict v (Stages Changed Drafted (join_of x)) Before (Replied Said) After) (sym may_rise) goes_on;
         };
       }
 

@@ -13,7 +13,7 @@ use Rattle.group_types.specs.Group.{Grants, Group, Record, Records, Target, held
 use Rattle.group_types.specs.Renewal.{view_for}
 use Rattle.group_types.specs.Settle.{grants_after, may_settle, settled, settled_by, settled_record}
 use Rattle.group_types.specs.Checks.{Verdict, Accepted, are_granted, checks_of, is_fenced, is_late, is_overtaken, record_under, sender_of, verdict_on}
-use Rattle.group_types.specs.HeartbeatStep.{Arrival, Replied, Reply, BeatsWith, ByVerdict, Draft, GoesOn, HeartbeatStep, RepliesTo, RepliesWith, StepOf, TakesIn, assignment_of, draft_of_beat, epoch_number, is_news, sent_after, shown}
+use Rattle.group_types.specs.HeartbeatStep.{Arrival, Replied, Reply, BeatsWith, ByVerdict, Draft, HeartbeatStep, StepOf, TakesIn, assignment_of, draft_of_beat, epoch_number, is_news, sent_after, shown, Stages}
 use Rattle.group_types.proofs.MadeIds.{length-made_id}
 use Rattle.group_types.proofs.Orders.{text_cmp_total, text_cmp-IsAntisymmetric}
 use Rattle.group_epochs.proofs.Senders.{record_under-get}
@@ -110,17 +110,19 @@ module _ (x : Newcomer) (records : Records) (grants : Grants) (frame below previ
   abbrev Said : Reply
   Said = record (reply_at x (epoch_number Rested.epoch) shows) { assignment = Some Shown }
 
-  replies : RepliesTo Settled TheDraft (Some Rested) (is_full Q) (Replied Said) After
-  replies =
-      subst (λ b. RepliesWith Settled TheDraft Rested (assignment_of (b || is_news Rested.sent Shown) Shown) (Replied Said) After) (sym full) (refl, refl)
-
-  goes_on : GoesOn TheDraft.group TheDraft Q (Replied Said) After
+  goes_on : Stages TheDraft.group TheDraft Q (Replied Said) After
   goes_on =
       record {
         renewed = TheDraft.group;
         renews = refl;
-        replies = subst (λ (g : Group). RepliesTo g TheDraft (finite.get g.records (id_of x)) (is_full Q) (Replied Said) After) (sym settles)
-            (subst (λ (o : Option Record). RepliesTo Settled TheDraft o (is_full Q) (Replied Said) After) (sym (get-inserted text_cmp_total TheDraft.group.records (id_of x) Rested)) replies);
+        settled = Settled;
+        settles = sym settles;
+        kept = Rested;
+        is_kept = get-inserted text_cmp_total TheDraft.group.records (id_of x) Rested;
+        told = Some Shown;
+        tells = ap (λ b. assignment_of (b || is_news Rested.sent Shown) Shown) (sym full);
+        answers = refl;
+        leaves = refl;
       }
 
   taken_in : TakesIn Before TheDraft Q OneTopic (Replied Said) After

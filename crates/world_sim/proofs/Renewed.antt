@@ -77,7 +77,7 @@ committed_renews (Some g) c r there reply new is =
 -- ---- heartbeats
 
 makes_lawfully : (success room : Bool) (c : Coordinator) (name : Text) (g : Group) → finite.get c.groups name ≡ None → RenewedLawfully (new_group c.salt) g
-    → (reply : group.Reply) (answer : group.Answer) (new : Coordinator) → Makes success room c name g reply answer new → Renews c new
+    → (reply : group.Reply) (answer : group.Answer) (new : Coordinator) → Makes success room c (record { name = name; left = g; reply = reply }) answer new → Renews c new
 makes_lawfully true true c name g none lawful reply answer new is =
     subst (λ (x : Coordinator). Renews c x) (sym is.1) (put c name g (λ other. lawful (λ same. other (ap target_epoch_of none ∙ same))))
 makes_lawfully true false c name g none lawful reply answer new is = unchanged c new is.1

@@ -1,5 +1,5 @@
 -- The stages of an accepted heartbeat: what the renewal, the settling and the reply leave of a group and of a record.
-use Rattle.std.proofs.Common.{◌≡◌, ◌⊎◌, ℕ, ◌<◌, ◌≤◌, ◌==◌, Bool, true, false, cond, Option, Some, None, refl, sym, ap, subst, ◌∙◌, inl, inr, true≢false, arith}
+use Rattle.std.proofs.Common.{◌≡◌, ◌⊎◌, ℕ, ◌<◌, ◌≤◌, ◌==◌, Bool, true, false, ◌||◌, cond, Option, Some, None, refl, sym, ap, subst, ◌∙◌, inl, inr, true≢false, arith}
 use Rattle.std.specs.Cmp.{first_so}
 use Rattle.std.specs.FinMap as finite
 use Rattle.std.proofs.lemmas.Bool.Decides.{Decides-eqb}
@@ -9,14 +9,15 @@ use Rattle.group_types.specs.declared.stamp.Stamp.{Stamp}
 use Rattle.group_types.specs.declared.assignor_name.AssignorName.{AssignorName}
 use Rattle.group_types.specs.Text.{Text}
 use Rattle.group_types.specs.Topics.{Names}
-use Rattle.group_types.specs.Request.{Heartbeat}
+use Rattle.group_types.specs.Request.{Heartbeat, is_full, reported}
 use Rattle.group_types.specs.Partition.{Partitions}
 use Rattle.group_types.specs.Sets.{has}
 use Rattle.group_types.specs.declared.partition.Partition.{Partition}
 use Rattle.group_types.specs.Group.{Record, Group, held, wanted}
 use Rattle.group_types.specs.Renewal.{RenewsWhere}
 use Rattle.group_types.specs.Settle.{moved, may_settle, arrived, asked, settled_by, settled}
-use Rattle.group_types.specs.HeartbeatStep.{assignment_of, sent_after, shown}
+use Rattle.group_types.specs.HeartbeatStep.{Answer, Draft, Replied, Stages, acceptance, assignment_of, is_news, sent_after, shown}
+use Rattle.group_core.specs.CodeOrder.{LateDraft, LateStages, heir_or, renamed_last}
 use Rattle.group_types.proofs.Orders.{partition_cmp_total}
 use Rattle.group_types.proofs.SetLemmas.{has-common}
 use Rattle.group_types.proofs.GrantLemmas.{has-held}
@@ -193,3 +194,43 @@ shows_held s m true set p is there =
     sym (has-held s.grants m p)
     ∙ first_so (has (held s.grants m) p) (has (wanted s.target m) p) (sym (has-common partition_cmp_total (held s.grants m) (wanted s.target m) p) ∙ ap (λ t. has t p) (some_is (shown s m) set is) ∙ there)
 shows_held s m false set p is there = absurd (not_none set is)
+
+-- what the stages come to for a member that is known to be settled
+pub record IsTold (id : Text) (q : Heartbeat) (s : Group) (x : Record) (answer : Answer) (new : Group) : Type 0 where
+  pub answers : answer ≡ Replied (acceptance id x (assignment_of (is_full q || is_news x.sent (shown s id)) (shown s id)))
+  pub leaves : new ≡ record s { records = finite.insert s.records id (sent_after x (assignment_of (is_full q || is_news x.sent (shown s id)) (shown s id))) }
+
+module _ (q : Heartbeat) (id : Text) (s t : Group) (done : s ≡ t) (kept x : Record) (is_kept : finite.get s.records id ≡ Some kept) (is : finite.get t.records id ≡ Some x) where
+  pub kept_is : kept ≡ x
+  kept_is = some_is kept x (sym is_kept ∙ ap (λ (g : Group). finite.get g.records id) done ∙ is)
+
+  pub told_is : (told : Option Partitions) → told ≡ assignment_of (is_full q || is_news kept.sent (shown s id)) (shown s id)
+      → told ≡ assignment_of (is_full q || is_news x.sent (shown t id)) (shown t id)
+  told_is told tells = tells ∙ (λ i. assignment_of (is_full q || is_news (kept_is i).sent (shown (done i) id)) (shown (done i) id))
+
+pub told_by : (c : Group) (d : Draft) (q : Heartbeat) (answer : Answer) (new : Group) (st : Stages c d q answer new) (x : Record)
+    → finite.get (settled st.renewed d.id (reported q) st.renewed.clock).records d.id ≡ Some x → IsTold d.id q (settled st.renewed d.id (reported q) st.renewed.clock) x answer new
+told_by c d q answer new st x is =
+    let s : Group = settled st.renewed d.id (reported q) st.renewed.clock in
+    let kept : st.kept ≡ x = kept_is q d.id st.settled s st.settles st.kept x st.is_kept is in
+    let told = told_is q d.id st.settled s st.settles st.kept x st.is_kept is st.told st.tells in
+    record {
+      answers = st.answers ∙ (λ i. Replied (acceptance d.id (kept i) (told i)));
+      leaves = st.leaves ∙ (λ i. record (st.settles i) { records = finite.insert (st.settles i).records d.id (sent_after (kept i) (told i)) });
+    }
+
+-- the same of one that takes over, and is renamed last
+pub record IsToldLate (d : LateDraft) (q : Heartbeat) (s : Group) (x : Record) (answer : Answer) (new : Group) : Type 0 where
+  pub answers : answer ≡ Replied (acceptance (heir_or d.id d.heir) x (assignment_of (is_full q || is_news x.sent (shown s d.id)) (shown s d.id)))
+  pub leaves : new ≡ renamed_last s d.id (sent_after x (assignment_of (is_full q || is_news x.sent (shown s d.id)) (shown s d.id))) d.heir
+
+pub told_late : (c : Group) (d : LateDraft) (q : Heartbeat) (answer : Answer) (new : Group) (st : LateStages c d q answer new) (x : Record)
+    → finite.get (settled st.renewed d.id (reported q) st.renewed.clock).records d.id ≡ Some x → IsToldLate d q (settled st.renewed d.id (reported q) st.renewed.clock) x answer new
+told_late c d q answer new st x is =
+    let s : Group = settled st.renewed d.id (reported q) st.renewed.clock in
+    let kept : st.kept ≡ x = kept_is q d.id st.settled s st.settles st.kept x st.is_kept is in
+    let told = told_is q d.id st.settled s st.settles st.kept x st.is_kept is st.told st.tells in
+    record {
+      answers = st.answers ∙ (λ i. Replied (acceptance (heir_or d.id d.heir) (kept i) (told i)));
+      leaves = st.leaves ∙ (λ i. renamed_last (st.settles i) d.id (sent_after (kept i) (told i)) d.heir);
+    }

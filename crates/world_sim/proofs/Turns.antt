@@ -16,14 +16,14 @@ use Rattle.group_types.specs.Request.{Heartbeat, is_full, reported}
 use Rattle.group_types.specs.Group.{Record, Records, Group}
 use Rattle.group_types.specs.Settle.{settled}
 use Rattle.group_types.specs.Checks.{Accepted, Refused, is_away}
-use Rattle.group_types.specs.HeartbeatStep.{Answer, Replied, Closes, Reply, refusal, Draft, shown, is_news, assignment_of, sent_after, epoch_number, acceptance, RepliesTo, RepliesWith, GoesOn, ByVerdict, TakesIn}
+use Rattle.group_types.specs.HeartbeatStep.{Answer, Replied, Closes, Reply, refusal, Draft, shown, is_news, assignment_of, sent_after, epoch_number, acceptance, Stages, ByVerdict, TakesIn}
 use Rattle.group_types.specs.Renewal.{changed_if, view_for}
 use Rattle.group_types.specs.Limits.{GREATEST_EPOCH}
 use Rattle.group_types.specs.Leave.{last_epoch, last_epoch_at}
 use Rattle.group_types.specs.Sound.{IsSound}
 use Rattle.world_sim.specs.Turn.{Names, Holds, IsLater, IsGiven, HasActed, Came, Kept, Acted, Promises, WasPast, Turn}
 use Rattle.group_types.proofs.Lookups.{found, Found, this, another, get-inserted, get-insert_other, some_is}
-use Rattle.world_sim.proofs.Stages.{shows_held, IsAtEpoch, sent_at, settled_same, given_same, IsRenewed, renewed_by, HasSettled, has_settled}
+use Rattle.world_sim.proofs.Stages.{shows_held, IsAtEpoch, sent_at, settled_same, given_same, IsRenewed, renewed_by, HasSettled, has_settled, told_by}
 use Rattle.world_sim.proofs.Acts.{IsDrafted, Acts, acts}
 
 -- ---- a heartbeat that is refused, or overtaken
@@ -62,10 +62,10 @@ unavailable answer is reply said success =
     let same : refusal codes.CoordinatorNotAvailable ≡ reply = replied_is (refusal codes.CoordinatorNotAvailable) reply (sym is ∙ said) in
     true≢false (ap (λ (x : Reply). is_unavailable x.code) same ∙ ap is_unavailable success)
 
--- ---- a draft that is nobody's heir
+-- ---- the draft of a member that has a record
 
 abbrev pub own_draft : Group → Text → Record → Record → Draft
-own_draft c m r after = record { group = c; id = m; before = Some r; after = after; heir = None }
+own_draft c m r after = record { group = c; id = m; before = Some r; after = after }
 
 not_away : (e : Epoch) (n : ℕ) → e ≡ At n → e ≡ Away → ⊥
 not_away e n at away = true≢false (sym (ap is_away (sym at ∙ away)))
@@ -186,23 +186,18 @@ module _ (g : Group) (sound : IsSound g) (q : Heartbeat) (stamp : Stamp) (m : Te
         rising (inl risen) epoch = omega (arith, risen, epoch, drafted.target_epoch)
         rising (inr same) epoch = omega (arith, same.0, epoch, drafted.target_epoch)
 
-    by_record : (o : Option Record) (d : Group) (full : Bool) (answer : Answer) (new : Group) → o ≡ Some x → RepliesTo s (own_draft d m r after) o full answer new → Turn g q stamp answer new
-    by_record None d full answer new is replies = absurd replies
-    by_record (Some y) d full answer new is replies =
-        let with_x = subst (λ (t : Record). RepliesWith s (own_draft d m r after) t (assignment_of (full || is_news t.sent (shown s m)) (shown s m)) answer new) (some_is y x is) replies in
-        replied (full || is_news x.sent (shown s m)) answer new with_x.0 with_x.1
-
-  goes_on : (c d : Group) (answer : Answer) (new : Group) → IsDrafted g m after c → GoesOn c (own_draft d m r after) q answer new → Turn g q stamp answer new
+  goes_on : (c d : Group) (answer : Answer) (new : Group) → IsDrafted g m after c → Stages c (own_draft d m r after) q answer new → Turn g q stamp answer new
   goes_on c d answer new drafted on =
       let n = on.renewed in
       let renewed = renewed_by (c.epoch == c.target_epoch) c n drafted.epoch refl on.renews in
       let there : finite.get n.records m ≡ Some after = ap (λ (t : Records). finite.get t m) (renewed.records ∙ drafted.records) ∙ get-inserted g.records m after in
+      let s : Group = settled n m (reported q) n.clock in
       let settles = has_settled n m after (reported q) n.clock there in
-      by_record c n (settled n m (reported q) n.clock) drafted renewed settles (finite.get (settled n m (reported q) n.clock).records m) d (is_full q) answer new
-      (ap (λ (t : Records). finite.get t m) settles.records ∙ get-inserted n.records m settles.after) on.replies
+      let told = told_by c (own_draft d m r after) q answer new on settles.after (ap (λ (t : Records). finite.get t m) settles.records ∙ get-inserted n.records m settles.after) in
+      replied c n s drafted renewed settles (is_full q || is_news settles.after.sent (shown s m)) answer new told.answers told.leaves
 
   by_verdict : (b : Bool) (c d : Group) (answer : Answer) (new : Group) → IsDrafted g m after c
-      → ByVerdict (if b then Refused codes.CoordinatorNotAvailable else Accepted) (GoesOn c (own_draft d m r after) q) g answer new → Turn g q stamp answer new
+      → ByVerdict (if b then Refused codes.CoordinatorNotAvailable else Accepted) (Stages c (own_draft d m r after) q) g answer new → Turn g q stamp answer new
   by_verdict true c d answer new drafted step = unchanged g q stamp answer new step.1 (unavailable answer step.0)
   by_verdict false c d answer new drafted step = goes_on c d answer new drafted step
 

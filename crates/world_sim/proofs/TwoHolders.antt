@@ -121,8 +121,8 @@ commit_fits = refl
 room : has_room Seeing ≡ true
 room = ap (λ n. nat_lt n MOST_GROUPS) (finite.len-empty text_cmp Group)
 
-makes : Makes true (has_room Seeing) Seeing GROUP AfterOne (reply_to One) (group.Replied (reply_to One)) OneIn
-makes = subst (λ b. Makes true b Seeing GROUP AfterOne (reply_to One) (group.Replied (reply_to One)) OneIn) (sym room) (refl, refl)
+makes : Makes true (has_room Seeing) Seeing (record { name = GROUP; left = AfterOne; reply = reply_to One }) (group.Replied (reply_to One)) OneIn
+makes = subst (λ b. Makes true b Seeing (record { name = GROUP; left = AfterOne; reply = reply_to One }) (group.Replied (reply_to One)) OneIn) (sym room) (refl, refl)
 
 one_comes : HeartbeatAt (finite.get Seeing.groups GROUP) Seeing (arrival_of One TwoTopics) (group.Replied (reply_to One)) OneIn
 one_comes =

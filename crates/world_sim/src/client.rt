@@ -29,6 +29,7 @@ use std::mem;
 /// A client of a world. Contracts see it as a client of the client machine.
 #[derive(Drop)]
 pub(crate) struct Client {
+    alloc: Global,
     standing: Standing,
     /// The name of its group.
     group: String,
@@ -60,6 +61,7 @@ impl Client {
     {
         let group = String::from_str(alloc, settings.group.as_str())?;
         Ok(Client {
+            alloc,
             standing: Standing::Outside(Member::new(alloc, settings)),
             group,
             requests: 0,
@@ -114,12 +116,14 @@ impl Client {
     }
 
     /// Asks, and gives the request. A client that is refused is as it was.
-    pub(crate) fn ask(&mut self, alloc: Global, ask: Ask) -> Result<Frame, WorldFault>
+    pub(crate) fn ask(&mut self, ask: Ask) -> Result<Frame, WorldFault>
         ensures asks { IfOk result (λ body. AsksWithin self.old (ask_value ask) body self.new) }
         ensures fault { IfErr result (λ fault. CannotAsk self.old (ask_value ask) fault) }
         ensures unchanged { OnErr result (self.new ≡ self.old) }
     {
-        let (standing, asked) = mem::replace(&mut self.standing, Standing::nobody(alloc)).ask(ask);
+        let (standing, asked) = mem::replace(&mut self.standing, Standing::nobody(self.alloc)).ask(
+            ask,
+        );
         put(&mut self.standing, standing);
         let frame = asked?;
         self.requests += 1;
@@ -128,10 +132,10 @@ impl Client {
 
     /// Takes a reply, and says whether it is one to the request for which the client waits. Where it isn't, and where
     /// memory is short, the client is as it was.
-    pub(crate) fn take(&mut self, alloc: Global, body: &[u8]) -> Result<bool, AllocError>
+    pub(crate) fn take(&mut self, body: &[u8]) -> Result<bool, AllocError>
         ensures { TakesReply self.old body.now result self.new }
     {
-        let (standing, taken) = mem::replace(&mut self.standing, Standing::nobody(alloc)).take(
+        let (standing, taken) = mem::replace(&mut self.standing, Standing::nobody(self.alloc)).take(
             body,
         );
         put(&mut self.standing, standing);
@@ -139,41 +143,43 @@ impl Client {
     }
 
     /// Waits no longer, and says whether the client did. Takes no memory.
-    pub(crate) fn give_up(&mut self, alloc: Global) -> bool
+    pub(crate) fn give_up(&mut self) -> bool
         ensures waited { result ≡ self.old.waits }
         ensures after { self.new ≡ (if self.old.waits then after_giving_up self.old else self.old) }
     {
         let (standing, waited) = mem::replace(
             &mut self.standing,
-            Standing::nobody(alloc),
+            Standing::nobody(self.alloc),
         ).give_up();
         put(&mut self.standing, standing);
         waited
     }
 
     /// Releases a partition, and says whether the client may release any. Takes no memory.
-    pub(crate) fn release(&mut self, alloc: Global, p: &Partition) -> bool
+    pub(crate) fn release(&mut self, p: &Partition) -> bool
         ensures may { result ≡ may_release self.old }
         ensures after { self.new ≡ (if may_release self.old then after_release self.old p.now else self.old) }
     {
-        let (standing, may) = mem::replace(&mut self.standing, Standing::nobody(alloc)).release(p);
+        let (standing, may) = mem::replace(
+            &mut self.standing,
+            Standing::nobody(self.alloc),
+        ).release(p);
         put(&mut self.standing, standing);
         may
     }
 
     /// Releases each of these partitions that the client may release. Takes no memory.
-    pub(crate) fn release_each(&mut self, alloc: Global, parts: &PartSet)
+    pub(crate) fn release_each(&mut self, parts: &PartSet)
         ensures { self.new ≡ releasing_all self.old (in_order parts.now) }
     {
         for p in parts.iter() {
-            self.release(alloc, p);
+            self.release(p);
         }
     }
 
     /// A commit of these offsets under a number, with copies of what the client is now.
     pub(crate) fn commit<'a>(
         &'a self,
-        alloc: Global,
         number: u32,
         topics: Array<CommitRequestTopic<'a>>,
     ) -> Result<Commit, WorldFault>
@@ -184,7 +190,7 @@ impl Client {
     {
         let frame = self.standing.commit(number, topics)?;
         let commit = Commit::of(
-            alloc,
+            self.alloc,
             Frame::of(frame),
             self.group.as_str(),
             self.standing.id(),

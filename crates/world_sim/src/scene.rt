@@ -24,6 +24,7 @@ use std::collections::hash_map::RandomState;
 /// A coordinator, its clients and the messages between them.
 #[derive(Drop)]
 pub(crate) struct Scene {
+    pub(crate) alloc: Global,
     pub(crate) node: Node,
     pub(crate) clock: Moment,
     pub(crate) clients: Vec<Client>,
@@ -46,6 +47,7 @@ impl Scene {
         ensures { scene_view result ≡ record { coordinator = opening salt; clock = 0; clients = clients.items; requests = []; replies = []; commits = [] } }
     {
         Scene {
+            alloc,
             node: Node::new(alloc, salt, hasher),
             clock: Moment::of_millis(0),
             clients,
@@ -56,21 +58,21 @@ impl Scene {
     }
 
     /// Does an act.
-    pub(crate) fn act<'a>(&mut self, alloc: Global, act: Act<'a>) -> Result<Shown, WorldFault>
+    pub(crate) fn act<'a>(&mut self, act: Act<'a>) -> Result<Shown, WorldFault>
         requires keeps { Keeps (scene_view self.old) }
         requires topics { HasShortTopics (act_value act) }
         ensures { Acted (scene_view self.old) (act_value act.entry) result (scene_view self.new) }
     {
         match act {
-            Act::Join { client } => self.ask(alloc, client, Ask::Join),
-            Act::Beat { client, kind } => self.ask(alloc, client, Ask::Beat(kind)),
-            Act::Quit { client, quit } => self.ask(alloc, client, Ask::Quit(quit)),
-            Act::GiveUp { client } => self.give_up(alloc, client),
-            Act::Deliver { request } => self.deliver(alloc, request),
-            Act::Take { reply } => self.take(alloc, reply),
-            Act::Release { client, partition } => self.release(alloc, client, &partition),
-            Act::Commit { client, topics } => self.commit(alloc, client, topics),
-            Act::Bring { commit } => self.bring(alloc, commit),
+            Act::Join { client } => self.ask(client, Ask::Join),
+            Act::Beat { client, kind } => self.ask(client, Ask::Beat(kind)),
+            Act::Quit { client, quit } => self.ask(client, Ask::Quit(quit)),
+            Act::GiveUp { client } => self.give_up(client),
+            Act::Deliver { request } => self.deliver(request),
+            Act::Take { reply } => self.take(reply),
+            Act::Release { client, partition } => self.release(client, &partition),
+            Act::Commit { client, topics } => self.commit(client, topics),
+            Act::Bring { commit } => self.bring(commit),
             Act::Clock { moment } => Ok(self.set_clock(moment)),
             Act::Tick { moment } => Ok(self.pass(moment)),
             Act::Image { image } => Ok(self.see(image)),

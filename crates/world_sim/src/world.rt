@@ -81,7 +81,7 @@ impl World {
     ///
     /// After the act no two members of a group hold one partition, each holds what it is granted, a reply that may still be
     /// taken shows what is granted, and a commit that would be taken has been granted all that its maker held.
-    pub fn act<'a>(&mut self, alloc: Global, act: Act<'a>) -> Result<Shown, WorldFault>
+    pub fn act<'a>(&mut self, act: Act<'a>) -> Result<Shown, WorldFault>
         requires { HasShortTopics (act_value act) }
         ensures step { Acted self.old (act_value act.entry) result self.new }
         ensures apart { HoldApart self.new }
@@ -93,7 +93,7 @@ impl World {
         ensures lawful { RenewsLawfully self.old self.new }
     {
         self.hold();
-        let shown = self.scene.act(alloc, act);
+        let shown = self.scene.act(act);
         self.hold();
         shown
     }
@@ -106,7 +106,6 @@ impl World {
     /// After each act the laws hold that [`World::act`] names, and of a commit that the first act brings too.
     pub fn run<'a>(
         &mut self,
-        alloc: Global,
         acts: Vec<Act<'a>>,
     ) -> Result<Vec<Result<Shown, WorldFault>>, WorldFault>
         requires { All (λ act. HasShortTopics (act_value act)) acts.items }
@@ -121,9 +120,9 @@ impl World {
         ensures lawful { IfOk result (λ answers. InEachAct RenewsLawfully self.old (map act_value acts.entry.items) answers.items) }
     {
         self.hold_on();
-        let mut answers = Vec::with_capacity(alloc, acts.len())?;
+        let mut answers = Vec::with_capacity(self.scene.alloc, acts.len())?;
         for act in acts {
-            let answer = self.act(alloc, act);
+            let answer = self.act(act);
             answers.push_reserved(answer);
         }
         Ok(answers)
@@ -139,7 +138,7 @@ impl World {
     /// `NoMemory`: the acts before that were done, and a client that waited has given up.
     ///
     /// In every world on the way the laws hold that [`World::act`] names, and in every act that leads from one to the next.
-    pub fn settle(&mut self, alloc: Global) -> Result<(), WorldFault>
+    pub fn settle(&mut self) -> Result<(), WorldFault>
         ensures rounds { IsSettling self.old result self.new }
         ensures on_the_way { HoldsOn IsExclusive self.old }
         ensures settled { IfOk result (λ _. IsSettled self.new) }
@@ -155,7 +154,7 @@ impl World {
         if !self.scene.may_settle() {
             return Err(WorldFault::WrongState);
         }
-        let settled = self.scene.make_rounds(alloc);
+        let settled = self.scene.make_rounds();
         self.hold();
         settled
     }

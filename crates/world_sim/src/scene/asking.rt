@@ -17,26 +17,20 @@ use crate::fault::WorldFault;
 use crate::shown::Shown;
 use crate::state::ClientState;
 use member_core::{Array, CommitRequestTopic, Partition};
-use std::alloc::Global;
 
 /// The greatest number of a commit, which is its correlation id: the greatest INT32.
 const GREATEST_NUMBER: usize = 2_147_483_647;
 
 impl Scene {
     /// A client asks.
-    pub(crate) fn ask(
-        &mut self,
-        alloc: Global,
-        number: usize,
-        ask: Ask,
-    ) -> Result<Shown, WorldFault>
+    pub(crate) fn ask(&mut self, number: usize, ask: Ask) -> Result<Shown, WorldFault>
         ensures { Acted (scene_view self.old) (Asks number (ask_value ask)) result (scene_view self.new) }
     {
         let Some(place) = place_of(number, self.clients.as_slice().len()) else {
             return Err(WorldFault::NoSuchClient);
         };
         self.requests.reserve(1)?;
-        let request = ask_at(alloc, &mut self.clients, place, ask)?;
+        let request = ask_at(&mut self.clients, place, ask)?;
         self.requests.push_reserved(request);
         Ok(Shown::Sent {
             request: self.requests.len(),
@@ -44,34 +38,29 @@ impl Scene {
     }
 
     /// A client waits no longer.
-    pub(crate) fn give_up(&mut self, alloc: Global, number: usize) -> Result<Shown, WorldFault>
+    pub(crate) fn give_up(&mut self, number: usize) -> Result<Shown, WorldFault>
         ensures { Acted (scene_view self.old) (GivesUp number) result (scene_view self.new) }
     {
         let Some(place) = place_of(number, self.clients.as_slice().len()) else {
             return Err(WorldFault::NoSuchClient);
         };
-        let state = give_up_at(alloc, &mut self.clients, place);
+        let state = give_up_at(&mut self.clients, place);
         change_shown(state)
     }
 
     /// A client releases a partition.
-    pub(crate) fn release(
-        &mut self,
-        alloc: Global,
-        number: usize,
-        p: &Partition,
-    ) -> Result<Shown, WorldFault>
+    pub(crate) fn release(&mut self, number: usize, p: &Partition) -> Result<Shown, WorldFault>
         ensures { Acted (scene_view self.old) (Release number p.now) result (scene_view self.new) }
     {
         let Some(place) = place_of(number, self.clients.as_slice().len()) else {
             return Err(WorldFault::NoSuchClient);
         };
-        let state = release_at(alloc, &mut self.clients, place, p);
+        let state = release_at(&mut self.clients, place, p);
         change_shown(state)
     }
 
     /// A reply is given to the client whose request it answers.
-    pub(crate) fn take(&mut self, alloc: Global, number: usize) -> Result<Shown, WorldFault>
+    pub(crate) fn take(&mut self, number: usize) -> Result<Shown, WorldFault>
         requires { Keeps (scene_view self.old) }
         ensures { Acted (scene_view self.old) (Take number) result (scene_view self.new) }
     {
@@ -80,7 +69,7 @@ impl Scene {
         };
         let client = self.taker_of(place);
         let body = self.replies[place].frame.body();
-        let state = take_at(alloc, &mut self.clients, client, body)?;
+        let state = take_at(&mut self.clients, client, body)?;
         Ok(taken_shown(state))
     }
 
@@ -98,7 +87,6 @@ impl Scene {
     /// A client commits.
     pub(crate) fn commit<'a>(
         &mut self,
-        alloc: Global,
         number: usize,
         topics: Array<CommitRequestTopic<'a>>,
     ) -> Result<Shown, WorldFault>
@@ -113,7 +101,7 @@ impl Scene {
         }
         let number = self.commits.len() + 1;
         self.commits.reserve(1)?;
-        let mut commit = self.clients[place].commit(alloc, number as u32, topics)?;
+        let mut commit = self.clients[place].commit(number as u32, topics)?;
         commit.cut(&self.node);
         self.commits.push_reserved(commit);
         Ok(Shown::Committed { commit: number })

@@ -10,7 +10,6 @@ use crate::frame::Frame;
 use crate::shown::Shown;
 use coord_node::{Answered, Stamp};
 use kip_msgs::one_request_a_body;
-use std::alloc::Global;
 
 /// The stamp of a commit. None matters to it.
 const NO_STAMP: Stamp = Stamp {
@@ -20,7 +19,7 @@ const NO_STAMP: Stamp = Stamp {
 
 impl Scene {
     /// A commit is brought to the coordinator. Its reply isn't kept. Nothing that is granted is taken back.
-    pub(crate) fn bring(&mut self, alloc: Global, number: usize) -> Result<Shown, WorldFault>
+    pub(crate) fn bring(&mut self, number: usize) -> Result<Shown, WorldFault>
         requires { Keeps (scene_view self.old) }
         ensures { Acted (scene_view self.old) (Bring number) result (scene_view self.new) }
     {
@@ -28,11 +27,9 @@ impl Scene {
         let Some(place) = place_of(number, self.commits.as_slice().len()) else {
             return Err(WorldFault::NoSuchMessage);
         };
-        let mut out = Vec::new(alloc);
+        let mut out = Vec::new(self.alloc);
         let body = self.commits[place].body();
-        let answered = self
-            .node
-            .answer(alloc, body, NO_STAMP, self.clock, &mut out)?;
+        let answered = self.node.answer(body, NO_STAMP, self.clock, &mut out)?;
         match answered {
             Answered::Replied => Ok(Shown::Answered {
                 reply: Frame::of(out),

@@ -12,11 +12,10 @@ use crate::mail::Request;
 use crate::state::ClientState;
 use coord_node::Stamp;
 use member_core::Partition;
-use std::alloc::{AllocError, Global};
+use std::alloc::AllocError;
 
 /// The client at a place asks. One that is refused is as it was.
 pub(crate) fn ask_at(
-    alloc: Global,
     clients: &mut Vec<Client>,
     place: usize,
     ask: Ask,
@@ -25,7 +24,7 @@ pub(crate) fn ask_at(
     ensures { AskedAt clients.old.items place (ask_value ask) result clients.new.items }
 {
     let client = &mut clients[place];
-    let frame = client.ask(alloc, ask)?;
+    let frame = client.ask(ask)?;
     let stamp = Stamp {
         connection: place as u64 + 1,
         frame: u64::from(client.requests()),
@@ -34,16 +33,12 @@ pub(crate) fn ask_at(
 }
 
 /// The client at a place waits no longer: its state, or none where it didn't wait.
-pub(crate) fn give_up_at(
-    alloc: Global,
-    clients: &mut Vec<Client>,
-    place: usize,
-) -> Option<ClientState>
+pub(crate) fn give_up_at(clients: &mut Vec<Client>, place: usize) -> Option<ClientState>
     requires { place < vec_len clients.old }
     ensures { ChangedAt (λ c. c.waits) after_giving_up clients.old.items place result clients.new.items }
 {
     let client = &mut clients[place];
-    if client.give_up(alloc) {
+    if client.give_up() {
         Some(client.state())
     } else {
         None
@@ -52,7 +47,6 @@ pub(crate) fn give_up_at(
 
 /// The client at a place releases a partition: its state, or none where it may release none.
 pub(crate) fn release_at(
-    alloc: Global,
     clients: &mut Vec<Client>,
     place: usize,
     p: &Partition,
@@ -61,7 +55,7 @@ pub(crate) fn release_at(
     ensures { ChangedAt may_release (λ c. after_release c p.now) clients.old.items place result clients.new.items }
 {
     let client = &mut clients[place];
-    if client.release(alloc, p) {
+    if client.release(p) {
         Some(client.state())
     } else {
         None
@@ -70,7 +64,6 @@ pub(crate) fn release_at(
 
 /// The client at a place is given a reply: its state, or none where it doesn't take it.
 pub(crate) fn take_at(
-    alloc: Global,
     clients: &mut Vec<Client>,
     place: usize,
     body: &[u8],
@@ -79,7 +72,7 @@ pub(crate) fn take_at(
     ensures { TookAt clients.old.items place body.now result clients.new.items }
 {
     let client = &mut clients[place];
-    let taken = client.take(alloc, body)?;
+    let taken = client.take(body)?;
     if taken {
         Ok(Some(client.state()))
     } else {

@@ -22,7 +22,7 @@ use std::alloc::{AllocError, Global};
 
 impl Scene {
     /// A request is delivered, and its reply is kept.
-    pub(crate) fn deliver(&mut self, alloc: Global, number: usize) -> Result<Shown, WorldFault>
+    pub(crate) fn deliver(&mut self, number: usize) -> Result<Shown, WorldFault>
         requires { Keeps (scene_view self.old) }
         ensures { Acted (scene_view self.old) (Deliver number) result (scene_view self.new) }
     {
@@ -30,16 +30,16 @@ impl Scene {
             return Err(WorldFault::NoSuchMessage);
         };
         let body = self.requests[place].frame.body();
-        let forgotten = is_forgotten(alloc, &self.node, body)?;
+        let forgotten = is_forgotten(self.alloc, &self.node, body)?;
         if forgotten {
             return Err(WorldFault::Forgotten);
         }
-        self.answer(alloc, place)
+        self.answer(place)
     }
 
     #[tactic(auto, using(crate::proofs::MailLemmas::small_cut, crate::proofs::MailLemmas::named_more))]
     /// The coordinator answers the request at a place.
-    fn answer(&mut self, alloc: Global, place: usize) -> Result<Shown, WorldFault>
+    fn answer(&mut self, place: usize) -> Result<Shown, WorldFault>
         requires place { place < vec_len self.old.requests }
         requires spelled { SpellsHeartbeat (requests_of self.old.requests.items) place }
         ensures { Answered (scene_view self.old) place result (scene_view self.new) }
@@ -47,14 +47,10 @@ impl Scene {
         one_request_a_body();
         self.replies.reserve(1)?;
         let request = &self.requests[place];
-        let mut out = Vec::new(alloc);
-        let answered = self.node.answer(
-            alloc,
-            request.frame.body(),
-            request.stamp,
-            self.clock,
-            &mut out,
-        )?;
+        let mut out = Vec::new(self.alloc);
+        let answered = self
+            .node
+            .answer(request.frame.body(), request.stamp, self.clock, &mut out)?;
         cut_all(&mut self.commits, &self.node);
         match answered {
             Kind::Closes => Ok(Shown::Closed),

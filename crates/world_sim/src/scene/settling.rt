@@ -19,7 +19,7 @@ use group_core::{Epoch, EpochNumber};
 use group_types::limits::GREATEST_EPOCH;
 use kip_msgs::one_request_a_body;
 use member_core::Kind;
-use std::alloc::{AllocError, Global};
+use std::alloc::AllocError;
 
 /// So many requests a client may have sent that three are left to it: the correlation ids are INT32s.
 const MOST_REQUESTS: u32 = 2_147_483_644;
@@ -80,81 +80,81 @@ impl Scene {
     }
 
     /// Makes three rounds.
-    pub(crate) fn make_rounds(&mut self, alloc: Global) -> Result<(), WorldFault>
+    pub(crate) fn make_rounds(&mut self) -> Result<(), WorldFault>
         requires reached { IsReached (scene_view self.old) }
         requires can { CanSettle (scene_view self.old) }
         ensures { IsSettling (scene_view self.old) result (scene_view self.new) }
     {
         rounds_go_on();
         for _round in 0..3usize {
-            self.round(alloc)?;
+            self.round()?;
         }
         Ok(())
     }
 
     /// One round: client after client has its turn.
-    fn round(&mut self, alloc: Global) -> Result<(), WorldFault>
+    fn round(&mut self) -> Result<(), WorldFault>
         requires { IsBetween (scene_view self.old) }
         ensures { HasRound (scene_view self.old) result (scene_view self.new) }
     {
         rounds_go_on();
         let count = self.clients.len();
         for place in 0..count {
-            self.turn(alloc, place)?;
+            self.turn(place)?;
         }
         Ok(())
     }
 
     /// The turn of the client at a place: its full beat is answered, it takes the reply, and it releases all that it
     /// isn't shown.
-    fn turn(&mut self, alloc: Global, place: usize) -> Result<(), WorldFault>
+    fn turn(&mut self, place: usize) -> Result<(), WorldFault>
         requires { IsUnderway (scene_view self.old) (place + 1) }
         ensures { HasTurned (scene_view self.old) (place + 1) result (scene_view self.new) }
     {
-        self.tell(alloc, place)?;
-        self.release_all(alloc, place)?;
+        self.tell(place)?;
+        self.release_all(place)?;
         Ok(())
     }
 
     /// The client at a place beats, and takes the reply. Where memory is short it waits no longer.
-    fn tell(&mut self, alloc: Global, place: usize) -> Result<(), WorldFault>
+    fn tell(&mut self, place: usize) -> Result<(), WorldFault>
         requires { IsUnderway (scene_view self.old) (place + 1) }
         ensures told { IsToldBy (scene_view self.old) (place + 1) result (scene_view self.new) }
         ensures there { OnOk result (place < vec_len self.new.clients) }
     {
         rounds_go_on();
-        self.ask(alloc, place + 1, Ask::Beat(Kind::Full))?;
-        match self.exchange(alloc, place) {
+        self.ask(place + 1, Ask::Beat(Kind::Full))?;
+        match self.exchange(place) {
             Ok(()) => Ok(()),
             Err(fault) => {
-                give_up_at(alloc, &mut self.clients, place);
+                give_up_at(&mut self.clients, place);
                 Err(fault)
             }
         }
     }
 
     /// The latest request is answered, and its sender, the client at a place, takes the reply.
-    fn exchange(&mut self, alloc: Global, place: usize) -> Result<(), WorldFault>
+    fn exchange(&mut self, place: usize) -> Result<(), WorldFault>
         requires { HasBegun (scene_view self.old) (place + 1) }
         ensures { HasExchanged (scene_view self.old) result (scene_view self.new) }
     {
         every_act_keeps_the_invariant();
         rounds_go_on();
         let request = self.requests.len();
-        self.deliver(alloc, request)?;
+        self.deliver(request)?;
         let reply = self.replies.len();
-        self.take(alloc, reply)?;
+        self.take(reply)?;
         Ok(())
     }
 
     /// The client at a place releases all that it isn't shown.
-    fn release_all(&mut self, alloc: Global, place: usize) -> Result<(), AllocError>
+    fn release_all(&mut self, place: usize) -> Result<(), AllocError>
         requires { place < vec_len self.old.clients }
         ensures { HasReleased (scene_view self.old) (place + 1) result (scene_view self.new) }
     {
         let client = &mut self.clients[place];
-        let own = client.own().copy(alloc)?;
-        client.release_each(alloc, &own);
+        let own = client.own().copy(self.alloc)?;
+        client.release_each(&own);
         Ok(())
     }
 }

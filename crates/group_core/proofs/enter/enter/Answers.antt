@@ -4,7 +4,8 @@ use Rattle.std.specs.Option.{IfSome, MatchOption}
 use Rattle.std.specs.Result.{OnErr}
 use Rattle.group_types.specs.Group.{Group}
 use Rattle.group_types.specs.Join.{IsNamed}
-use Rattle.group_types.specs.HeartbeatStep.{Arrival, TakesIn}
+use Rattle.group_types.specs.HeartbeatStep.{Arrival}
+use Rattle.group_core.specs.CodeOrder.{TakesInLate}
 use Rattle.kip_msgs.specs.Views.{heartbeat_request_value}
 use Rattle.group_epochs.specs.Drafts.{CanStore}
 use Rattle.group_epochs.specs.Records.{IsInstanceFreeFor, Marks}
@@ -50,7 +51,7 @@ returns-in-Some-clause-step c =
     let is = subst (λ o. MatchOption o (IsNamed g a.heartbeat.member None) (IsDraft g a.heartbeat a.stamp now)) c.in-Some.is c.in_ok-draft.ensures.draft in
     IfOk-weaker c.take_in.result _ _
     (λ outcome taken. entered g c.requires.group.sound a now c.later-now.ensures d is c.requires.epoch c.requires.accepted (answer_of outcome) new
-    (subst (λ (x : Group). TakesIn x (draft_in x d now) a.heartbeat a.image (answer_of outcome) new) c.in_ok-draft.ensures.group taken))
+    (subst (λ (x : Group). TakesInLate x (draft_in x d now) a.heartbeat a.image (answer_of outcome) new) c.in_ok-draft.ensures.group taken))
     c.take_in.ensures.step
 
 pub returns-in-Some-clause-keeps : goal.returns-in-Some-clause-keeps

@@ -4,8 +4,10 @@ use Rattle.std.specs.Option.{IfSome}
 use Rattle.group_types.specs.Partition.{Partitions}
 use Rattle.group_types.specs.Group.{Grants, Group, wanted}
 use Rattle.group_types.specs.Request.{Heartbeat, is_full, reported}
+use Rattle.group_types.specs.Renewal.{Renews}
 use Rattle.group_types.specs.Settle.{grants_after, may_settle}
-use Rattle.group_types.specs.HeartbeatStep.{Reply, Replied, SettlesAndReplies, acceptance, assignment_of, heir_or, is_news, sent_after}
+use Rattle.group_types.specs.HeartbeatStep.{Reply, Replied, acceptance, assignment_of, is_news, sent_after}
+use Rattle.group_core.specs.CodeOrder.{LateStages, heir_or}
 use Rattle.kip_msgs.specs.Views.{heartbeat_request_value}
 use Rattle.group_reconcile.specs.Holders.{pairs}
 use Rattle.group_reconcile.specs.Offers.{AreIndexed}
@@ -21,7 +23,7 @@ use Rattle.group_core.proofs.FewPartitions.{are_indexed}
 use Rattle.group_core.proofs.TakenIn.{heir_in_room}
 use Rattle.group_core.proofs.HandOvers.{heir_is_absent, old_is_not_past, told}
 use Rattle.group_core.proofs.Idle.{nothing_after}
-use Rattle.group_core.proofs.Settling.{current_then, settles_and_replies}
+use Rattle.group_core.proofs.Settling.{current_then, stages}
 use Rattle.group_core.proofs.settle.settle.Goals as goal
 
 -- what an offer of the target that a renewal leaves comes to
@@ -75,7 +77,7 @@ returns-clause-settles c =
     let plan = c.in_ok-plan.ensures.plan in
     let shown : Partitions = shown_then s d r (reported q) in
     let asked : Option Partitions = assignment_of (is_full q || is_news d.member.record.sent shown) shown in
-    let Settles : Reply → Group → Type 0 = λ reply g. SettlesAndReplies (renewed_by s d now r) (draft_in (group_of s) d now) q (Replied reply) g in
+    let Settles : Reply → Group → Type 0 = λ reply g. (changed : Group) → Renews changed (renewed_by s d now r) → LateStages changed (draft_in (group_of s) d now) q (Replied reply) g in
     let heir = heir_in_room s.records d.member.id d.member.record d.member.place c.requires.fit.room in
     let id = plan.id ∙ sym (told s.records.records d.member.id (finite.get s.records.records d.member.id) refl (heir_id d) heir) in
     let go = moving s d r c.in_ok-plan.plan.owned _ c.target_of-target.ensures _ c.in_ok-moves.ensures.moves in
@@ -87,7 +89,7 @@ returns-clause-settles c =
     let grouped = stored_then c ∙ (λ i. group_then s d now r (plan.owned i) (sent i)) in
     let fresh = old_is_not_past (group_of s) c.requires.sound d.member.id (finite.get s.records.records d.member.id) refl (heir_id d) in
     subst (λ x. Settles x (group_of c.carry_out-reply.new.state)) (sym replied)
-    (subst (Settles (acceptance (heir_or d.member.id (heir_in s d)) (record_then s d r (reported q) now) asked)) (sym grouped) (settles_and_replies s d now r q fresh))
+    (subst (Settles (acceptance (heir_or d.member.id (heir_in s d)) (record_then s d r (reported q) now) asked)) (sym grouped) (stages s d now r q fresh))
 
 pub returns-clause-current : goal.returns-clause-current
 returns-clause-current c = λ image is.

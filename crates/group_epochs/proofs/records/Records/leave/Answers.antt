@@ -63,10 +63,11 @@ returns-clause-members c =
     let given = given_is c.self.inside.members c.take_out-former.new.members c.self.inside.past c.remember.new.self c.args.id.now c.take_out-former.result.id c.args.stamp c.take_out-former.ensures.taken c.self.invariant.table
     (member_there c.self.inside.members c.args.self.now c.args.id.now (ap (λ (s : RecordsState). s.records) c.self.view_is) c.requires) in
     let past = c.remember.ensures.past ∙ ap (λ (t : Text). remembering c.self.inside.past.past t c.args.stamp) given in
-    (λ i. record { records = kept i; past = past i }) ∙ ap (λ (s : RecordsState). without_record (members_in s) c.args.id.now c.args.stamp) c.self.view_is
+    c.give_back.ensures.members ∙ (λ i. record { records = kept i; past = past i }) ∙ ap (λ (s : RecordsState). without_record (members_in s) c.args.id.now c.args.stamp) c.self.view_is
 
 pub returns-clause-marks : goal.returns-clause-marks
 returns-clause-marks c =
-    mark_gone c.self.inside.members c.take_out-former.new.members c.self.inside.past c.remember.new.self c.args.id.now c.take_out-former.result.id c.args.stamp c.take_out-former.ensures.taken c.self.invariant.table
+    c.give_back.ensures.marks
+    ∙ mark_gone c.self.inside.members c.take_out-former.new.members c.self.inside.past c.remember.new.self c.args.id.now c.take_out-former.result.id c.args.stamp c.take_out-former.ensures.taken c.self.invariant.table
     (member_there c.self.inside.members c.args.self.now c.args.id.now (ap (λ (s : RecordsState). s.records) c.self.view_is) c.requires)
     ∙ ap (λ (s : RecordsState). finite.remove s.marks c.args.id.now) c.self.view_is

@@ -89,7 +89,7 @@ returns-clause-members c = λ m r is.
     let kept = record_gone c.self.inside.members c.take_out_at-former.new.members c.self.inside.past c.remember.new.self m c.take_out_at-former.result.id c.stamp-latest.result taken c.self.invariant.table there in
     let given = given_is c.self.inside.members c.take_out_at-former.new.members c.self.inside.past c.remember.new.self m c.take_out_at-former.result.id c.stamp-latest.result taken c.self.invariant.table there in
     let past = c.remember.ensures.past ∙ (λ i. remembering c.self.inside.past.past (given i) (last i)) in
-    (λ i. record { records = kept i; past = past i }) ∙ ap (λ (s : RecordsState). without_record (members_in s) m r.stamp) c.self.view_is
+    c.give_back.ensures.members ∙ (λ i. record { records = kept i; past = past i }) ∙ ap (λ (s : RecordsState). without_record (members_in s) m r.stamp) c.self.view_is
 
 pub returns-clause-marks : goal.returns-clause-marks
 returns-clause-marks c = λ m r is.
@@ -97,5 +97,6 @@ returns-clause-marks c = λ m r is.
     let here : member_at (records_in rows) c.args.rank ≡ Some (m, r) = ap (λ (s : Records). member_at s c.args.rank) (ap (λ (s : RecordsState). s.records) c.self.view_is) ∙ is in
     let ranked = rank_of_member rows c.self.inside.by_id.items c.self.invariant.table.order c.self.invariant.table.distinct c.args.rank (m, r) here in
     let there = entry_there c.self.inside.members m (ap is_some (found (records_in rows) c.args.rank (m, r) here)) in
-    mark_gone c.self.inside.members c.take_out_at-former.new.members c.self.inside.past c.remember.new.self m c.take_out_at-former.result.id c.stamp-latest.result (c.take_out_at-former.ensures.taken m ranked) c.self.invariant.table there
+    c.give_back.ensures.marks
+    ∙ mark_gone c.self.inside.members c.take_out_at-former.new.members c.self.inside.past c.remember.new.self m c.take_out_at-former.result.id c.stamp-latest.result (c.take_out_at-former.ensures.taken m ranked) c.self.invariant.table there
     ∙ ap (λ (s : RecordsState). finite.remove s.marks m) c.self.view_is

@@ -36,7 +36,8 @@ returns-in-Some-clause-grants c =
     let m = c.args.member.now in
     let cells = c.self.inside.table.cells in
     let after = c.clear_each.new.table.cells in
-    pairs_let_go (holders_of ms cells) (holders_of us after) m
+    ap pairs c.give_back.ensures
+    ∙ pairs_let_go (holders_of ms cells) (holders_of us after) m
     (LetsGo-taken ms us cells after m (Some c.in-Some.parts) c.self.invariant c.in-Some.ensures (freed cells after c.in-Some.parts c.clear_each.ensures))
     ∙ ap (λ h. grants_of_others (pairs h) m) c.self.view_is
 
@@ -47,9 +48,10 @@ returns-in-Some-clause-since c =
     let m = c.args.member.now in
     let cells = c.self.inside.table.cells in
     let after = c.clear_each.new.table.cells in
-    subst (λ h. KeepsSince h (holders_of us after)) c.self.view_is
+    subst (λ h. KeepsSince h c.give_back.new.self) c.self.view_is
+    (subst (KeepsSince (holders_of ms cells)) (sym c.give_back.ensures)
     (KeepsSince-let_go (holders_of ms cells) (holders_of us after) m
-    (LetsGo-taken ms us cells after m (Some c.in-Some.parts) c.self.invariant c.in-Some.ensures (freed cells after c.in-Some.parts c.clear_each.ensures)))
+    (LetsGo-taken ms us cells after m (Some c.in-Some.parts) c.self.invariant c.in-Some.ensures (freed cells after c.in-Some.parts c.clear_each.ensures))))
 
 pub returns-in_default-clause-grants : goal.returns-in_default-clause-grants
 returns-in_default-clause-grants c =

@@ -1,5 +1,6 @@
 use Rattle.std.proofs.Common.{rules, ◌≡◌, length, sym, ap, subst, ◌∙◌, to_z, of_z, w32}
-use Rattle.group_reconcile.specs.Tables.{IsWithin, KeepsRoom, cells_in, sizes_in}
+use Rattle.group_types.specs.Owners.{IsIndex}
+use Rattle.group_reconcile.specs.Tables.{KeepsRoom, cells_in, sizes_in}
 use Rattle.group_reconcile.proofs.Writes.{cells-grown, sizes-grown, room-grown, no_topic, on_ok}
 use Rattle.group_reconcile.proofs.table.Table.lengthen.Goals as goal
 use Rattle.group_reconcile.proofs.table.Table.lengthen.Goals.{in-Some, in-None}
@@ -29,7 +30,7 @@ returns-clause-room c =
           rw (w.result-is, w.self-inside-is)
           (on_ok w.add_blanks.result
           (λ far. room-grown c.self.inside.topics.entries (c.get_mut.follows.lender new).entries c.args.p.now old new follows.0 (sym w.in-Some.ensures.value) w.add_blanks.ensures.blanks.1
-          (subst (λ k. IsWithin k (length new.items)) index far))
+          (subst (λ k. IsIndex k (length new.items)) index far))
           w.add_blanks.ensures.far)
       | in-None w ↦
           absurd (no_topic c.self.inside.topics.entries c.args.self.now.sizes c.args.p.now.topic (ap (λ t. t.sizes) c.self.view_is) (sym w.in-None.ensures.value) c.requires.topic)
