@@ -9,7 +9,7 @@ use Rattle.coord_shards.specs.Home.{IsHome}
 use Rattle.coord_shards.specs.declared.event.Event.{Event}
 use Rattle.coord_shards.specs.Shard.{ShardState, kept_with, one_more}
 use Rattle.coord_shards.specs.Replay.{Replay, RunsTo}
-use Rattle.coord_shards.specs.Steps.{GoesOn}
+use Rattle.coord_shards.specs.Replay.{GoesOn}
 use Rattle.coord_shards.specs.Calls.{Shape, IsAnsweredInARun, IsTaken, Rises}
 use Rattle.coord_shards.specs.Seat.{SeatState, calls_of}
 

@@ -13,7 +13,7 @@ use Rattle.coord_shards.specs.Limits.{MOST_SEATS}
 use Rattle.coord_shards.specs.Events.{node_event}
 use Rattle.coord_shards.specs.Home.{IsHome}
 use Rattle.coord_shards.specs.Shard.{ShardState, kept_with, one_more}
-use Rattle.coord_shards.specs.Steps.{GoesOn}
+use Rattle.coord_shards.specs.Replay.{GoesOn}
 use Rattle.coord_shards.specs.Replay.{Replay, IsShard, RunsTo}
 
 -- a run, and one step behind it

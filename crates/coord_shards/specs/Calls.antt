@@ -1,5 +1,5 @@
 -- What a call of a seat comes to.
-use Rattle.std.specs.Prelude.{◌≡◌, ◌⊎◌, ◌+◌, ◌<◌, ℕ, List, ◌++◌, All, MatchOption}
+use Rattle.std.specs.Prelude.{◌≡◌, ◌+◌, ℕ, List, ◌++◌, All, MatchOption}
 use Rattle.coord_node.specs.declared.event.Answered.{Answered}
 use Rattle.coord_node.specs.Coordinator.{Coordinator, bytes_of}
 use Rattle.coord_node.specs.Coordinator as node
@@ -8,7 +8,6 @@ use Rattle.coord_node.specs.Steps.{Step}
 use Rattle.coord_shards.specs.declared.entry.Entry.{Entry}
 use Rattle.coord_shards.specs.declared.event.Event.{Event}
 use Rattle.coord_shards.specs.declared.event.Answer.{Answer}
-use Rattle.coord_shards.specs.Limits.{MOST_SHARDS, MOST_KEPT}
 use Rattle.coord_shards.specs.Events.{node_event, node_answer}
 use Rattle.coord_shards.specs.Home.{IsHome}
 use Rattle.coord_shards.specs.Shard.{kept_with, one_more}
@@ -55,7 +54,3 @@ pub record TakesFrame (shape : Shape) (old : SeatState) (event : Event) (kind : 
 -- of the seat's calls at a shard, and of all its calls, there is one more
 abbrev pub Rises : SeatState → ℕ → SeatState → Type 0
 Rises old home new = (new ≡ record old { by_shard = one_more old.by_shard home }) × (calls_of new ≡ calls_of old + 1)
-
--- fewer shards than 1 or more than may be, or a journal of more entries than it may keep
-abbrev pub IsBad : ℕ → ℕ → Type 0
-IsBad shards cap = (shards ≡ 0) ⊎ ((MOST_SHARDS < shards) ⊎ (MOST_KEPT < cap))

@@ -3,9 +3,6 @@ pub mod Events
 pub mod Home
 pub mod Shard
 pub mod Replay
-pub mod Steps
-pub mod ShardView
-pub mod Stored
 pub mod Faults
 pub mod Seat
 pub mod Calls

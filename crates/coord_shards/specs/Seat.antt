@@ -1,6 +1,7 @@
 -- What contracts see of a seat.
-use Rattle.std.specs.Prelude.{◌≡◌, ℕ, ◌-◌, ◌^◌, List, [], sum, slice_index}
+use Rattle.std.specs.Prelude.{◌≡◌, ℕ, ◌*◌, ◌-◌, ◌^◌, List, [], sum, slice_index}
 use Rattle.coord_shards.specs.declared.sent.Sent.{Sent}
+use Rattle.coord_shards.specs.Limits.{MOST_SEATS}
 
 -- its number, how many of its calls each shard took, and what was sent by these calls, where journals keep entries
 pub record SeatState : Type 0 where
@@ -11,6 +12,10 @@ pub record SeatState : Type 0 where
 -- the most calls of a seat (ours)
 abbrev pub most_calls : ℕ
 most_calls = 2 ^ 64 - 1
+
+-- the most calls of all seats, and so the most entries of a shard
+abbrev pub most_entries : ℕ
+most_entries = MOST_SEATS * most_calls
 
 -- how many of its calls were taken
 abbrev pub calls_of : SeatState → ℕ

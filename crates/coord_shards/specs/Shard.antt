@@ -14,10 +14,6 @@ pub record ShardState : Type 0 where
   pub kept : List Entry
   pub counts : List ℕ
 
--- what is kept of a list: at cap 0 nothing
-abbrev pub kept_of : {X : Type 0} → ℕ → List X → List X
-kept_of cap xs = if cap == 0 then [] else xs
-
 -- what is kept once one more comes behind what is kept
 abbrev pub kept_with : {X : Type 0} → ℕ → List X → X → List X
 kept_with cap kept x = if cap == 0 then kept else kept ++ x ∷ []

@@ -11,7 +11,11 @@ use crate::shard::Shard;
 use std::sync::ledger::Ledger;
 
 /// Whether all seats agree with all shards.
-pub(crate) fn all_agree<C: Ledger>(cap: usize, held: &[Held<C>], seats: &[Seat<C>]) -> bool
+pub(crate) fn all_agree<A: Ledger, C: Ledger>(
+    cap: usize,
+    held: &[Held<A, C>],
+    seats: &[Seat<C>],
+) -> bool
     ensures { IsTrue result ↔ (All (λ h. AgreesWithAll cap seats.now h.shard) held.now) }
 {
     held.iter()

@@ -15,19 +15,9 @@ use topic_meta::Image;
 /// An event on its way to its shard: all of it is lent, and a frame's body was read, once.
 #[derive(Drop)]
 pub(crate) enum Incoming<'a> {
-    Frame {
-        body: ParsedBody<'a>,
-        stamp: Stamp,
-        moment: Moment,
-    },
-    Tick {
-        shard: usize,
-        moment: Moment,
-    },
-    Image {
-        shard: usize,
-        image: &'a Image,
-    },
+    Frame(ParsedBody<'a>, Stamp, Moment),
+    Tick(usize, Moment),
+    Image(usize, &'a Image),
 }
 
 /// What became of an event. The bytes of a reply were appended.
@@ -49,19 +39,12 @@ impl<'a> Incoming<'a> {
                 body,
                 stamp,
                 moment,
-            } => Ok(Incoming::Frame {
-                body: ParsedBody::of(alloc, body.as_slice())?,
-                stamp: *stamp,
-                moment: *moment,
-            }),
-            Event::Tick { shard, moment } => Ok(Incoming::Tick {
-                shard: *shard,
-                moment: *moment,
-            }),
-            Event::Image { shard, image } => Ok(Incoming::Image {
-                shard: *shard,
-                image,
-            }),
+            } => {
+                let body = ParsedBody::of(alloc, body.as_slice())?;
+                Ok(Incoming::Frame(body, *stamp, *moment))
+            }
+            Event::Tick { shard, moment } => Ok(Incoming::Tick(*shard, *moment)),
+            Event::Image { shard, image } => Ok(Incoming::Image(*shard, image)),
         }
     }
 
@@ -70,20 +53,16 @@ impl<'a> Incoming<'a> {
         ensures { IfOk result (λ event. event ≡ event_of self.now) }
     {
         match self {
-            Incoming::Frame {
-                body,
-                stamp,
-                moment,
-            } => Ok(Event::Frame {
+            Incoming::Frame(body, stamp, moment) => Ok(Event::Frame {
                 body: Octets::of(Vec::from_slice(alloc, body.bytes())?),
                 stamp: *stamp,
                 moment: *moment,
             }),
-            Incoming::Tick { shard, moment } => Ok(Event::Tick {
+            Incoming::Tick(shard, moment) => Ok(Event::Tick {
                 shard: *shard,
                 moment: *moment,
             }),
-            Incoming::Image { shard, image } => Ok(Event::Image {
+            Incoming::Image(shard, image) => Ok(Event::Image {
                 shard: *shard,
                 image: image.copy()?,
             }),
@@ -97,11 +76,11 @@ impl<'a> Incoming<'a> {
         ensures there { result < shards }
     {
         match self {
-            Incoming::Frame { body, .. } => match body.group() {
+            Incoming::Frame(body, ..) => match body.group() {
                 Some(group) => shard_of_group(group, shards),
                 None => 0,
             },
-            Incoming::Tick { shard, .. } | Incoming::Image { shard, .. } => {
+            Incoming::Tick(shard, _) | Incoming::Image(shard, _) => {
                 shard_numbered(*shard, shards)
             }
         }
@@ -109,28 +88,19 @@ impl<'a> Incoming<'a> {
 
     /// Does at a node what the machine does at the event, and appends the bytes of the answer. Where memory is short nothing has
     /// changed.
-    pub(crate) fn act(
-        &self,
-        alloc: Global,
-        node: &mut Node,
-        out: &mut Vec<u8>,
-    ) -> Result<Outcome, AllocError>
+    pub(crate) fn act(&self, node: &mut Node, out: &mut Vec<u8>) -> Result<Outcome, AllocError>
         ensures acts { IfOk result (λ outcome. (given : GivenAnswer)
             × IsGiven outcome out.old.items out.new.items given
             × Step node.old (node_event (event_of self.now)) given node.new) }
         ensures err { OnErr result ((node.new ≡ node.old) × (out.new.items ≡ out.old.items)) }
     {
         match self {
-            Incoming::Frame {
-                body,
-                stamp,
-                moment,
-            } => {
-                let answered = node.answer_parsed(alloc, body, *stamp, *moment, out)?;
+            Incoming::Frame(body, stamp, moment) => {
+                let answered = node.answer_parsed(body, *stamp, *moment, out)?;
                 Ok(Outcome::Answered(answered))
             }
-            Incoming::Tick { moment, .. } => Ok(Outcome::Done(node.tick(*moment))),
-            Incoming::Image { image, .. } => {
+            Incoming::Tick(_, moment) => Ok(Outcome::Done(node.tick(*moment))),
+            Incoming::Image(_, image) => {
                 node.set_image(image.copy()?);
                 Ok(Outcome::Done(0))
             }

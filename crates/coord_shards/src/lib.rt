@@ -17,11 +17,11 @@ mod incoming;
 mod laws;
 pub mod limits;
 mod octets;
-mod opened;
 mod plan;
 mod registry;
 mod seat;
 mod sent;
+mod settle;
 mod shard;
 mod shards;
 

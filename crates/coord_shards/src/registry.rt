@@ -1,24 +1,21 @@
 //! The seats that are given out.
 ghost use Rattle.std.specs.Prelude.{◌≡◌, ◌+◌, ◌*◌, ◌<◌, IfSome};
 ghost use Rattle.coord_shards.specs.declared.limits.TheConstants.{MOST_SEATS};
-ghost use Rattle.coord_shards.specs.Seat.{most_calls};
+ghost use Rattle.coord_shards.specs.Seat.{most_calls, most_entries};
 
 use crate::limits::MOST_SEATS;
 use std::sync::ledger::{Book, Ledger, Share};
 
-/// How many seats are given out, and, for those that are left, a part each with the most calls of a seat.
-///
-/// The books say what all parts come to: those of the calls as many units as all seats can hand over, and those of the entries
-/// nothing.
+/// How many seats are given out, and, for those that are left, a part each with the most calls of a seat. Beside it is a share of
+/// the entries without any part, to which those of the shards come at the end.
 #[derive(Drop)]
 pub(crate) struct Registry<A: Ledger, C: Ledger> {
     pub(crate) given: usize,
     pub(crate) seats: Share<C>,
-    pub(crate) calls: Book<C>,
-    pub(crate) entries: Book<A>,
+    pub(crate) entries: Share<A>,
     pub(crate) ghost seats_left: { seats.parts + given ≡ MOST_SEATS },
     pub(crate) ghost calls_left: { seats.amount ≡ seats.parts * most_calls },
-    pub(crate) ghost all_calls: { calls.total ≡ MOST_SEATS * most_calls },
+    pub(crate) ghost no_entries: { (entries.parts ≡ 0) × (entries.amount ≡ 0) },
 }
 
 impl<A: Ledger, C: Ledger> Registry<A, C> {
@@ -36,11 +33,11 @@ impl<A: Ledger, C: Ledger> Registry<A, C> {
     }
 }
 
-/// Enters as many calls for a share as all seats can make.
-pub(crate) fn fill<C: Ledger>(book: &mut Book<C>, share: &mut Share<C>)
+/// Enters as many units for a share as all seats can make calls.
+pub(crate) fn fill<L: Ledger>(book: &mut Book<L>, share: &mut Share<L>)
     requires { 0 < share.old.parts }
-    ensures total { book.new.total ≡ book.old.total + MOST_SEATS * most_calls }
-    ensures amount { share.new.amount ≡ share.old.amount + MOST_SEATS * most_calls }
+    ensures total { book.new.total ≡ book.old.total + most_entries }
+    ensures amount { share.new.amount ≡ share.old.amount + most_entries }
     ensures parts { share.new.parts ≡ share.old.parts }
 {
     for _seat in 0..MOST_SEATS {

@@ -26,11 +26,12 @@ impl<C: Ledger> Model for Seat<C> {
     ghost use Rattle.std.specs.Prelude.{◌≡◌, ◌+◌, ◌<◌, sum, length};
     ghost use Rattle.coord_shards.specs.Limits.{MOST_SEATS, MOST_SHARDS};
     ghost use Rattle.coord_shards.specs.Seat.{SeatState, most_calls};
-    ghost use Rattle.coord_shards.specs.Stored.{seat_code};
+    ghost use Rattle.std.specs.Coded.{codes};
+    ghost use Rattle.topic_meta.specs.Stored.{topics_code};
 
     ghost Value = { SeatState };
 
-    ghost coded = { seat_code };
+    ghost coded = { Prim.hlevel (codes, topics_code) };
 
     ghost view = { λ s. record { number = s.number; by_shard = s.by_shard; sent = s.sent.items } };
 
@@ -129,16 +130,9 @@ impl<C: Ledger> Seat<C> {
         ensures amount { share.new.amount ≡ share.old.amount + 1 }
         ensures parts { share.new.parts ≡ share.old.parts }
     {
-        let Seat {
-            number: _,
-            calls,
-            by_shard,
-            sent: _,
-            share: own,
-        } = self;
-        own.transfer(share, 1);
-        by_shard[shard] += 1;
-        *calls += 1;
+        self.share.transfer(share, 1);
+        self.by_shard[shard] += 1;
+        self.calls += 1;
     }
 
     /// The share of the seat, with the calls that the seat could still make.
@@ -146,13 +140,6 @@ impl<C: Ledger> Seat<C> {
         ensures parts { result.parts ≡ 1 }
         ensures amount { result.amount + calls_of self ≡ most_calls }
     {
-        let Seat {
-            number: _,
-            calls: _,
-            by_shard: _,
-            sent: _,
-            share,
-        } = self;
-        share
+        self.share
     }
 }

@@ -1,11 +1,10 @@
 //! A node with its journal.
-ghost use Rattle.std.specs.Prelude.{◌≡◌, ◌↔◌, ◌<◌, ◌-◌, ◌^◌, IfOk, OnOk, OnErr, IsErr, IsTrue, slice_index};
+ghost use Rattle.std.specs.Prelude.{◌≡◌, ◌↔◌, ◌<◌, ◌-◌, ◌^◌, IfOk, OnOk, OnErr, IsErr, IsTrue, slice_index, sum};
 ghost use Rattle.coord_node.specs.Coordinator.{Answer as GivenAnswer};
 ghost use Rattle.coord_shards.specs.Events.{event_of, IsGiven};
 ghost use Rattle.coord_shards.specs.Home.{IsHome};
 ghost use Rattle.coord_shards.specs.Shard.{kept_with};
-ghost use Rattle.coord_shards.specs.Replay.{Replay};
-ghost use Rattle.coord_shards.specs.Steps.{IsOpening, IsFull, GoesOn, ShardStep};
+ghost use Rattle.coord_shards.specs.Replay.{Replay, IsFull, GoesOn, ShardStep};
 
 use crate::counts::no_counts;
 use crate::entry::Entry;
@@ -23,6 +22,7 @@ use std::marker::Model;
 /// entries are counted and not kept.
 #[derive(Drop)]
 pub struct Shard {
+    alloc: Global,
     number: usize,
     shards: usize,
     plan: Plan,
@@ -33,14 +33,15 @@ pub struct Shard {
 
 impl Model for Shard {
     ghost use Rattle.coord_shards.specs.Shard.{ShardState};
-    ghost use Rattle.coord_shards.specs.Stored.{shard_code};
+    ghost use Rattle.std.specs.Coded.{codes};
+    ghost use Rattle.topic_meta.specs.Stored.{topics_code};
+    ghost use Rattle.coord_node.specs.Stored.{coordinator_code};
 
     ghost Value = { ShardState };
 
-    ghost coded = { shard_code };
+    ghost coded = { Prim.hlevel (codes, coordinator_code, topics_code) };
 
-    ghost use Rattle.coord_shards.specs.ShardView.{shard_view};
-    ghost use Rattle.coord_shards.specs.Replay.{IsShard};
+    ghost use Rattle.coord_shards.specs.Replay.{IsShard, shard_view};
 
     ghost view = { shard_view };
 
@@ -51,9 +52,14 @@ impl Shard {
     /// The shard with a number, of so many, before anything came to it. Takes no memory.
     pub(crate) fn new(alloc: Global, number: usize, shards: usize, plan: Plan) -> Shard
         requires { number < shards }
-        ensures { IsOpening number shards plan.salt plan.cap result }
+        ensures number { result.number ≡ number }
+        ensures shards { result.shards ≡ shards }
+        ensures salt { result.salt ≡ plan.salt }
+        ensures cap { result.cap ≡ plan.cap }
+        ensures none { sum result.counts ≡ 0 }
     {
         Shard {
+            alloc,
             number,
             shards,
             plan,
@@ -110,18 +116,18 @@ impl Shard {
     ///
     /// Refused where memory is short, where the journal has as many entries as its cap, and where the seat's count is at its
     /// greatest. Then nothing has changed.
-    pub fn step(&mut self, alloc: Global, seat: usize, event: Event) -> Answer
+    pub fn step(&mut self, seat: usize, event: Event) -> Answer
         requires seat { seat < MOST_SEATS }
         requires home { IsHome self.old.shards event self.old.number }
         ensures step { ShardStep self.old (record { seat = seat; event = event }) result self.new }
         ensures full { IsFull self.old → result ≡ Answer.Refused }
         ensures spent { slice_index self.old.counts seat ≡ 2 ^ 64 - 1 → result ≡ Answer.Refused }
     {
-        let mut out = Vec::new(alloc);
-        let Ok(event) = Incoming::of(alloc, &event) else {
+        let mut out = Vec::new(self.alloc);
+        let Ok(event) = Incoming::of(self.alloc, &event) else {
             return Answer::Refused;
         };
-        match self.take(alloc, seat, &event, &mut out) {
+        match self.take(seat, &event, &mut out) {
             Ok(outcome) => Answer::of(outcome, out),
             Err(_) => Answer::Refused,
         }
@@ -131,7 +137,6 @@ impl Shard {
     /// where the journal keeps entries, and before the node's step. Fails where [`Shard::step`] refuses.
     pub(crate) fn take(
         &mut self,
-        alloc: Global,
         seat: usize,
         event: &Incoming<'_>,
         out: &mut Vec<u8>,
@@ -149,8 +154,8 @@ impl Shard {
             return Err(AllocError);
         }
         let kept = self.journal.len();
-        keep(alloc, &mut self.journal, self.plan.cap, seat, event)?;
-        match event.act(alloc, &mut self.node, out) {
+        keep(self.alloc, &mut self.journal, self.plan.cap, seat, event)?;
+        match event.act(&mut self.node, out) {
             Ok(outcome) => {
                 self.counts[seat] += 1;
                 Ok(outcome)

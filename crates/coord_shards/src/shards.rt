@@ -1,8 +1,8 @@
 //! Shards behind locks.
-ghost use Rattle.std.specs.Prelude.{◌≡◌, ◌⊎◌, ◌↔◌, ◌+◌, ◌<◌, ◌≤◌, ◌^◌, ℕ, IfOk, IfErr, OnOk, OnErr, IsErrOf, vec_len};
+ghost use Rattle.std.specs.Prelude.{◌≡◌, ◌⊎◌, ◌↔◌, ◌+◌, ◌*◌, ◌<◌, ◌≤◌, ◌^◌, ℕ, IfOk, IfErr, OnOk, OnErr, IsErrOf, vec_len};
 ghost use Rattle.coord_shards.specs.Home.{IsHome};
-ghost use Rattle.coord_shards.specs.Seat.{IsNewSeat, calls_of};
-ghost use Rattle.coord_shards.specs.Calls.{SeatCalls, TakesFrame, IsTaken, IsAnsweredInARun, Rises, IsBad};
+ghost use Rattle.coord_shards.specs.Seat.{IsNewSeat, calls_of, most_entries};
+ghost use Rattle.coord_shards.specs.Calls.{SeatCalls, TakesFrame, IsTaken, IsAnsweredInARun, Rises};
 ghost use Rattle.coord_shards.specs.Events.{event_of, IsGiven};
 ghost use Rattle.coord_node.specs.Coordinator.{Answer as GivenAnswer};
 
@@ -20,7 +20,7 @@ use coord_node::{Answered, Moment, ParsedBody, Stamp};
 use std::alloc::{AllocError, Global};
 use std::collections::hash_map::RandomState;
 use std::marker::Model;
-use std::sync::ledger::{Blank, Ledger, Share};
+use std::sync::ledger::{Blank, Book, Ledger, Share, Total};
 use std::sync::{Mutex, Wait};
 
 /// So many shards, each behind a lock of its own.
@@ -28,34 +28,40 @@ use std::sync::{Mutex, Wait};
 /// Threads share them by reference, each with a [`Seat`]. What a call does to a shard is one [`Shard::step`] under its lock;
 /// no other lock is taken for it.
 ///
-/// The ledgers `A` and `C` exist in proofs alone. They tell these shards from others, so that no seat of others fits. A unit of `C`
-/// is a call: each seat is given as many as it can make, a call hands one over to its shard, and their sum says at the end that
-/// there are as many entries as calls. `A` is kept, so that no other shards have its name, and counts nothing.
+/// The ledgers exist in proofs alone. `A` counts entries: each shard has a unit of it for each entry that it may make, and enters it
+/// with the entry. `C` counts calls: each seat has a unit of it for each call that it can make, and hands it over to its shard with
+/// the call. At the end both are put together, and say that there are as many entries as calls. They also tell these shards from
+/// others, so that no seat of others fits.
 #[derive(Drop)]
 pub struct Shards<A: Ledger, C: Ledger, G> {
-    pub(crate) shards: Vec<Mutex<Held<C>>>,
+    pub(crate) shards: Vec<Mutex<Held<A, C>>>,
     pub(crate) registry: Mutex<Registry<A, C>>,
+    pub(crate) entries: Total<A>,
+    pub(crate) calls: Total<C>,
     pub(crate) plan: Plan,
     pub(crate) gate: G,
 }
 
 impl<A: Ledger, C: Ledger, G> Model for Shards<A, C, G> {
-    ghost use Rattle.std.specs.Prelude.{◌<◌, ◌≤◌, vec_len};
-    ghost use Rattle.coord_shards.specs.Limits.{MOST_SHARDS};
+    ghost use Rattle.std.specs.Prelude.{◌≡◌, ◌+◌, ◌*◌, ◌<◌, ◌≤◌, vec_len};
+    ghost use Rattle.coord_shards.specs.Limits.{MOST_SHARDS, MOST_SEATS};
+    ghost use Rattle.coord_shards.specs.Seat.{most_entries};
     ghost use Rattle.coord_shards.specs.Calls.{Shape};
 
     ghost Value = { Shape };
 
     ghost view = { λ s. record { shards = vec_len s.shards; salt = s.plan.salt; cap = s.plan.cap } };
 
-    ghost invariant = { λ s. (0 < vec_len s.shards) × (vec_len s.shards ≤ MOST_SHARDS) };
+    ghost invariant = { λ s. (0 < vec_len s.shards) × (vec_len s.shards ≤ MOST_SHARDS)
+        × (s.entries.parts ≡ 2 * vec_len s.shards) × (s.entries.amount ≡ vec_len s.shards * most_entries)
+        × (s.calls.parts ≡ MOST_SEATS + vec_len s.shards) × (s.calls.amount ≡ most_entries) };
 }
 
 impl<A: Ledger, C: Ledger, G> Shards<A, C, G> {
     /// So many shards, of which none has met an event: 1 to 64 of them, with a journal of at most 65,536 entries each.
     ///
-    /// The blanks become the ledgers: that of the calls has one part for each seat there can be and one for each shard, and that
-    /// of the entries any number, since nothing is counted in it.
+    /// The blanks become the ledgers: that of the entries has two parts for each shard, and that of the calls one part for each
+    /// shard and one for each seat that there can be.
     pub fn new(
         alloc: Global,
         shards: usize,
@@ -68,31 +74,33 @@ impl<A: Ledger, C: Ledger, G> Shards<A, C, G> {
     ) -> Result<Shards<A, C, G>, ShardFault>
     where
         G: Drop,
-        requires entries { (entries.name ≡ A.name) × (entries.parts ≡ A.parts) }
+        requires entries { (entries.name ≡ A.name) × (entries.parts ≡ A.parts) × (entries.parts ≡ 2 * shards) }
         requires calls { (calls.name ≡ C.name) × (calls.parts ≡ C.parts) × (calls.parts ≡ MOST_SEATS + shards) }
         ensures shape { IfOk result (λ made. made ≡ record { shards = shards; salt = salt; cap = cap }) }
-        ensures bad { IsBad shards cap ↔ IsErrOf result ShardFault.BadNumber }
+        ensures bad { (shards ≡ 0) ⊎ ((MOST_SHARDS < shards) ⊎ (MOST_KEPT < cap)) ↔ IsErrOf result ShardFault.BadNumber }
         ensures faults { IfErr result (λ fault. (fault ≡ ShardFault.BadNumber) ⊎ (fault ≡ ShardFault.NoMemory)) }
     {
         if shards == 0 || MOST_SHARDS < shards || MOST_KEPT < cap {
             return Err(ShardFault::BadNumber);
         }
         let plan = Plan { salt, cap, hasher };
-        let (entries, _) = entries.open::<A>();
+        let (mut entries, mut rest) = entries.open::<A>();
         let (mut calls, mut seats) = calls.open::<C>();
         fill(&mut calls, &mut seats);
-        let Ok(held) = locked(alloc, shards, plan, &mut seats) else {
+        let made = locked(alloc, shards, plan, &mut entries, &mut rest, &mut seats);
+        let Ok(made) = made else {
             return Err(ShardFault::NoMemory);
         };
         let registry = Registry {
             given: 0,
             seats,
-            calls,
-            entries,
+            entries: rest,
         };
         Ok(Shards {
-            shards: held,
+            shards: made,
             registry: Mutex::new(registry),
+            entries: entries.close(),
+            calls: calls.close(),
             plan,
             gate,
         })
@@ -166,11 +174,7 @@ impl<A: Ledger, C: Ledger, G> Shards<A, C, G> {
         ensures err { OnErr result ((seat.new ≡ seat.old) × (out.new.items ≡ out.old.items)) }
     {
         let body = ParsedBody::of(alloc, body)?;
-        let event = Incoming::Frame {
-            body,
-            stamp,
-            moment,
-        };
+        let event = Incoming::Frame(body, stamp, moment);
         match self.take(rt, alloc, seat, &event, out)? {
             Outcome::Answered(answered) => Ok(answered),
             Outcome::Done(_) => unreachable!(),
@@ -197,7 +201,7 @@ impl<A: Ledger, C: Ledger, G> Shards<A, C, G> {
         let number = event.home(self.shards.len());
         let sent = seat.sent().len();
         seat.note(alloc, self.plan.cap, number, event)?;
-        let taken = self.take_at(rt, alloc, number, seat, event, out);
+        let taken = self.take_at(rt, number, seat, event, out);
         if taken.is_err() {
             seat.forget(sent);
         }
@@ -208,7 +212,6 @@ impl<A: Ledger, C: Ledger, G> Shards<A, C, G> {
     fn take_at<R: Wait>(
         &self,
         rt: &R,
-        alloc: Global,
         number: usize,
         seat: &mut Seat<C>,
         event: &Incoming<'_>,
@@ -234,28 +237,38 @@ impl<A: Ledger, C: Ledger, G> Shards<A, C, G> {
             return Err(AllocError);
         }
         self.gate.inside(number);
-        held.take(alloc, seat, event, out)
+        held.take(seat, event, &self.calls, out)
     }
 }
 
-/// So many new shards behind locks, each with one part of a share that has a part for each seat beside them, and nothing of its
-/// amount.
-fn locked<C: Ledger>(
+/// So many new shards behind locks. Each has two parts of the entries' ledger, one of which is filled with as many entries as all seats
+/// can make calls, and one empty part of the calls' ledger, which has a part for each seat beside them.
+fn locked<A: Ledger, C: Ledger>(
     alloc: Global,
     shards: usize,
     plan: Plan,
-    parts: &mut Share<C>,
-) -> Result<Vec<Mutex<Held<C>>>, AllocError>
-    requires { parts.old.parts ≡ MOST_SEATS + shards }
+    book: &mut Book<A>,
+    entries: &mut Share<A>,
+    calls: &mut Share<C>,
+) -> Result<Vec<Mutex<Held<A, C>>>, AllocError>
+    requires entries { (entries.old.parts ≡ 2 * shards) × (entries.old.amount ≡ 0) }
+    requires calls { calls.old.parts ≡ MOST_SEATS + shards }
     ensures number { IfOk result (λ made. vec_len made ≡ shards) }
-    ensures parts { OnOk result (parts.new.parts ≡ MOST_SEATS) }
-    ensures amount { OnOk result (parts.new.amount ≡ parts.old.amount) }
+    ensures book { OnOk result (book.new.total ≡ book.old.total + shards * most_entries) }
+    ensures entries { OnOk result ((entries.new.parts ≡ 0) × (entries.new.amount ≡ 0)) }
+    ensures calls { OnOk result ((calls.new.parts ≡ MOST_SEATS) × (calls.new.amount ≡ calls.old.amount)) }
 {
     let mut made = Vec::with_capacity(alloc, shards)?;
     for number in 0..shards {
         let shard = Shard::new(alloc, number, shards, plan);
-        let share = parts.split_off(1, 0);
-        made.push(Mutex::new(Held { shard, share }))?;
+        let mut left = entries.split_off(1, 0);
+        fill(book, &mut left);
+        made.push(Mutex::new(Held {
+            shard,
+            left,
+            entered: entries.split_off(1, 0),
+            calls: calls.split_off(1, 0),
+        }))?;
     }
     Ok(made)
 }

@@ -4,8 +4,8 @@ use Rattle.coord_shards.specs.declared.entry.Entry.{Entry}
 use Rattle.coord_shards.specs.Events.{event_of, IsGiven}
 use Rattle.coord_shards.specs.Home.{IsHome}
 use Rattle.coord_shards.specs.Shard.{ShardState, one_more}
-use Rattle.coord_shards.specs.ShardView.{shard_view}
-use Rattle.coord_shards.specs.Steps.{IsFull, GoesOn}
+use Rattle.coord_shards.specs.Replay.{shard_view}
+use Rattle.coord_shards.specs.Replay.{IsFull, GoesOn}
 use Rattle.coord_shards.specs.Replay.{IsShard}
 use Rattle.coord_shards.proofs.StepLemmas.{taken-is, room-is, take-kept_with}
 use Rattle.coord_shards.proofs.shard.Shard.take.Goals as goal

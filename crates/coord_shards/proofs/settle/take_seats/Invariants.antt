@@ -1,6 +1,6 @@
 use Rattle.std.proofs.Common.{◌≡◌, ◌+◌, ◌*◌, sum_by, vec_len}
 use Rattle.coord_shards.specs.Seat.{calls_of, most_calls}
-use Rattle.coord_shards.proofs.opened.take_seats.Given as goal
+use Rattle.coord_shards.proofs.settle.take_seats.Given as goal
 
 abbrev pub invariant-loop-seat : goal.invariant-loop-seat
 invariant-loop-seat g l =

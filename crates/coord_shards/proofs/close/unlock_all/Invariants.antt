@@ -1,5 +1,5 @@
 use Rattle.std.proofs.Common.{◌≡◌, ◌+◌, ◌≤◌, vec_len, vec_capacity}
-use Rattle.coord_shards.proofs.opened.unlock_all.Given as goal
+use Rattle.coord_shards.proofs.close.unlock_all.Given as goal
 
 abbrev pub invariant-loop-lock : goal.invariant-loop-lock
 invariant-loop-lock g l =
