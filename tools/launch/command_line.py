@@ -111,6 +111,7 @@ SUBCOMMANDS = (
                 "SECONDS",
                 86_400,
             ),
+            Option("log", "Tells on standard error of each connection that has closed"),
         ),
         takes_topics=True,
     ),

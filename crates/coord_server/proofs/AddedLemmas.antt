@@ -1,11 +1,6 @@
 -- What was made and added to a list.
-use Rattle.std.proofs.Common.{◌≡◌, ◌∙◌, ap, sym, List, [], ◌∷◌, ◌++◌, map, Result, Ok, Err, IsOkAnd, IfOk, OnOk}
+use Rattle.std.proofs.Common.{◌≡◌, ◌∙◌, ap, sym, List, [], ◌∷◌, ◌++◌, map, Result, Ok, Err, IsOkAnd, IfOk}
 use Rattle.std.proofs.lemmas.List.{map-append}
-
--- what holds where something was made
-pub on_made : {T E : Type 0} (P : Type 0) (made : Result T E) (old new : List T) → IsOkAnd made (λ x. new ≡ old ++ x ∷ []) → OnOk made P → P
-on_made P (Ok x) old new added given = given
-on_made P (Err e) old new added given = absurd added
 
 -- what was made has the property of what it was made of, and so has the list with it
 pub one_more : {T E A B : Type 0} (f : T → B) (g : A → B) (made : Result T E) (old new : List T) (yielded : List A) (a : A)

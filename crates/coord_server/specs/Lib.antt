@@ -4,4 +4,5 @@ pub mod Interrupted
 pub mod Plans
 pub mod Posts
 pub mod Rounds
+pub mod Silences
 pub mod Ticks

@@ -1,5 +1,6 @@
 //! Connections that are at no event loop yet.
-ghost use Rattle.std.specs.Prelude.{◌≡◌, Ok};
+ghost use Rattle.std.specs.Prelude.{◌≡◌, ◌*◌, ◌-◌, ◌^◌, min, Ok, IfOk, IfSome, IsSome, IsSomeAnd};
+ghost use Rattle.std.specs.Duration.{as_nanos};
 
 use crate::retried::Retried;
 use crate::silence::{Limited, Silence};
@@ -17,11 +18,15 @@ pub trait Connection<I, O>: Drop {
 }
 
 /// What is read of a socket, and what is written.
-pub type SocketReader<'a, R> = Counted<Limited<'a, Retried<OwnedReadHalf>, R>>;
+pub type SocketReader<'a, R> = Limited<'a, Counted<Retried<OwnedReadHalf>>, R>;
 
-pub type SocketWriter = Counted<Retried<OwnedWriteHalf>>;
+pub type SocketWriter<'a, R> = Counted<Limited<'a, Retried<OwnedWriteHalf>, R>>;
 
-/// A socket, and after how many seconds it is closed that it brings no byte.
+/// Those of a reader and of a writer.
+type Silences<'a, R> = (Option<Silence<'a, R>>, Option<Silence<'a, R>>);
+
+/// A socket, and after how many seconds it is closed that it brings no byte. One whose client takes no byte of a reply for twice as
+/// long is closed too.
 #[derive(Drop)]
 pub struct Socket<'a, R> {
     pub stream: TcpStream,
@@ -30,24 +35,41 @@ pub struct Socket<'a, R> {
     pub idle: Option<u64>,
 }
 
-/// It has TCP_NODELAY, since a reply is not to wait for the next one. Its silence begins here.
-impl<'a, R: Clock> Connection<SocketReader<'a, R>, SocketWriter> for Socket<'a, R> {
-    fn open(self, handle: &Handle) -> io::Result<(SocketReader<'a, R>, SocketWriter)> {
-        let Socket {
-            stream,
-            clock,
-            idle,
-        } = self;
-        let silence = match idle {
-            Some(seconds) => Some(Silence::begin(clock, handle.time(), seconds)?),
-            None => None,
+impl<'a, R: Clock> Socket<'a, R> {
+    /// The silences of its reader and of its writer, which has twice as long.
+    fn silences(&self, handle: &Handle) -> io::Result<Silences<'a, R>> {
+        let reads = self.silence(handle, 1)?;
+        let writes = self.silence(handle, 2)?;
+        Ok((reads, writes))
+    }
+
+    /// A silence of so many times the seconds, where it is closed for any.
+    fn silence(&self, handle: &Handle, times: u64) -> io::Result<Option<Silence<'a, R>>>
+        ensures { IfOk result (λ silence. (IsSome silence → IsSome self.now.idle) × IfSome self.now.idle (λ seconds.
+            IsSomeAnd silence (λ silence. as_nanos silence.longest ≡ min (seconds * times) (2 ^ 64 - 1) * 1_000_000_000))) }
+    {
+        let Some(seconds) = self.idle else {
+            return Ok(None);
         };
-        let stream = tokio::net::TcpStream::from_std(stream, handle.reactor())?;
-        stream.set_nodelay(true)?;
-        let (reader, writer) = stream.into_split()?;
+        let seconds = seconds.saturating_mul(times);
+        Ok(Some(Silence::new(self.clock, handle.time(), seconds)?))
+    }
+}
+
+/// The halves of a socket at the event loop of a handle. It has TCP_NODELAY, since a reply is not to wait for the next one.
+fn halves_of(stream: TcpStream, handle: &Handle) -> io::Result<(OwnedReadHalf, OwnedWriteHalf)> {
+    let stream = tokio::net::TcpStream::from_std(stream, handle.reactor())?;
+    stream.set_nodelay(true)?;
+    Ok(stream.into_split()?)
+}
+
+impl<'a, R: Clock> Connection<SocketReader<'a, R>, SocketWriter<'a, R>> for Socket<'a, R> {
+    fn open(self, handle: &Handle) -> io::Result<(SocketReader<'a, R>, SocketWriter<'a, R>)> {
+        let (reads, writes) = self.silences(handle)?;
+        let (reader, writer) = halves_of(self.stream, handle)?;
         Ok((
-            Counted::new(Limited::new(Retried::new(reader), silence)),
-            Counted::new(Retried::new(writer)),
+            Limited::new(Counted::new(Retried::new(reader)), reads),
+            Counted::new(Limited::new(Retried::new(writer), writes)),
         ))
     }
 }

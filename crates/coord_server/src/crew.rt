@@ -1,5 +1,5 @@
 //! The workers and the expiry workers of a server, before their threads are there.
-ghost use Rattle.std.specs.Prelude.{◌≡◌, ◌+◌, vec_len, IfOk, OnOk};
+ghost use Rattle.std.specs.Prelude.{◌≡◌, ◌+◌, [], vec_len, IfOk, OnOk};
 ghost use Rattle.coord_server.specs.Posts.{ArePosts};
 
 use crate::added::add;
@@ -18,7 +18,7 @@ use std::alloc::{AllocGlobal, Global};
 use std::net::Net;
 use std::random::RandomSource;
 use std::time::Clock;
-use tokio::runtime::LocalRuntime;
+use tokio::runtime::{Handle, LocalRuntime};
 
 /// The workers and the expiry workers of a server, each with a loop of its own.
 #[derive(Drop)]
@@ -67,13 +67,58 @@ where
     ensures placed { IfOk result (λ made. ArePosts (vec_len desks) made.0.items) }
     ensures workers { IfOk result (λ made. vec_len made.1 ≡ vec_len desks) }
 {
-    let number = desks.len();
     let mut posts = Vec::new(rt.alloc());
+    let workers = workers_behind(rt, desks, &mut posts, bell)?;
+    Ok((posts, workers))
+}
+
+/// The workers at these desks. The ways of connections to them are put where there is none yet.
+fn workers_behind<'a, D, R, K, I, O>(
+    rt: &R,
+    desks: Vec<D>,
+    posts: &mut Vec<Post<K>>,
+    bell: &'a Bell,
+) -> Result<Vec<OwnLoop<'a, Works<K, I, O, D>>>, ServerFault>
+where
+    D: Desk,
+    R: Clock + Net + RandomSource + AllocGlobal,
+    K: Connection<I, O>,
+    I: ReadPart,
+    O: WriteParts,
+    requires { posts.old.items ≡ [] }
+    ensures posts { OnOk result (vec_len posts.new ≡ vec_len desks) }
+    ensures placed { OnOk result (ArePosts (vec_len desks) posts.new.items) }
+    ensures workers { IfOk result (λ workers. vec_len workers ≡ vec_len desks) }
+{
+    let number = desks.len();
     let mut workers = Vec::new(rt.alloc());
     for desk in desks {
-        add(&mut workers, worker_of(rt, desk, &mut posts, number, bell))?;
+        add_worker(rt, desk, posts, &mut workers, number, bell)?;
     }
-    Ok((posts, workers))
+    Ok(workers)
+}
+
+/// Adds the worker at a desk to those to whom the ways lead, of so many. The way of connections to it is put behind theirs.
+fn add_worker<'a, D, R, K, I, O>(
+    rt: &R,
+    desk: D,
+    posts: &mut Vec<Post<K>>,
+    workers: &mut Vec<OwnLoop<'a, Works<K, I, O, D>>>,
+    number: usize,
+    bell: &'a Bell,
+) -> Result<(), ServerFault>
+where
+    D: Desk,
+    R: Clock + Net + RandomSource + AllocGlobal,
+    K: Connection<I, O>,
+    I: ReadPart,
+    O: WriteParts,
+    ensures more { OnOk result (vec_len posts.new ≡ vec_len posts.old + 1) }
+    ensures added { OnOk result (vec_len workers.new ≡ vec_len workers.old + 1) }
+    ensures placed { ArePosts number posts.old.items → OnOk result (ArePosts number posts.new.items) }
+{
+    let worker = worker_of(rt, desk, posts, number, bell)?;
+    Ok(workers.push(worker)?)
 }
 
 /// The worker at a desk that follows those to whom the ways lead, of so many. The way of connections to it is put behind theirs.
@@ -114,12 +159,34 @@ where
     ensures more { OnOk result (vec_len posts.new ≡ vec_len posts.old + 1) }
     ensures placed { ArePosts workers posts.old.items → OnOk result (ArePosts workers posts.new.items) }
 {
-    match arrivals_of(alloc, runtime.handle(), posts, workers) {
-        Ok(arrivals) => Ok(OwnLoop {
+    match works_of(alloc, runtime.handle(), desk, posts, workers) {
+        Ok(future) => Ok(OwnLoop {
             runtime,
-            future: Works::new(alloc, arrivals, desk),
+            future,
             bell,
         }),
+        Err(fault) => Err(fault),
+    }
+}
+
+/// What the worker does.
+fn works_of<D, K, I, O>(
+    alloc: Global,
+    handle: &Handle,
+    desk: D,
+    posts: &mut Vec<Post<K>>,
+    workers: usize,
+) -> Result<Works<K, I, O, D>, ServerFault>
+where
+    D: Desk,
+    K: Connection<I, O>,
+    I: ReadPart,
+    O: WriteParts,
+    ensures more { OnOk result (vec_len posts.new ≡ vec_len posts.old + 1) }
+    ensures placed { ArePosts workers posts.old.items → OnOk result (ArePosts workers posts.new.items) }
+{
+    match arrivals_of(alloc, handle, posts, workers) {
+        Ok(arrivals) => Ok(Works::new(alloc, arrivals, desk)),
         Err(fault) => Err(fault),
     }
 }

@@ -5,34 +5,47 @@ ghost use Rattle.coord_shards.specs.Calls.{IsTaken, SeatCalls};
 ghost use Rattle.coord_shards.specs.Seat.{IsNewSeat};
 ghost use Rattle.coord_server.specs.Rounds.{CallsEach, TellsEach};
 
+use crate::log::EndLog;
 use crate::timed::Timed;
 use coord_node::Answered;
 use coord_shards::{Answer, Event, Gate, Image, Moment, Seat, ShardFault, Shards, Stamp};
-use link_futures::{Desk, Moments};
+use link_futures::{Desk, End, Moments};
 use std::alloc::{AllocError, Global};
+use std::io::Write;
 use std::sync::Wait;
 use std::sync::ledger::Ledger;
 
-/// A desk that answers frames by calls of shards, from a seat of its own, and asks for the moment of each frame.
+/// A desk that answers frames by calls of shards, from a seat of its own, and asks for the moment of each frame. It logs the ends of
+/// connections.
 ///
 /// A call that the shards refuse is want of memory: with a cap of 0 no journal is full.
 #[derive(Drop)]
-pub struct ShardsDesk<'a, A: Ledger, C: Ledger, G, M, R> {
+pub struct ShardsDesk<'a, A: Ledger, C: Ledger, G, M, R, W> {
     shards: &'a Shards<A, C, G>,
     seat: Seat<C>,
     moments: M,
+    log: &'a EndLog<W>,
     rt: &'a R,
     alloc: Global,
 }
 
-impl<'a, A: Ledger, C: Ledger, G: Gate, M: Moments, R: Wait> ShardsDesk<'a, A, C, G, M, R> {
+impl<'a, A: Ledger, C: Ledger, G: Gate, M: Moments, R: Wait, W: Write> ShardsDesk<
+    'a,
+    A,
+    C,
+    G,
+    M,
+    R,
+    W,
+> {
     /// A desk over shards, with a new seat.
     pub fn new(
         rt: &'a R,
         alloc: Global,
         shards: &'a Shards<A, C, G>,
         moments: M,
-    ) -> Result<ShardsDesk<'a, A, C, G, M, R>, ShardFault>
+        log: &'a EndLog<W>,
+    ) -> Result<ShardsDesk<'a, A, C, G, M, R, W>, ShardFault>
         ensures seat { IfOk result (λ desk. IsNewSeat desk.seat.number desk.seat) }
         ensures shards { IfOk result (λ desk. desk.shards.now ≡ shards.now) }
         ensures moments { IfOk result (λ desk. desk.moments ≡ moments) }
@@ -43,6 +56,7 @@ impl<'a, A: Ledger, C: Ledger, G: Gate, M: Moments, R: Wait> ShardsDesk<'a, A, C
             shards,
             seat,
             moments,
+            log,
             rt,
             alloc,
         })
@@ -94,8 +108,8 @@ impl<'a, A: Ledger, C: Ledger, G: Gate, M: Moments, R: Wait> ShardsDesk<'a, A, C
     }
 }
 
-impl<'a, A: Ledger, C: Ledger, G: Gate, M: Moments, R: Wait> Desk
-    for ShardsDesk<'a, A, C, G, M, R> {
+impl<'a, A: Ledger, C: Ledger, G: Gate, M: Moments, R: Wait, W: Write> Desk
+    for ShardsDesk<'a, A, C, G, M, R, W> {
     ghost use Rattle.coord_server.specs.Desks.{ShardsAnswer, ShardsLack};
 
     ghost answers = { λ d body stamp answer e. (e.shards ≡ d.shards) × ShardsAnswer M.hands d.shards.now d.seat d.moments body stamp answer e.seat e.moments };
@@ -124,10 +138,15 @@ impl<'a, A: Ledger, C: Ledger, G: Gate, M: Moments, R: Wait> Desk
     fn may_send(&self, stamp: Stamp) -> bool {
         self.shards.gate().may_reply(stamp)
     }
+
+    /// Writes the line of the log.
+    fn hear_end(&self, connection: u64, answered: u64, end: End) {
+        self.log.tell(self.rt, connection, answered, end);
+    }
 }
 
-impl<'a, A: Ledger, C: Ledger, G: Gate, M: Moments, R: Wait> Timed
-    for ShardsDesk<'a, A, C, G, M, R> {
+impl<'a, A: Ledger, C: Ledger, G: Gate, M: Moments, R: Wait, W: Write> Timed
+    for ShardsDesk<'a, A, C, G, M, R, W> {
     ghost use Rattle.coord_shards.specs.declared.event.Event.TheVariants.{Tick};
 
     ghost hands = { λ d moment e. M.hands d.moments moment e.moments × (e ≡ record d { moments = e.moments }) };

@@ -5,10 +5,12 @@ ghost use Rattle.coord_server.specs.Plans.{IsPlanned};
 use crate::added::add;
 use crate::desk::ShardsDesk;
 use crate::fault::ServerFault;
+use crate::log::EndLog;
 use crate::plan::Plan;
 use coord_shards::{Gate, Shards};
 use link_futures::Moments;
 use std::alloc::AllocGlobal;
+use std::io::Write;
 use std::sync::Wait;
 use std::sync::ledger::Ledger;
 
@@ -20,60 +22,66 @@ pub struct Desks<D> {
 }
 
 /// As many desks over shards as a plan asks for, each with a seat of its own.
-pub fn desks_of<'a, A, C, G, M, R>(
+pub fn desks_of<'a, A, C, G, M, R, W>(
     rt: &'a R,
     shards: &'a Shards<A, C, G>,
     moments: &M,
     plan: Plan,
-) -> Result<Desks<ShardsDesk<'a, A, C, G, M, R>>, ServerFault>
+    log: &'a EndLog<W>,
+) -> Result<Desks<ShardsDesk<'a, A, C, G, M, R, W>>, ServerFault>
 where
     A: Ledger,
     C: Ledger,
     G: Gate,
     M: Moments + Clone,
     R: Wait + AllocGlobal,
+    W: Write,
     ensures { IfOk result (λ desks. IsPlanned plan (vec_len desks.workers) (vec_len desks.clocks)) }
 {
-    let workers = so_many(rt, shards, moments, plan.workers)?;
-    let clocks = so_many(rt, shards, moments, plan.clocks())?;
+    let workers = so_many(rt, shards, moments, plan.workers, log)?;
+    let clocks = so_many(rt, shards, moments, plan.clocks(), log)?;
     Ok(Desks { workers, clocks })
 }
 
 /// So many desks over shards, each with a seat of its own.
-fn so_many<'a, A, C, G, M, R>(
+fn so_many<'a, A, C, G, M, R, W>(
     rt: &'a R,
     shards: &'a Shards<A, C, G>,
     moments: &M,
     number: usize,
-) -> Result<Vec<ShardsDesk<'a, A, C, G, M, R>>, ServerFault>
+    log: &'a EndLog<W>,
+) -> Result<Vec<ShardsDesk<'a, A, C, G, M, R, W>>, ServerFault>
 where
     A: Ledger,
     C: Ledger,
     G: Gate,
     M: Moments + Clone,
     R: Wait + AllocGlobal,
+    W: Write,
     ensures { IfOk result (λ desks. vec_len desks ≡ number) }
 {
     let mut desks = Vec::new(rt.alloc());
     for _ in 0..number {
-        add(&mut desks, desk_of(rt, shards, moments))?;
+        add(&mut desks, desk_of(rt, shards, moments, log))?;
     }
     Ok(desks)
 }
 
 /// A desk over shards, with a seat of its own.
-fn desk_of<'a, A, C, G, M, R>(
+fn desk_of<'a, A, C, G, M, R, W>(
     rt: &'a R,
     shards: &'a Shards<A, C, G>,
     moments: &M,
-) -> Result<ShardsDesk<'a, A, C, G, M, R>, ServerFault>
+    log: &'a EndLog<W>,
+) -> Result<ShardsDesk<'a, A, C, G, M, R, W>, ServerFault>
 where
     A: Ledger,
     C: Ledger,
     G: Gate,
     M: Moments + Clone,
     R: Wait + AllocGlobal,
+    W: Write,
 {
     let moments = moments.clone()?;
-    Ok(ShardsDesk::new(rt, rt.alloc(), shards, moments)?)
+    Ok(ShardsDesk::new(rt, rt.alloc(), shards, moments, log)?)
 }

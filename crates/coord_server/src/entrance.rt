@@ -62,7 +62,7 @@ impl Watch {
     pub fn wait(&mut self, limit: Option<Duration>) -> Result<(), ServerFault> {
         match self.poll.poll(&mut self.events, limit) {
             Ok(()) => Ok(()),
-            Err(error) => Err(ServerFault::Incoming(error)),
+            Err(error) => Err(ServerFault::Loop(error)),
         }
     }
 }

@@ -21,11 +21,8 @@ pub enum ServerFault {
     /// It couldn't be announced that the threads are there.
     #[error("announcing that it listens: {0}")]
     Announce(io::Error),
-    /// The system refused to wait for connections.
-    #[error("waiting for connections: {0}")]
-    Incoming(io::Error),
-    /// The event loop of a worker failed.
-    #[error("the event loop of a worker: {0}")]
+    /// The event loop of the acceptor or of a worker failed.
+    #[error("waiting in an event loop: {0}")]
     Loop(io::Error),
     /// The expiry worker's timer failed.
     #[error("the timer of the expiry worker: {0}")]

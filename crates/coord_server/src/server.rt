@@ -6,17 +6,21 @@ use crate::acceptor::Acceptor;
 use crate::announce::Announce;
 use crate::bell::Bell;
 use crate::connection::Connection;
-use crate::crew::crew_of;
+use crate::crew::{Crew, crew_of};
 use crate::desks::{Desks, desks_of};
 use crate::entrance::{Entrance, Incoming};
+use crate::expiry::Expiry;
 use crate::fault::ServerFault;
 use crate::listener::Listener;
+use crate::log::EndLog;
 use crate::plan::Plan;
 use crate::threads::run_beside;
 use crate::timed::Timed;
+use crate::works::Works;
 use coord_shards::{Gate, Shards};
 use link_futures::{Desk, Moments, ReadPart, WriteParts};
 use std::alloc::AllocGlobal;
+use std::io::Write;
 use std::net::{Net, TcpListener};
 use std::random::RandomSource;
 use std::sync::Wait;
@@ -26,14 +30,15 @@ use std::time::Clock;
 
 /// Serves the connections of a listening socket over shards, until so many have ended as the plan says. Gives their number.
 ///
-/// It announces that it serves once all its threads are there.
-pub fn serve_sockets<A, C, G, M, R, N>(
+/// It announces that it serves once all its threads are there, and logs each end of a connection.
+pub fn serve_sockets<A, C, G, M, R, N, W>(
     rt: &R,
     shards: &Shards<A, C, G>,
     socket: TcpListener,
     moments: &M,
     plan: Plan,
     announce: N,
+    log: &EndLog<W>,
 ) -> Result<u64, ServerFault>
 where
     A: Ledger + Send + Sync,
@@ -42,20 +47,22 @@ where
     M: Moments + Clone + Send,
     R: Wait + Threads + Clock + Net + RandomSource + AllocGlobal + Sync,
     N: Announce,
+    W: Write + Send,
     ensures { IfOk result (λ served. served ≡ plan.connections) }
 {
     let incoming = Listener::of(rt, socket, plan.idle)?;
-    serve(rt, shards, incoming, moments, plan, announce)
+    serve(rt, shards, incoming, moments, plan, announce, log)
 }
 
 /// Serves connections over shards, until so many have ended as the plan says. Gives their number.
-pub fn serve<A, C, G, M, R, S, K, I, O, N>(
+pub fn serve<A, C, G, M, R, S, K, I, O, N, W>(
     rt: &R,
     shards: &Shards<A, C, G>,
     incoming: S,
     moments: &M,
     plan: Plan,
     announce: N,
+    log: &EndLog<W>,
 ) -> Result<u64, ServerFault>
 where
     A: Ledger + Send + Sync,
@@ -68,9 +75,10 @@ where
     I: ReadPart + Send,
     O: WriteParts + Send,
     N: Announce,
+    W: Write + Send,
     ensures { IfOk result (λ served. served ≡ plan.connections) }
 {
-    let desks = desks_of(rt, shards, moments, plan)?;
+    let desks = desks_of(rt, shards, moments, plan, log)?;
     serve_at(rt, plan, desks, incoming, announce)
 }
 
@@ -108,6 +116,30 @@ where
     Ok((entrance, bell))
 }
 
+/// Who takes the connections that come in there, and the workers and expiry workers at these desks.
+fn hire<'a, D, R, S, K, I, O>(
+    rt: &R,
+    plan: Plan,
+    desks: Desks<D>,
+    entrance: Entrance<S>,
+    bell: &'a Bell,
+) -> Result<(Acceptor<'a, S, K>, Crew<'a, Works<K, I, O, D>, Expiry<D>>), ServerFault>
+where
+    D: Desk + Timed,
+    R: Clock + Net + RandomSource + AllocGlobal,
+    S: Incoming<K>,
+    K: Connection<I, O>,
+    I: ReadPart,
+    O: WriteParts,
+    requires { IsPlanned plan (vec_len desks.workers) (vec_len desks.clocks) }
+    ensures all { IfOk result (λ hired. IsPlanned plan (vec_len hired.1.workers) (vec_len hired.1.clocks)) }
+    ensures most { IfOk result (λ hired. hired.0.most ≡ plan.connections) }
+{
+    let (posts, crew) = crew_of(rt, desks, bell)?;
+    let acceptor = Acceptor::new(entrance, posts, plan.connections, bell);
+    Ok((acceptor, crew))
+}
+
 /// Serves the connections that come in there, whose bell this is.
 fn serve_by<D, R, S, K, I, O, N>(
     rt: &R,
@@ -128,7 +160,6 @@ where
     requires { IsPlanned plan (vec_len desks.workers) (vec_len desks.clocks) }
     ensures { IfOk result (λ served. served ≡ plan.connections) }
 {
-    let (posts, crew) = crew_of(rt, desks, bell)?;
-    let acceptor = Acceptor::new(entrance, posts, plan.connections, bell);
+    let (acceptor, crew) = hire(rt, plan, desks, entrance, bell)?;
     run_beside(rt, plan, crew, acceptor, announce)
 }

@@ -17,7 +17,7 @@ use std::random::RandomSource;
 use std::snapshot::Snapshot;
 use std::sync::Wait;
 use std::thread;
-use std::thread::{PromisedHandle, Scope, Threads};
+use std::thread::{PromisedHandle, Scope, SpawnError, Threads};
 use std::time::Clock;
 
 /// What stops futures: once it is gone, each of them ends at its next poll.
@@ -110,13 +110,35 @@ where
             requires clocks { All (λ own. E.can_poll own.future) crew.clocks.items }
             requires all { IsPlanned plan (vec_len crew.workers) (vec_len crew.clocks) }
             ensures { IfOk result (λ accepted. accepted ≡ acceptor.entry.most) }
-        {
-            match start_crew(rt, scope, crew) {
-                Ok(running) => accept_beside(rt, plan, running, acceptor, announce),
-                Err(fault) => Err(fault),
-            }
-        },
+        { run_in(rt, scope, plan, crew, acceptor, announce) },
     )
+}
+
+/// The same, on threads of a scope.
+fn run_in<'s, 'a: 's, V, R, B, E, S, K, N>(
+    rt: &'s R,
+    scope: &Scope<'s, V>,
+    plan: Plan,
+    crew: Crew<'a, B, E>,
+    acceptor: Acceptor<'a, S, K>,
+    announce: N,
+) -> Result<u64, ServerFault>
+where
+    R: Wait + Threads + Clock + RandomSource + AllocGlobal + Sync,
+    B: Future<Output = Ended> + Send + 's,
+    E: Future<Output = Ended> + Send + 's,
+    S: Incoming<K>,
+    K: Drop,
+    N: Announce,
+    requires workers { All (λ own. B.can_poll own.future) crew.workers.items }
+    requires clocks { All (λ own. E.can_poll own.future) crew.clocks.items }
+    requires all { IsPlanned plan (vec_len crew.workers) (vec_len crew.clocks) }
+    ensures { IfOk result (λ accepted. accepted ≡ acceptor.entry.most) }
+{
+    match start_crew(rt, scope, crew) {
+        Ok(running) => accept_beside(rt, plan, running, acceptor, announce),
+        Err(fault) => Err(fault),
+    }
 }
 
 /// Announces that the threads are there and runs the acceptor. Once it has ended all threads are stopped.
@@ -268,7 +290,14 @@ where
     requires same { own.future.task ≡ promise.0.value }
     ensures { IfOk result (λ thread. thread.promise ≡ promise) }
 {
-    match scope.spawn_with(promise, move || own.run(rt)) {
+    made(scope.spawn_with(promise, move || own.run(rt)))
+}
+
+/// A thread that was made, or the fault that none can be made.
+fn made<T, F: Drop>(thread: Result<T, SpawnError<F>>) -> Result<T, ServerFault>
+    ensures { IfOk result (λ made. thread ≡ Ok made) }
+{
+    match thread {
         Ok(thread) => Ok(thread),
         Err(_) => Err(ServerFault::NoThread),
     }

@@ -1,5 +1,5 @@
 //! A reader or a writer of `tokio` with counts of its failed polls.
-ghost use Rattle.std.specs.Prelude.{◌≡◌};
+ghost use Rattle.std.specs.Prelude.{◌≡◌, false};
 
 use crate::part::Part;
 use crate::reader::ReadPart;
@@ -62,6 +62,8 @@ impl<R: AsyncRead> AsyncRead for Counted<R> {
 impl<R: AsyncRead> ReadPart for Counted<R> {
     ghost faults = { λ c. c.faults };
 
+    ghost closes = { λ _. false };
+
     fn poll_read_part(&mut self, cx: &mut Context<'_>, buf: &mut [u8]) -> Part {
         if self.faults == u64::MAX {
             let _: Poll<()> = cx.yield_now();
@@ -75,6 +77,10 @@ impl<R: AsyncRead> ReadPart for Counted<R> {
                 Part::Fault
             }
         }
+    }
+
+    fn is_closing(&self) -> bool {
+        false
     }
 }
 

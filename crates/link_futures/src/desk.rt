@@ -4,6 +4,7 @@ ghost use Rattle.group_types.specs.declared.stamp.Stamp.{Stamp};
 ghost use Rattle.coord_node.specs.Coordinator.{Answer};
 ghost use Rattle.link_futures.specs.Desks.{Gives};
 
+use crate::end::End;
 use coord_node::{Answered, Stamp};
 use std::alloc::AllocError;
 
@@ -28,4 +29,8 @@ pub trait Desk: Drop {
     fn may_send(&self, _stamp: Stamp) -> bool {
         true
     }
+
+    /// Hears that the line of the connection with this number has ended, after so many answered frames. A worker says it of each
+    /// of its lines.
+    fn hear_end(&self, _connection: u64, _answered: u64, _end: End) {}
 }

@@ -73,7 +73,7 @@ impl<R: ReadPart, W: WriteParts> Line<R, W> {
         ensures stream { (last : D) × Turns R.reads R.is_at_end W.writes D.answers
             (record { line = self.old; desk = desk.old }) (record { line = self.new; desk = last })
             × LeavesDesk D.lacks result last desk.new }
-        ensures ends { IfReady result (λ end. EndsAs R.faults W.faults W.stalls end self.old self.new) }
+        ensures ends { IfReady result (λ end. EndsAs R.closes R.faults W.faults W.stalls end self.old self.new) }
         ensures goes_on { OnPending result (MetNoFault R.faults W.faults W.stalls self.old self.new) }
         ensures armed { OnPending result (Covers cx.new (LineNeeds R.needs W.needs self.new)) }
         ensures kept { Keeps cx.old cx.new }
@@ -95,6 +95,11 @@ impl<R: ReadPart, W: WriteParts> Line<R, W> {
         }
     }
 
+    /// Lets the desk hear that the line has ended.
+    pub(crate) fn tell_end<D: Desk>(self, desk: &D, end: End) {
+        desk.hear_end(self.connection, self.answered, end);
+    }
+
     /// Whether there is nothing to do before bytes come, and none have come for some turns: no reply is unsent, and more bytes
     /// are wanted.
     pub(crate) fn is_quiet(&self) -> bool
@@ -111,7 +116,7 @@ impl<R: ReadPart, W: WriteParts> Line<R, W> {
     /// Reads once, where the desk may want more bytes. Says whether the reader waits.
     pub(crate) fn read(&mut self, cx: &mut Context<'_>) -> Result<bool, End>
         ensures reads { ReadsOn R.reads R.is_at_end self.old self.new }
-        ensures ends { IfErr result (λ end. EndsAs R.faults W.faults W.stalls end self.old self.new) }
+        ensures ends { IfErr result (λ end. EndsAs R.closes R.faults W.faults W.stalls end self.old self.new) }
         ensures goes_on { OnOk result (MetNoFault R.faults W.faults W.stalls self.old self.new) }
         ensures armed { result ≡ Ok true → Covers cx.new (R.needs self.new.reader) }
         ensures waits { result ≡ Ok true → self.new.inbox ≡ self.old.inbox }
@@ -162,7 +167,7 @@ impl<R: ReadPart, W: WriteParts> Line<R, W> {
     /// Writes once, where a reply may be sent by now and none is to come first. Says whether the writer waits.
     fn write<D: Desk>(&mut self, cx: &mut Context<'_>, desk: &D) -> Result<bool, End>
         ensures writes { WritesOn W.writes self.old self.new }
-        ensures ends { IfErr result (λ end. EndsAs R.faults W.faults W.stalls end self.old self.new) }
+        ensures ends { IfErr result (λ end. EndsAs R.closes R.faults W.faults W.stalls end self.old self.new) }
         ensures known { IfErr result (λ end. end ≡ End.WriteFault) }
         ensures goes_on { OnOk result (MetNoFault R.faults W.faults W.stalls self.old self.new) }
         ensures armed { result ≡ Ok true → Covers cx.new (W.needs self.new.writer) }
@@ -189,7 +194,7 @@ impl<R: ReadPart, W: WriteParts> Line<R, W> {
 
     /// How the line ends, where it does once all replies are written.
     fn end(&self) -> Option<End>
-        ensures { IfSome result (λ end. EndsQuietly end self.now) }
+        ensures { IfSome result (λ end. EndsQuietly R.closes end self.now) }
     {
         if !self.outbox.is_empty() {
             return None;
@@ -208,10 +213,13 @@ impl<R: ReadPart, W: WriteParts> Line<R, W> {
     fn end_of_reader(&self) -> Option<End>
         requires partial { IsNext Next.Partial self.now.inbox }
         requires empty { length self.now.outbox ≡ 0 }
-        ensures { IfSome result (λ end. EndsQuietly end self.now) }
+        ensures { IfSome result (λ end. EndsQuietly R.closes end self.now) }
     {
         if !self.is_over {
             return None;
+        }
+        if self.reader.is_closing() {
+            return Some(End::Closed);
         }
         if self.inbox.is_empty() {
             return Some(End::Finished);

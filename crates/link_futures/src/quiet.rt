@@ -8,8 +8,8 @@ use crate::writer::WriteParts;
 use futures::Future;
 use futures::task::{Context, Poll};
 
-/// A line that waits for its reader alone. It gives the line back once bytes have come, or the reader's end, or why the line
-/// has ended.
+/// A line that waits for its reader alone. It gives the line back once bytes have come, or the reader's end, or with the line's
+/// own end.
 #[derive(Drop)]
 pub struct Quiet<L> {
     /// None once it was given back.
@@ -35,14 +35,14 @@ impl<L> Quiet<L> {
 impl<R: ReadPart, W: WriteParts> Future for Quiet<Line<R, W>> {
     ghost use Rattle.link_futures.specs.Resting.{Wakes};
 
-    type Output = Result<Line<R, W>, End>;
+    type Output = Result<Line<R, W>, (Line<R, W>, End)>;
 
     ghost needs = { λ q source. IsSomeAnd q.line (λ line. R.needs line.reader source) };
 
-    ghost gives = { λ q woken. IsSomeAnd q.line (λ line. Wakes R.reads R.is_at_end R.faults W.faults W.stalls line woken) };
+    ghost gives = { λ q woken. IsSomeAnd q.line (λ line. Wakes R.reads R.is_at_end R.closes R.faults W.faults W.stalls line woken) };
 
     /// Reads once.
-    fn poll(&mut self, cx: &mut Context<'_>) -> Poll<Result<Line<R, W>, End>> {
+    fn poll(&mut self, cx: &mut Context<'_>) -> Poll<Result<Line<R, W>, (Line<R, W>, End)>> {
         let Some(mut line) = self.line.take() else {
             return cx.yield_now();
         };
@@ -52,7 +52,7 @@ impl<R: ReadPart, W: WriteParts> Future for Quiet<Line<R, W>> {
                 Poll::Pending
             }
             Ok(false) => Poll::Ready(Ok(line)),
-            Err(end) => Poll::Ready(Err(end)),
+            Err(end) => Poll::Ready(Err((line, end))),
         }
     }
 }

@@ -4,26 +4,21 @@ ghost use Rattle.std.specs.Prelude.{◌≡◌};
 use crate::desk::Desk;
 use crate::moments::Moments;
 use coord_node::{Answered, Node, Stamp};
-use std::alloc::{AllocError, Global};
+use std::alloc::AllocError;
 
 /// A desk that owns a node, and asks for the moment of each frame.
 #[derive(Drop)]
 pub struct Solo<M> {
     node: Node,
     moments: M,
-    alloc: Global,
 }
 
 impl<M: Moments> Solo<M> {
     /// The desk of a node.
-    pub fn new(alloc: Global, node: Node, moments: M) -> Solo<M>
+    pub fn new(node: Node, moments: M) -> Solo<M>
         ensures { (result.node ≡ node) × (result.moments ≡ moments) }
     {
-        Solo {
-            node,
-            moments,
-            alloc,
-        }
+        Solo { node, moments }
     }
 
     /// The node.
@@ -48,6 +43,6 @@ impl<M: Moments> Desk for Solo<M> {
         out: &mut Vec<u8>,
     ) -> Result<Answered, AllocError> {
         let now = self.moments.now();
-        self.node.answer(self.alloc, body, stamp, now, out)
+        self.node.answer(body, stamp, now, out)
     }
 }

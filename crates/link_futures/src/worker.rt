@@ -24,7 +24,7 @@ const MOST_ROUNDS: usize = 64;
 /// Many lines over one desk. In a round it looks once for an arrival and gives each line one turn, so no line waits for another
 /// to end, and lines that have frames are answered frame by frame in turn; a poll is one round, and further ones while a line has
 /// a frame, up to `MOST_ROUNDS`. Where there are many lines, one that waits for its reader alone rests until it is woken. It is
-/// ready, with the number of lines that have ended, once arrivals have ended and no line is left.
+/// ready, with the number of lines that have ended, once arrivals have ended and no line is left. The desk hears of each end.
 #[derive(Drop)]
 pub struct Worker<A: Stream, D> {
     arrivals: A,
@@ -120,7 +120,8 @@ impl<R: ReadPart, W: WriteParts, A: Stream<Item = Line<R, W>>, D: Desk> Worker<A
                 self.lines.push_reserved(line);
                 Poll::Ready(())
             }
-            Poll::Ready(Err(_)) => {
+            Poll::Ready(Err((line, end))) => {
+                line.tell_end(&self.desk, end);
                 self.ended = self.ended.saturating_add(1);
                 Poll::Ready(())
             }
@@ -141,8 +142,9 @@ impl<R: ReadPart, W: WriteParts, A: Stream<Item = Line<R, W>>, D: Desk> Worker<A
         while place < self.lines.len() {
             match self.lines[place].turn(cx, &mut self.desk) {
                 Poll::Pending => place += 1,
-                Poll::Ready(_) => {
-                    let _ = self.lines.swap_remove(place);
+                Poll::Ready(end) => {
+                    let line = self.lines.swap_remove(place);
+                    line.tell_end(&self.desk, end);
                     self.ended = self.ended.saturating_add(1);
                 }
             }
@@ -224,7 +226,7 @@ impl<R: ReadPart, W: WriteParts, A: Stream<Item = Line<R, W>>, D: Desk> Future f
 
     ghost needs = { λ w. WorkerNeeds A.needs R.needs W.needs w.arrivals w.is_closed w.lines.items w.resting.lines w.resting.count };
 
-    ghost gives = { λ w. WorkerGives R.reads R.is_at_end R.faults W.writes W.faults W.stalls D.answers
+    ghost gives = { λ w. WorkerGives R.reads R.is_at_end R.closes R.faults W.writes W.faults W.stalls D.answers
         (EndsIf w.is_closed (A.yields w.arrivals)) w.lines.items w.resting.lines w.resting.count w.ended };
 
     /// Makes a round, and further ones while a line has a frame.

@@ -1,8 +1,8 @@
 //! `coord serve`: the server over sockets of this machine.
-ghost use Rattle.std.specs.Prelude.{◌≡◌, ◌+◌, ◌≤◌, ◌<◌, true, IfOk};
+ghost use Rattle.std.specs.Prelude.{◌≡◌, ◌+◌, ◌*◌, ◌≤◌, ◌<◌, true, IfOk};
 
 use coord_server::{
-    AlwaysOpen, Announce, ClockMoments, Moments, Plan, ServerFault, Shards, ShardsDesk,
+    AlwaysOpen, Announce, ClockMoments, EndLog, Moments, Plan, ServerFault, Shards, ShardsDesk,
     serve_sockets,
 };
 use scenario_lines::service::Service;
@@ -38,9 +38,14 @@ pub enum ServeFault {
     Server(ServerFault),
 }
 
-/// Serves as it is asked to, over sockets of this machine. What is printed goes to the writer, and a fault is told. Gives the
-/// program's status: 0 once the connections have ended, 1 after a fault (ours).
-pub fn serve<R, W: Write, E: Write>(rt: &R, service: Service, writer: &mut W, faults: &mut E) -> u8
+/// Serves as it is asked to, over sockets of this machine. What is printed goes to the writer; a fault is told, and so are connections that
+/// have ended, where that is asked for. Gives the program's status: 0 once the connections have ended, 1 after a fault (ours).
+pub fn serve<R, W: Write, E: Write + Send>(
+    rt: &R,
+    service: Service,
+    writer: &mut W,
+    told: &mut E,
+) -> u8
 where
     R: Wait
         + Threads
@@ -51,17 +56,22 @@ where
         + Sync,
     ensures { result ≤ 1 }
 {
-    match serve_port(rt, service, writer) {
+    match serve_port(rt, service, writer, &mut *told) {
         Ok(()) => 0,
         Err(fault) => {
-            let _ = writeln!(faults, "{fault}");
+            let _ = writeln!(told, "{fault}");
             1
         }
     }
 }
 
 /// Listens on a port of 127.0.0.1, prints so once it serves, serves the connections, and prints how many there were.
-fn serve_port<R, W: Write>(rt: &R, service: Service, writer: &mut W) -> Result<(), ServeFault>
+fn serve_port<R, W: Write, E: Write + Send>(
+    rt: &R,
+    service: Service,
+    writer: &mut W,
+    told: &mut E,
+) -> Result<(), ServeFault>
 where
     R: Wait
         + Threads
@@ -81,7 +91,8 @@ where
         writer: &mut *writer,
         port: service.port,
     };
-    let served = serve_socket(rt, &service, keys, socket, &moments, listening)?;
+    let log = EndLog::new(if service.logs { Some(told) } else { None });
+    let served = serve_socket(rt, &service, keys, socket, &moments, listening, &log)?;
     Ok(print(writer, "served", served)?)
 }
 
@@ -97,28 +108,30 @@ where
 }
 
 /// Serves the connections of a socket over new shards, whose salt is the first moment. Gives their number.
-fn serve_socket<R, N>(
+fn serve_socket<R, N, E>(
     rt: &R,
     service: &Service,
     keys: RandomState,
     socket: TcpListener,
     moments: &ClockMoments<'_, R>,
     announce: N,
+    log: &EndLog<E>,
 ) -> Result<u64, ServerFault>
 where
     R: Wait + Threads + Clock + Net + RandomSource + AllocGlobal + Sync,
     N: Announce,
+    E: Write + Send,
     ensures { IfOk result (λ served. served ≡ service.now.connections) }
 {
     let (salt, shards) = (moments.first().millis(), service.shards as u64);
-    let (entries, calls) = (Blank::new(shards), Blank::new(SEATS + shards));
-    serve_over::<Brand, Brand, _, R, _>(
-        rt, service, keys, salt, socket, moments, entries, calls, announce,
+    let (entries, calls) = (Blank::new(2 * shards), Blank::new(SEATS + shards));
+    serve_over::<Brand, Brand, _, R, _, _>(
+        rt, service, keys, salt, socket, moments, entries, calls, announce, log,
     )
 }
 
 /// Serves the connections of a socket over new shards with a salt. Gives their number.
-fn serve_over<A, C, M, R, N>(
+fn serve_over<A, C, M, R, N, E>(
     rt: &R,
     service: &Service,
     keys: RandomState,
@@ -128,6 +141,7 @@ fn serve_over<A, C, M, R, N>(
     entries: Blank,
     calls: Blank,
     announce: N,
+    log: &EndLog<E>,
 ) -> Result<u64, ServerFault>
 where
     A: Ledger + Send + Sync,
@@ -135,13 +149,22 @@ where
     M: Moments + Clone + Send,
     R: Wait + Threads + Clock + Net + RandomSource + AllocGlobal + Sync,
     N: Announce,
-    requires entries { (entries.name ≡ A.name) × (entries.parts ≡ A.parts) × (entries.parts ≡ service.now.shards) }
+    E: Write + Send,
+    requires entries { (entries.name ≡ A.name) × (entries.parts ≡ A.parts) × (entries.parts ≡ 2 * service.now.shards) }
     requires calls { (calls.name ≡ C.name) × (calls.parts ≡ C.parts) × (calls.parts ≡ 256 + service.now.shards) }
     ensures { IfOk result (λ served. served ≡ service.now.connections) }
 {
     let shards = shards_of::<A, C>(rt.alloc(), service.shards, salt, keys, entries, calls)?;
-    set_image(rt, &shards, moments.clone()?, &service.image)?;
-    serve_sockets(rt, &shards, socket, moments, plan_of(service), announce)
+    set_image(rt, &shards, moments.clone()?, &service.image, log)?;
+    serve_sockets(
+        rt,
+        &shards,
+        socket,
+        moments,
+        plan_of(service),
+        announce,
+        log,
+    )
 }
 
 /// How large the server is: as many workers and connections as are asked for, and an expiry worker; and after what silence a connection
@@ -172,7 +195,7 @@ fn shards_of<A, C>(
 where
     A: Ledger,
     C: Ledger,
-    requires entries { (entries.name ≡ A.name) × (entries.parts ≡ A.parts) × (entries.parts ≡ shards) }
+    requires entries { (entries.name ≡ A.name) × (entries.parts ≡ A.parts) × (entries.parts ≡ 2 * shards) }
     requires calls { (calls.name ≡ C.name) × (calls.parts ≡ C.parts) × (calls.parts ≡ 256 + shards) }
     ensures { IfOk result (λ made. made ≡ record { shards = shards; salt = salt; cap = 0 }) }
 {
@@ -181,19 +204,21 @@ where
 }
 
 /// Gives every shard its topics.
-fn set_image<A, C, M, R>(
+fn set_image<A, C, M, R, E>(
     rt: &R,
     shards: &Shards<A, C, AlwaysOpen>,
     moments: M,
     image: &Image,
+    log: &EndLog<E>,
 ) -> Result<(), ServerFault>
 where
     A: Ledger,
     C: Ledger,
     M: Moments,
     R: Wait + AllocGlobal,
+    E: Write,
 {
-    let mut desk = ShardsDesk::new(rt, rt.alloc(), shards, moments)?;
+    let mut desk = ShardsDesk::new(rt, rt.alloc(), shards, moments, log)?;
     desk.set_image(image)?;
     Ok(())
 }

@@ -172,7 +172,7 @@ impl Interpreter {
         ensures kept { self.new ≡ record self.old { node = self.new.node } }
     {
         match frame::body_of(frame) {
-            Some(body) => self.node.answer(self.alloc, body, stamp, self.now, reply),
+            Some(body) => self.node.answer(body, stamp, self.now, reply),
             None => Ok(Answered::Closes),
         }
     }

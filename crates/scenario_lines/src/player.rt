@@ -139,7 +139,7 @@ impl Player {
     {
         let stage = mem::replace(&mut self.stage, Stage::Before(Vec::new(self.alloc)));
         let mut world = world_of(self.alloc, self.hasher, stage)?;
-        let answer = world.act(self.alloc, act);
+        let answer = world.act(act);
         let printed = print_answer(self.alloc, verb, &world, &answer, output);
         self.stage = Stage::Begun(world);
         printed
@@ -165,7 +165,7 @@ impl Player {
     {
         let stage = mem::replace(&mut self.stage, Stage::Before(Vec::new(self.alloc)));
         let mut world = world_of(self.alloc, self.hasher, stage)?;
-        let settled = world.settle(self.alloc);
+        let settled = world.settle();
         let printed = print_settled(self.alloc, settled, output);
         self.stage = Stage::Begun(world);
         printed

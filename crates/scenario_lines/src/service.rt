@@ -44,6 +44,8 @@ pub struct Service {
     pub connections: u64,
     /// After how many seconds a connection is closed that brings no byte. None: it isn't closed for that.
     pub idle: Option<u64>,
+    /// Whether it is told of each connection that has closed.
+    pub logs: bool,
     /// The topics.
     pub image: Image,
     pub ghost port_is: { (1 ≤ port) × (port ≤ 65535) },
@@ -68,6 +70,7 @@ pub fn command<'a>(alloc: Global) -> Result<Command<'a>, AllocError> {
         .arg(number(alloc, "shards", "S", shards))?
         .arg(number(alloc, "connections", "C", connections))?
         .arg(number(alloc, "idle", "SECONDS", idle))?
+        .arg(log(alloc))?
         .arg(topics(alloc))
 }
 
@@ -78,6 +81,14 @@ fn number<'a>(alloc: Global, name: &'a str, value: &'a str, about: &'a str) -> A
         .value_name(value)
         .help(about)
         .action(ArgAction::Set)
+}
+
+/// The word by which connections that have closed are told.
+fn log<'a>(alloc: Global) -> Arg<'a> {
+    Arg::new(alloc, "log")
+        .long("log")
+        .help("Tells on standard error of each connection that has closed")
+        .action(ArgAction::SetTrue)
 }
 
 /// The words of topics.
@@ -109,6 +120,7 @@ pub fn service_of(
         shards: shards as usize,
         connections,
         idle,
+        logs: matches.get_flag("log"),
         image,
     })
 }

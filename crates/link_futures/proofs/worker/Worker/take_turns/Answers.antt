@@ -17,8 +17,8 @@ loop-place-preserved-in-Pending g c =
       kept.4,
       λ n gives.
           kept.5 n
-          (gives_set g.R.AsyncRead.reads g.R.AsyncRead.is_at_end g.R.ReadPart.faults g.W.AsyncWrite.writes g.W.WriteParts.faults g.W.WriteParts.stalls g.D.Desk.answers _ lines place c.index_mut.result.now c.turn.new.self _ _ _ n (omega arith) c.index_mut.ensures.value
-          (turned g.R.AsyncRead.reads g.R.AsyncRead.is_at_end g.R.ReadPart.faults g.W.AsyncWrite.writes g.W.WriteParts.faults g.W.WriteParts.stalls g.D.Desk.answers g.met.R.AsyncRead.reads_in_order g.met.W.AsyncWrite.writes_in_order c.index_mut.result.now c.turn.new.self _ _ stream.1 c.in-Pending.ensures.goes_on) gives),
+          (gives_set g.R.AsyncRead.reads g.R.AsyncRead.is_at_end g.R.ReadPart.closes g.R.ReadPart.faults g.W.AsyncWrite.writes g.W.WriteParts.faults g.W.WriteParts.stalls g.D.Desk.answers _ lines place c.index_mut.result.now c.turn.new.self _ _ _ n (omega arith) c.index_mut.ensures.value
+          (turned g.R.AsyncRead.reads g.R.AsyncRead.is_at_end g.R.ReadPart.closes g.R.ReadPart.faults g.W.AsyncWrite.writes g.W.WriteParts.faults g.W.WriteParts.stalls g.D.Desk.answers g.met.R.AsyncRead.reads_in_order g.met.W.AsyncWrite.writes_in_order c.index_mut.result.now c.turn.new.self _ _ stream.1 c.in-Pending.ensures.goes_on) gives),
     )
 
 pub loop-place-preserved : goal.loop-place-preserved
@@ -28,18 +28,18 @@ loop-place-preserved g c =
     let stream = c.turn.ensures.stream in
     let place = c.loop-place.place in
     let lines = c.loop-place.self.lines.items in
-    let left = c.swap_remove.new.self.items in
+    let left = c.swap_remove-line.new.self.items in
     let n = c.loop-place.self.lines.len in (
-      AreArmed-swap_remove g.R.AsyncRead.needs g.W.AsyncWrite.needs c.loop-place.cx c.turn.new.cx lines left n place c.turn.new.self keeps (omega arith) (omega arith) c.swap_remove.ensures.by_index.1 kept.0,
+      AreArmed-swap_remove g.R.AsyncRead.needs g.W.AsyncWrite.needs c.loop-place.cx c.turn.new.cx lines left n place c.turn.new.self keeps (omega arith) (omega arith) c.swap_remove-line.ensures.by_index.1 kept.0,
       (λ fact held. keeps fact (kept.1 fact held)),
       kept.2,
       kept.3,
       kept.4,
       λ given gives.
           kept.5 given
-          (gives_removed g.R.AsyncRead.reads g.R.AsyncRead.is_at_end g.R.ReadPart.faults g.W.AsyncWrite.writes g.W.WriteParts.faults g.W.WriteParts.stalls g.D.Desk.answers _ lines left place c.index_mut.result.now _ _ _ _ given _ (omega arith) c.index_mut.ensures.value (omega arith)
-          (λ other. contains_set_left lines left n place c.turn.new.self other (omega arith) (omega arith) c.swap_remove.ensures.by_index.0 c.swap_remove.ensures.by_index.1)
-          (turned_out g.R.AsyncRead.reads g.R.AsyncRead.is_at_end g.R.ReadPart.faults g.W.AsyncWrite.writes g.W.WriteParts.faults g.W.WriteParts.stalls g.D.Desk.answers c.index_mut.result.now c.turn.new.self _ _ _ stream.1 c.in-Ready.ensures.ends) c.saturating_add-self.ensures gives),
+          (gives_removed g.R.AsyncRead.reads g.R.AsyncRead.is_at_end g.R.ReadPart.closes g.R.ReadPart.faults g.W.AsyncWrite.writes g.W.WriteParts.faults g.W.WriteParts.stalls g.D.Desk.answers _ lines left place c.index_mut.result.now _ _ _ _ given _ (omega arith) c.index_mut.ensures.value (omega arith)
+          (λ other. contains_set_left lines left n place c.turn.new.self other (omega arith) (omega arith) c.swap_remove-line.ensures.by_index.0 c.swap_remove-line.ensures.by_index.1)
+          (turned_out g.R.AsyncRead.reads g.R.AsyncRead.is_at_end g.R.ReadPart.closes g.R.ReadPart.faults g.W.AsyncWrite.writes g.W.WriteParts.faults g.W.WriteParts.stalls g.D.Desk.answers c.index_mut.result.now c.turn.new.self _ _ _ stream.1 c.in-Ready.ensures.ends) c.saturating_add-self.ensures gives),
     )
 
 pub returns-clause-armed : goal.returns-clause-armed

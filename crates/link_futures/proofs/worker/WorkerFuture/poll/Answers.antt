@@ -17,4 +17,4 @@ pub returns-then-is_done-clause-value : goal.returns-then-is_done-clause-value
 returns-then-is_done-clause-value g c =
     let done = c.is_done.ensures.yes c.if-is_done.true in
     rw c.ended_lines.ensures.value
-    (c.round-has_news.ensures.gives c.rest_all.new.self.ended (c.loop.invariant.5 c.rest_all.new.self.ended (c.rest_all.ensures.gives c.rest_all.new.self.ended (rw (done.0, done.1, done.2) (gives_all g.R.AsyncRead.reads g.R.AsyncRead.is_at_end g.R.ReadPart.faults g.W.AsyncWrite.writes g.W.WriteParts.faults g.W.WriteParts.stalls g.D.Desk.answers _ c.rest_all.new.self.ended (EndsIf true (g.A.Stream.yields c.rest_all.new.self.arrivals)) (refl, refl) (omega (arith, c.ended_lines.ensures.value, c.ended_lines.ensures.small)))))))
+    (c.round-has_news.ensures.gives c.rest_all.new.self.ended (c.loop.invariant.5 c.rest_all.new.self.ended (c.rest_all.ensures.gives c.rest_all.new.self.ended (rw (done.0, done.1, done.2) (gives_all g.R.AsyncRead.reads g.R.AsyncRead.is_at_end g.R.ReadPart.closes g.R.ReadPart.faults g.W.AsyncWrite.writes g.W.WriteParts.faults g.W.WriteParts.stalls g.D.Desk.answers _ c.rest_all.new.self.ended (EndsIf true (g.A.Stream.yields c.rest_all.new.self.arrivals)) (refl, refl) (omega (arith, c.ended_lines.ensures.value, c.ended_lines.ensures.small)))))))

@@ -1,20 +1,18 @@
-use Rattle.std.proofs.Common.{◌≡◌, ◌+◌, ◌∙◌, ℕ, vec_len, sym, subst, arith}
+use Rattle.std.proofs.Common.{◌∙◌, ℕ, sym, subst, arith}
 use Rattle.std.proofs.lemmas.Grind.{common_steps}
 use Rattle.std.proofs.lemmas.Iterator.Adapters.{YieldsList-from_vec}
 use Rattle.std.proofs.lemmas.Iterator.Consumers.{YieldsList-end}
 use Rattle.coord_server.specs.Posts.{ArePosts}
-use Rattle.coord_server.proofs.AddedLemmas.{on_made}
-use Rattle.coord_server.proofs.crew.workers_of.Goals as goal
+use Rattle.coord_server.proofs.crew.workers_behind.Goals as goal
 
 pub loop-desk-preserved : goal.loop-desk-preserved
 loop-desk-preserved g c =
     let before = c.loop-desk.invariant in
-    let added = c.in_ok-add.ensures in
-    let more = on_made (vec_len c.worker_of.new.posts ≡ vec_len c.loop-desk.posts + 1) c.worker_of.result _ _ added.added c.worker_of.ensures.more in
+    let added = c.in_ok-add_worker.ensures in
     record {
-      posts = grind (arith, common_steps, before.posts, more);
-      workers = grind (arith, common_steps, before.workers, added.more);
-      placed = on_made (ArePosts c.len-number.result c.worker_of.new.posts.items) c.worker_of.result _ _ added.added (c.worker_of.ensures.placed before.placed);
+      posts = grind (arith, common_steps, before.posts, added.more);
+      workers = grind (arith, common_steps, before.workers, added.added);
+      placed = added.placed before.placed;
     }
 
 pub returns-clause-posts : goal.returns-clause-posts

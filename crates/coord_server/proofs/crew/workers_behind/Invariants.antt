@@ -1,6 +1,6 @@
 use Rattle.std.proofs.Common.{◌≡◌, vec_len, length}
 use Rattle.coord_server.specs.Posts.{ArePosts}
-use Rattle.coord_server.proofs.crew.workers_of.Given as goal
+use Rattle.coord_server.proofs.crew.workers_behind.Given as goal
 
 abbrev pub invariant-loop-desk : goal.invariant-loop-desk
 invariant-loop-desk g l = record {

@@ -1,6 +1,6 @@
 use Rattle.std.proofs.Common.{ℕ, subst, sym}
 use Rattle.coord_server.specs.Posts.{ArePosts}
-use Rattle.coord_server.proofs.server.serve_by.Goals as goal
+use Rattle.coord_server.proofs.server.hire.Goals as goal
 
 pub new-acceptor-requires-clause-placed : goal.new-acceptor-requires-clause-placed
 new-acceptor-requires-clause-placed g c =
