@@ -13,7 +13,7 @@ import subprocess
 from gate import cases, commands, crates, edits, kept, misuses, schedule, sweep
 
 # How many minutes the further edits may take, and from what minute on none of them is begun at all.
-EDIT_MINUTES_NAME, EDIT_MINUTES = "GATE_EDIT_MINUTES", 12
+EDIT_MINUTES_NAME, EDIT_MINUTES = "GATE_EDIT_MINUTES", 8
 LAST_BEGIN = 120
 # How long one of the scripts may take, in seconds.
 SCRIPT_SECONDS = 1_800

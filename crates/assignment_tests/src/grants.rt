@@ -115,8 +115,8 @@ fn make_offer(
     let member = id_of(alloc, offer.member)?;
     let target = Wanted::new(Some(&offer.wanted), offer.epoch);
     let owned = offer.owned.as_ref();
-    let shown = grants.shown_after(alloc, offer.member, &target, owned)?;
-    let verdict = grant(alloc, grants, &member, &target, owned)?;
+    let shown = grants.shown_after(offer.member, &target, owned)?;
+    let verdict = grant(grants, &member, &target, owned)?;
     let is_shown = is_held(grants, offer, &shown);
     put_verdict(verdict, is_shown, out)
 }
@@ -139,14 +139,13 @@ fn is_held(grants: &Grants, offer: &Offer<'_>, set: &PartSet) -> bool {
 
 /// Offers its target to a member; no partition has an index below 0.
 fn grant(
-    alloc: Global,
     grants: &mut Grants,
     member: &MemberId,
     target: &Wanted<'_>,
     owned: Option<&PartSet>,
 ) -> Result<Verdict, AllocError> {
     if are_indexed(target) {
-        grants.offer(alloc, member, target, owned)
+        grants.offer(member, target, owned)
     } else {
         Ok(Verdict::StillHolds)
     }

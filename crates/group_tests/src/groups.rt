@@ -168,9 +168,9 @@ fn tick(told: &mut Told, millis: i32, out: &mut String) -> Result<(), AllocError
 fn commit(alloc: Global, told: &mut Told, words: &str, out: &mut String) -> Result<(), AllocError> {
     let request = commits::request_of(alloc, words)?;
     let Told { group, image, .. } = told;
-    let reply = match group.commit(alloc, &request, image) {
+    let reply = match group.commit(&request, image) {
         Ok(reply) => reply,
-        Err(AllocError) => group.commit(alloc, &request, image)?,
+        Err(AllocError) => group.commit(&request, image)?,
     };
     part_words(out)?;
     commits::tell_codes(&reply, out)
@@ -194,7 +194,7 @@ fn send(
     out: &mut String,
 ) -> Result<(), AllocError> {
     let mut frame = Vec::new(alloc);
-    let outcome = heartbeat(alloc, told, request, &mut frame, out)?;
+    let outcome = heartbeat(told, request, &mut frame, out)?;
     tell_outcome(&outcome, out)
 }
 
@@ -281,7 +281,6 @@ fn indexes_of(alloc: Global, words: &str) -> Result<Array<i32>, AllocError> {
 
 /// What the group answers. Where a growth is refused nothing may have changed, and the heartbeat is sent once more.
 fn heartbeat<'a>(
-    alloc: Global,
     told: &mut Told,
     request: &HeartbeatRequest<'a>,
     frame: &mut Vec<u8>,
@@ -298,7 +297,7 @@ fn heartbeat<'a>(
     let before = numbers_of(&told.group);
     if let Ok(outcome) = told
         .group
-        .heartbeat(alloc, request, stamp, now, &told.image, frame)
+        .heartbeat(request, stamp, now, &told.image, frame)
     {
         return Ok(outcome);
     }
@@ -306,7 +305,7 @@ fn heartbeat<'a>(
         out.push_str("a refused growth has changed the group")?;
     }
     told.group
-        .heartbeat(alloc, request, stamp, now, &told.image, frame)
+        .heartbeat(request, stamp, now, &told.image, frame)
 }
 
 fn numbers_of(group: &Group) -> (u32, u32, usize) {

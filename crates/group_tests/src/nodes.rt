@@ -307,7 +307,7 @@ fn is_answered(
     wrong: &mut String,
 ) -> Result<bool, AllocError> {
     let before = told(alloc, node)?;
-    if send(alloc, node, frame, out).is_ok() {
+    if send(node, frame, out).is_ok() {
         return Ok(true);
     }
     if !out.is_empty() || told(alloc, node)? != before {
@@ -315,20 +315,15 @@ fn is_answered(
     }
     match refused {
         Refused::SendAgain => {
-            send(alloc, node, frame, out)?;
+            send(node, frame, out)?;
             Ok(true)
         }
         Refused::LetTimePass => Ok(false),
     }
 }
 
-fn send(
-    alloc: Global,
-    node: &mut Node,
-    frame: &Frame,
-    out: &mut Vec<u8>,
-) -> Result<(), AllocError> {
-    node.answer(alloc, frame.body.as_slice(), frame.stamp, frame.now, out)?;
+fn send(node: &mut Node, frame: &Frame, out: &mut Vec<u8>) -> Result<(), AllocError> {
+    node.answer(frame.body.as_slice(), frame.stamp, frame.now, out)?;
     Ok(())
 }
 
@@ -392,8 +387,8 @@ fn replies(alloc: Global, hasher: RandomState, body: &[u8]) -> Result<Vec<u8>, A
 fn reply(alloc: Global, node: &mut Node, body: &[u8]) -> Result<Vec<u8>, AllocError> {
     let (stamp, now) = (stamp(1), Moment::of_millis(0));
     let mut out = Vec::new(alloc);
-    if node.answer(alloc, body, stamp, now, &mut out).is_err() {
-        node.answer(alloc, body, stamp, now, &mut out)?;
+    if node.answer(body, stamp, now, &mut out).is_err() {
+        node.answer(body, stamp, now, &mut out)?;
     }
     Ok(out)
 }
@@ -428,8 +423,8 @@ fn answers_both(alloc: Global, node: &mut Node) -> Result<bool, AllocError> {
 fn run(alloc: Global, node: &mut Node) -> Result<Vec<u8>, AllocError> {
     let mut events = events(alloc)?;
     let mut out = Vec::new(alloc);
-    if node.run(alloc, &mut events, &mut out).is_err() {
-        node.run(alloc, &mut events, &mut out)?;
+    if node.run(&mut events, &mut out).is_err() {
+        node.run(&mut events, &mut out)?;
     }
     Ok(out)
 }

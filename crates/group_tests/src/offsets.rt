@@ -114,13 +114,13 @@ fn commit<'a>(
         records,
         image,
     } = kept;
-    if let Ok(reply) = offsets.commit(alloc, records, request, image) {
+    if let Ok(reply) = offsets.commit(records, request, image) {
         return Ok(reply);
     }
     if told(alloc, offsets)? != before {
         out.push_str("a refused growth has changed the offsets ")?;
     }
-    offsets.commit(alloc, records, request, image)
+    offsets.commit(records, request, image)
 }
 
 fn told(alloc: Global, offsets: &Offsets) -> Result<String, AllocError> {

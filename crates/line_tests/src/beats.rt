@@ -134,11 +134,23 @@ fn told(
     if !beats {
         return Ok(writer);
     }
+    told_beat(alloc, task, reader, writer, steady, out)
+}
+
+/// Tells what a heartbeat of the member comes to.
+fn told_beat(
+    alloc: Global,
+    task: &MockTask,
+    reader: Reader,
+    writer: Writer,
+    member: Member<Steady>,
+    out: &mut String,
+) -> Result<Writer, AllocError> {
     let AfterBeat {
         reader: _reader,
         writer,
         member,
-    } = beat(alloc, task, reader, writer, steady)?;
+    } = beat(alloc, task, reader, writer, member)?;
     let _ = put_outcome(member, out)?;
     Ok(writer)
 }

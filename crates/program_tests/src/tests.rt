@@ -188,16 +188,16 @@ impl Runner {
     }
 }
 
-/// Prints the numbers of what the program is to serve, 0 where no connection is to be closed for its silence, and the partitions of the
-/// topic `t`, and serves nothing. Gives 0, or 1 where the writer fails.
+/// Prints the numbers of what the program is to serve, 0 where no connection is to be closed for its silence, whether ends are told (1) or
+/// not (0), and the partitions of the topic `t`, and serves nothing. Gives 0, or 1 where the writer fails.
 fn echo<W: Write>(service: Service, writer: &mut W) -> u8 {
     let (port, workers) = (service.port, service.workers);
     let (shards, connections) = (service.shards, service.connections);
     let partitions = service.image.find("t").map_or(0, |(_, count)| count);
-    let idle = service.idle.unwrap_or(0);
+    let (idle, logs) = (service.idle.unwrap_or(0), u8::from(service.logs));
     let printed = writeln!(
         writer,
-        "{port} {workers} {shards} {connections} {idle} {partitions}"
+        "{port} {workers} {shards} {connections} {idle} {logs} {partitions}"
     );
     if printed.is_ok() { 0 } else { 1 }
 }

@@ -19,7 +19,7 @@ pub trait Watched: Gate + Drop + Sync {
     /// The reply on the connection with this number has come to its client.
     fn reply_is_out(&self, _connection: u64) {}
 
-    /// Whether it held a thread up for more turns than it may.
+    /// Whether it held a thread up for more turns than it may, or a reply went out without its leave.
     fn was_late(&self) -> bool {
         false
     }
@@ -91,13 +91,16 @@ impl<'a, R: Clock + Sync> Watched for Meeting<'a, R> {
     }
 }
 
-/// A gate that holds the reply on one connection until that on another is out.
+/// A gate that holds the reply on one connection until that on another is out. It counts too long a hold as late, and a reply that went
+/// out without its leave.
 #[derive(Drop)]
 pub struct Crossing<'a, R> {
     clock: &'a R,
     held: u64,
     is_out: AtomicU64,
     turns: AtomicU64,
+    /// How often it has let the held reply go.
+    leaves: AtomicU64,
 }
 
 impl<'a, R: Clock> Crossing<'a, R> {
@@ -107,6 +110,7 @@ impl<'a, R: Clock> Crossing<'a, R> {
             held,
             is_out: AtomicU64::new(0),
             turns: AtomicU64::new(0),
+            leaves: AtomicU64::new(0),
         }
     }
 }
@@ -115,7 +119,11 @@ impl<'a, R: Clock> Gate for Crossing<'a, R> {
     fn inside(&self, _shard: usize) {}
 
     fn may_reply(&self, stamp: Stamp) -> bool {
-        if stamp.connection != self.held || self.is_out.load(Ordering::SeqCst) == 1 {
+        if stamp.connection != self.held {
+            return true;
+        }
+        if self.is_out.load(Ordering::SeqCst) == 1 {
+            self.leaves.fetch_add(1, Ordering::SeqCst);
             return true;
         }
         thread::sleep(self.clock, Duration::from_micros(TURN));
@@ -131,6 +139,6 @@ impl<'a, R: Clock + Sync> Watched for Crossing<'a, R> {
     }
 
     fn was_late(&self) -> bool {
-        MOST_TURNS < self.turns.load(Ordering::SeqCst)
+        MOST_TURNS < self.turns.load(Ordering::SeqCst) || self.leaves.load(Ordering::SeqCst) == 0
     }
 }

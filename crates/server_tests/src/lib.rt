@@ -2,7 +2,11 @@
 #![tactic(auto)]
 
 #[cfg(test)]
+mod faults;
+#[cfg(test)]
 mod gates;
+#[cfg(test)]
+mod log;
 #[cfg(test)]
 mod memory;
 #[cfg(test)]

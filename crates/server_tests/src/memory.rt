@@ -2,7 +2,7 @@
 ghost use Rattle.std.specs.Prelude.{◌≡◌, ◌<◌};
 
 use crate::gates::Watched;
-use crate::server::{Told, Unheard, shards_over};
+use crate::server::{Told, Unheard, shards_over, unlogged};
 use bytes::BytesMut;
 use coord_server::{
     ClockMoments, Incoming, Moments, Plan, Registry, ServerFault, Shards, Token, serve,
@@ -38,7 +38,7 @@ where
         Ok(moments) => moments,
         Err(error) => return Err(ServerFault::System(error)),
     };
-    let (entries, calls) = (Blank::new(2), Blank::new(258));
+    let (entries, calls) = (Blank::new(4), Blank::new(258));
     memory_over::<Brand, Brand, G, _, R>(rt, gate, &moments, plan, frames, entries, calls)
 }
 
@@ -58,7 +58,7 @@ where
     G: Watched,
     M: Moments + Clone + Send,
     R: Wait + Threads + Clock + Net + RandomSource + AllocGlobal + Sync,
-    requires entries { (entries.name ≡ A.name) × (entries.parts ≡ A.parts) × (entries.parts ≡ 2) }
+    requires entries { (entries.name ≡ A.name) × (entries.parts ≡ A.parts) × (entries.parts ≡ 4) }
     requires calls { (calls.name ≡ C.name) × (calls.parts ≡ C.parts) × (calls.parts ≡ 258) }
 {
     let shards = shards_over::<A, C, G, _, R>(rt, gate, moments, entries, calls)?;
@@ -83,7 +83,15 @@ where
     M: Moments + Clone + Send,
     R: Wait + Threads + Clock + Net + RandomSource + AllocGlobal + Sync,
 {
-    serve(rt, shards, Listed { lines }, moments, plan, Unheard)
+    serve(
+        rt,
+        shards,
+        Listed { lines },
+        moments,
+        plan,
+        Unheard,
+        &unlogged(),
+    )
 }
 
 /// How many of the replies are right that were written into pipes whose other ends are gone.

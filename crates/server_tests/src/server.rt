@@ -4,8 +4,8 @@ ghost use Rattle.std.specs.Prelude.{◌≡◌, ◌<◌};
 use crate::gates::{Crossing, Meeting, Watched};
 use crate::memory::over_memory;
 use coord_server::{
-    AlwaysOpen, Announce, ClockMoments, Gate, Moments, Plan, ServerFault, Shards, ShardsDesk,
-    serve_sockets,
+    AlwaysOpen, Announce, ClockMoments, EndLog, Gate, Moments, Plan, ServerFault, Shards,
+    ShardsDesk, serve_sockets,
 };
 use std::alloc::{AllocError, AllocGlobal, Global};
 use std::collections::hash_map::RandomState;
@@ -63,6 +63,11 @@ impl Announce for Unheard {
     fn announce(self) -> io::Result<()> {
         Ok(())
     }
+}
+
+/// A log of ends that goes nowhere.
+pub fn unlogged() -> EndLog<Vec<u8>> {
+    EndLog::new(None)
 }
 
 /// What comes of a server: how many connections it has served, how many of their replies were right, and whether a thread was held up
@@ -144,7 +149,7 @@ where
         Ok(moments) => moments,
         Err(error) => return Err(ServerFault::System(error)),
     };
-    let (entries, calls) = (Blank::new(2), Blank::new(258));
+    let (entries, calls) = (Blank::new(4), Blank::new(258));
     sockets_over::<Brand, Brand, G, _, R>(rt, gate, &moments, plan, client, entries, calls)
 }
 
@@ -170,7 +175,7 @@ where
         + RandomSource
         + AllocGlobal
         + Sync,
-    requires entries { (entries.name ≡ A.name) × (entries.parts ≡ A.parts) × (entries.parts ≡ 2) }
+    requires entries { (entries.name ≡ A.name) × (entries.parts ≡ A.parts) × (entries.parts ≡ 4) }
     requires calls { (calls.name ≡ C.name) × (calls.parts ≡ C.parts) × (calls.parts ≡ 258) }
 {
     let shards = shards_over::<A, C, G, _, R>(rt, gate, moments, entries, calls)?;
@@ -206,7 +211,7 @@ where
     let reply = frame_of(rt.alloc(), JOINED)?;
     let (served, right) = thread::join(
         rt,
-        move || serve_sockets(rt, shards, socket, moments, plan, Unheard),
+        move || serve_sockets(rt, shards, socket, moments, plan, Unheard, &unlogged()),
         move || read_all(gate, connections, reply, order),
     );
     Ok((served?, right?))
@@ -226,7 +231,7 @@ where
     G: Watched,
     M: Moments + Clone,
     R: Wait + Clock + RandomSource + AllocGlobal,
-    requires entries { (entries.name ≡ A.name) × (entries.parts ≡ A.parts) × (entries.parts ≡ 2) }
+    requires entries { (entries.name ≡ A.name) × (entries.parts ≡ A.parts) × (entries.parts ≡ 4) }
     requires calls { (calls.name ≡ C.name) × (calls.parts ≡ C.parts) × (calls.parts ≡ 258) }
 {
     let hasher = RandomState::new(rt)?;
@@ -246,7 +251,8 @@ where
     R: Wait + AllocGlobal,
 {
     let image = image(rt.alloc())?;
-    let mut desk = ShardsDesk::new(rt, rt.alloc(), shards, moments)?;
+    let log = unlogged();
+    let mut desk = ShardsDesk::new(rt, rt.alloc(), shards, moments, &log)?;
     desk.set_image(&image)?;
     Ok(())
 }

@@ -44,7 +44,7 @@ fn history<R: Threads + Wait + Sync>(
     alloc: Global,
     hasher: RandomState,
 ) -> Result<String, AllocError> {
-    two_callers::<Brand, Brand, R>(rt, alloc, hasher, Blank::new(2), Blank::new(258))
+    two_callers::<Brand, Brand, R>(rt, alloc, hasher, Blank::new(4), Blank::new(258))
 }
 
 /// What two callers and the shards that they called come to.
@@ -55,7 +55,7 @@ fn two_callers<A: Ledger + Sync, C: Ledger + Sync, R: Threads + Wait + Sync>(
     entries: Blank,
     calls: Blank,
 ) -> Result<String, AllocError>
-    requires entries { (entries.name ≡ A.name) × (entries.parts ≡ A.parts) × (entries.parts ≡ 2) }
+    requires entries { (entries.name ≡ A.name) × (entries.parts ≡ A.parts) × (entries.parts ≡ 4) }
     requires calls { (calls.name ≡ C.name) × (calls.parts ≡ C.parts) × (calls.parts ≡ 258) }
 {
     let made = Shards::<A, C, AlwaysOpen>::new(
@@ -306,7 +306,7 @@ fn is_answered(
         return Ok(false);
     };
     let mut out = Vec::new(alloc);
-    match node.answer(alloc, body.as_slice(), *stamp, *moment, &mut out)? {
+    match node.answer(body.as_slice(), *stamp, *moment, &mut out)? {
         Answered::Replied => Ok(is_reply(had, out.as_slice())),
         Answered::Closes => Ok(false),
     }
@@ -336,7 +336,7 @@ fn sums<R: Threads + Wait + Sync>(
     alloc: Global,
     hasher: RandomState,
 ) -> Result<String, AllocError> {
-    four_callers::<Brand, Brand, R>(rt, alloc, hasher, Blank::new(4), Blank::new(260))
+    four_callers::<Brand, Brand, R>(rt, alloc, hasher, Blank::new(8), Blank::new(260))
 }
 
 /// What four callers and the shards that they called come to.
@@ -347,7 +347,7 @@ fn four_callers<A: Ledger + Sync, C: Ledger + Sync, R: Threads + Wait + Sync>(
     entries: Blank,
     calls: Blank,
 ) -> Result<String, AllocError>
-    requires entries { (entries.name ≡ A.name) × (entries.parts ≡ A.parts) × (entries.parts ≡ 4) }
+    requires entries { (entries.name ≡ A.name) × (entries.parts ≡ A.parts) × (entries.parts ≡ 8) }
     requires calls { (calls.name ≡ C.name) × (calls.parts ≡ C.parts) × (calls.parts ≡ 260) }
 {
     let made = Shards::<A, C, AlwaysOpen>::new(alloc, 4, 0, 0, hasher, AlwaysOpen, entries, calls);

@@ -1,6 +1,6 @@
 //! Shards, their seats and their journals, with answers worked out by hand from KIP-848 and from what the crate says of
 //! homes, caps and seats.
-ghost use Rattle.std.specs.Prelude.{◌≡◌, ◌+◌, ◌≤◌};
+ghost use Rattle.std.specs.Prelude.{◌≡◌, ◌+◌, ◌*◌, ◌≤◌};
 
 use crate::events::{ask, body_of, event_of, put_answer};
 use coord_shards::{AlwaysOpen, Answer, Seat, Shard, ShardFault, Shards, Stamp};
@@ -95,7 +95,7 @@ fn answer<R: Wait>(
         steps,
     };
     let shards = question.shards as u64;
-    let (entries, calls) = (Blank::new(shards), Blank::new(256 + shards));
+    let (entries, calls) = (Blank::new(2 * shards), Blank::new(256 + shards));
     told::<Brand, Brand, R>(rt, alloc, hasher, question, entries, calls)
 }
 
@@ -108,7 +108,7 @@ fn told<A: Ledger, C: Ledger, R: Wait>(
     entries: Blank,
     calls: Blank,
 ) -> Result<String, AllocError>
-    requires entries { (entries.name ≡ A.name) × (entries.parts ≡ A.parts) × (entries.parts ≡ question.shards) }
+    requires entries { (entries.name ≡ A.name) × (entries.parts ≡ A.parts) × (entries.parts ≡ 2 * question.shards) }
     requires calls { (calls.name ≡ C.name) × (calls.parts ≡ C.parts) × (calls.parts ≡ 256 + question.shards) }
 {
     let mut out = String::new(alloc);
@@ -230,9 +230,7 @@ fn close<A: Ledger, C: Ledger>(
     shards: Shards<A, C, AlwaysOpen>,
     seats: Vec<Seat<C>>,
     out: &mut String,
-) -> Result<(), AllocError>
-    requires calls { C.parts ≡ 256 + shards.shards }
-{
+) -> Result<(), AllocError> {
     part_words(out)?;
     out.push('|')?;
     put_seats(&seats, out)?;
@@ -257,9 +255,7 @@ fn close_all<A: Ledger, C: Ledger>(
     shards: Shards<A, C, AlwaysOpen>,
     seats: Vec<Seat<C>>,
     out: &mut String,
-) -> Result<(), AllocError>
-    requires calls { C.parts ≡ 256 + shards.shards }
-{
+) -> Result<(), AllocError> {
     match shards.close(alloc, seats) {
         Ok(closed) => put_shards(&closed, out),
         Err(kept) => match kept.shards.close(alloc, kept.seats) {

@@ -225,7 +225,7 @@ impl Course for Played {
 /// Does acts, and tells what each shows. Where a growth is refused, those behind it were done, so that all begins anew.
 fn run(alloc: Global, world: &mut World, words: &str, out: &mut String) -> Result<(), AllocError> {
     let acts = acts_of(alloc, words)?;
-    let outcomes = world.run(alloc, acts).map_err(|_| AllocError)?;
+    let outcomes = world.run(acts).map_err(|_| AllocError)?;
     for outcome in outcomes.as_slice() {
         if let Err(WorldFault::NoMemory) = outcome {
             return Err(AllocError);
@@ -243,16 +243,16 @@ fn outcome_of(
     words: &str,
 ) -> Result<Result<Shown, WorldFault>, AllocError> {
     if words == "settle" {
-        return Ok(settle(alloc, world));
+        return Ok(settle(world));
     }
     let act = act_of(alloc, words)?;
-    Ok(world.act(alloc, act))
+    Ok(world.act(act))
 }
 
 /// Settles the world. Where a growth is refused some of the acts were done, and the world is settled once more.
-fn settle(alloc: Global, world: &mut World) -> Result<Shown, WorldFault> {
-    let settled = match world.settle(alloc) {
-        Err(WorldFault::NoMemory) => world.settle(alloc),
+fn settle(world: &mut World) -> Result<Shown, WorldFault> {
+    let settled = match world.settle() {
+        Err(WorldFault::NoMemory) => world.settle(),
         settled => settled,
     };
     settled.map(|_| Shown::Done)
