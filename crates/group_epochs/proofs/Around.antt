@@ -22,10 +22,10 @@ use Rattle.std.proofs.lemmas.Map.Entries.{lookup_from_place}
 use Rattle.std.proofs.lemmas.Map.Keys.{IsDistinct-IsPermutation, Less-from_sorted}
 use Rattle.group_types.specs.Assignors.{IdsAreApart, Subscriber, member_cmp}
 use Rattle.group_types.specs.Group.{Record}
+use Rattle.group_types.specs.Renewal.{subscriber_of}
 use Rattle.group_types.specs.Text.{Text, text_cmp}
 use Rattle.group_types.proofs.Lookups.{some_is}
 use Rattle.group_types.proofs.Orders.{text_cmp_total}
-use Rattle.group_epochs.specs.Seen.{seen_as}
 use Rattle.group_epochs.specs.Table.{IsMemberOrder, IsSplitAt, Key, is_place, key_at, key_cmp, keys_at, keys_in, no_key, other_places, others, rows_at, seen_of, with_row}
 use Rattle.group_epochs.specs.declared.entry.Entry.{Entry}
 use Rattle.group_epochs.proofs.Keys.{key_cmp_total, key_cmp-IsAntisymmetric, key_found}
@@ -156,7 +156,7 @@ module _ {Y : Type 0} (rows : List (String Y × Entry)) (distinct : IsDistinct s
       own_key = (r.instance, m)
 
       abbrev seen : Subscriber
-      seen = seen_as m r
+      seen = subscriber_of (m, r)
 
       abbrev key_of_place : ℕ → Key
       key_of_place = key_at no_key (keys_in rows)

@@ -26,7 +26,6 @@ use Rattle.group_types.specs.Group.{Record, Records}
 use Rattle.group_types.specs.Renewal.{subscriber_of}
 use Rattle.group_types.proofs.Lookups.{Tie, ties, differs, tie, not_none, text_ties}
 use Rattle.group_types.proofs.Orders.{text_cmp_total}
-use Rattle.group_epochs.specs.Seen.{seen_as}
 use Rattle.group_epochs.specs.Table.{others, records_in, seen_of, texts_in}
 use Rattle.group_epochs.specs.declared.entry.Entry.{Entry}
 use Rattle.group_epochs.proofs.Rows.{get-records_in, inserted, kept_in, removed, tied_bytes, tied_bytes_turned}
@@ -164,14 +163,14 @@ module _ {Y : Type 0} where
   AreNamed rows = (m : Text) (e : Entry) → lookup (λ k. bytes_eq m (string_bytes k)) rows ≡ Some e → e.id ≡ m
 
   abbrev seen_by_text : String Y × Entry → Subscriber
-  seen_by_text row = seen_as (string_bytes row.0) row.1.kept
+  seen_by_text row = subscriber_of (string_bytes row.0, row.1.kept)
 
   seen_alike : (rows : List (String Y × Entry)) → IsDistinct string_eq (keys_of rows) → AreNamed rows → map seen_of rows ≡ map seen_by_text rows
   seen_alike [] apart named = refl
   seen_alike (row ∷ rows) apart named =
       let rest = seen_alike rows (IsDistinct-tail string_eq row.0 (keys_of rows) apart) (λ m e is. named m e (found_behind row rows apart m e is)) in
       let own = named (string_bytes row.0) row.1 (found_first row rows) in
-      λ i. seen_as (own i) row.1.kept ∷ rest i
+      λ i. subscriber_of (own i, row.1.kept) ∷ rest i
 
   named_others : (rows : List (String Y × Entry)) (id : Text) → AreNamed rows → AreNamed (others id rows)
   named_others rows id named m e is = named m e (by (bytes_eq m id) (sym (lookup-others id rows m) ∙ is))
@@ -212,7 +211,7 @@ module _ {Y : Type 0} where
   ids_seen (row ∷ rows) = ap (λ l. string_bytes row.0 ∷ l) (ids_seen rows)
 
   distinct_ids : (rows : List (String Y × Entry)) (id : Text) (r : Record) → IsDistinct string_eq (keys_of rows)
-      → IsDistinct (eq_by_cmp text_cmp) (map (λ (s : Subscriber). s.id) (seen_as id r ∷ map seen_by_text (others id rows)))
+      → IsDistinct (eq_by_cmp text_cmp) (map (λ (s : Subscriber). s.id) (subscriber_of (id, r) ∷ map seen_by_text (others id rows)))
   unfolding IsDistinct
   distinct_ids rows id r apart =
       subst (λ ids. IsDistinct (eq_by_cmp text_cmp) (id ∷ ids)) (sym (ids_seen (others id rows)))
@@ -225,20 +224,20 @@ module _ {Y : Type 0} where
       seen_alike (others id rows) (IsDistinct-keys_filter string_eq (λ (row : String Y × Entry). not (bytes_eq (string_bytes row.0) id)) rows apart) (named_others rows id named)
 
   pub members_apart : (rows : List (String Y × Entry)) (id : Text) (r : Record) → IsDistinct string_eq (keys_of rows) → AreNamed rows
-      → IsDistinct (eq_by_cmp text_cmp) (map (λ (s : Subscriber). s.id) (seen_as id r ∷ map seen_of (others id rows)))
+      → IsDistinct (eq_by_cmp text_cmp) (map (λ (s : Subscriber). s.id) (subscriber_of (id, r) ∷ map seen_of (others id rows)))
   members_apart rows id r apart named =
-      subst (λ l. IsDistinct (eq_by_cmp text_cmp) (map (λ (s : Subscriber). s.id) (seen_as id r ∷ l))) (sym (seen_others rows id apart named)) (distinct_ids rows id r apart)
+      subst (λ l. IsDistinct (eq_by_cmp text_cmp) (map (λ (s : Subscriber). s.id) (subscriber_of (id, r) ∷ l))) (sym (seen_others rows id apart named)) (distinct_ids rows id r apart)
 
   subscribers_alike : (rows : List (String Y × Entry)) → map subscriber_of (map pair rows) ≡ map seen_by_text rows
   subscribers_alike [] = refl
   subscribers_alike (row ∷ rows) = ap (λ l. seen_by_text row ∷ l) (subscribers_alike rows)
 
   pub members_move : (rows : List (String Y × Entry)) (id : Text) (r : Record) (subs : List Subscriber) → IsDistinct string_eq (keys_of rows) → AreNamed rows
-      → IsPermutation (seen_as id r ∷ map seen_of (others id rows)) subs → IsPermutation (map subscriber_of (finite.entries (finite.insert (records_in rows) id r))) subs
+      → IsPermutation (subscriber_of (id, r) ∷ map seen_of (others id rows)) subs → IsPermutation (map subscriber_of (finite.entries (finite.insert (records_in rows) id r))) subs
   members_move rows id r subs apart named moves =
       let stored = finite.entries (finite.insert (records_in rows) id r) in
       let given = (id, r) ∷ map pair (others id rows) in
-      let alike : map subscriber_of given ≡ seen_as id r ∷ map seen_of (others id rows) = ap (λ l. seen_as id r ∷ l) (subscribers_alike (others id rows) ∙ sym (seen_others rows id apart named)) in
+      let alike : map subscriber_of given ≡ subscriber_of (id, r) ∷ map seen_of (others id rows) = ap (λ l. subscriber_of (id, r) ∷ l) (subscribers_alike (others id rows) ∙ sym (seen_others rows id apart named)) in
       IsPermutation-trans (map subscriber_of stored) (map subscriber_of given) subs
       (IsPermutation-sym (map subscriber_of given) (map subscriber_of stored) (IsPermutation-map subscriber_of given stored (entries_with rows id r apart)))
       (subst (λ l. IsPermutation l subs) (sym alike) moves)

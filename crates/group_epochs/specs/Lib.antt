@@ -1,6 +1,5 @@
 pub mod Request
 pub mod Stored
-pub mod Joins
 pub mod Kept
 pub mod Past
 pub mod Records

@@ -19,9 +19,9 @@ use Rattle.group_types.specs.Assignors.{Subscriber, instance_cmp}
 use Rattle.group_types.specs.Group.{Record, Records}
 use Rattle.group_types.specs.Members.{past_stamp}
 use Rattle.group_types.specs.Checks.{is_late}
+use Rattle.group_types.specs.Renewal.{subscriber_of}
 use Rattle.group_epochs.specs.Past.{PastState, HasRoomFor, places}
 use Rattle.group_epochs.specs.Records.{Marks, RecordsState, beaten}
-use Rattle.group_epochs.specs.Seen.{seen_as}
 use Rattle.group_epochs.specs.declared.entry.Entry.{Entry}
 
 abbrev pub with_mark : Marks → Text → Option ℕ → Marks
@@ -179,7 +179,7 @@ pub record IsOfMemberWith {Y S : Type 0} (i : Text) (members : IndexMap (String 
 
 -- a member as an assignor sees it
 abbrev pub seen_of : {Y : Type 0} → String Y × Entry → Subscriber
-seen_of row = seen_as row.1.id row.1.kept
+seen_of row = subscriber_of (row.1.id, row.1.kept)
 
 -- ---- changes at one id
 

@@ -4,16 +4,16 @@ ghost use Rattle.std.specs.Prelude.{◌≡◌, ◌↔◌, ◌≢◌, IfOk, None,
 ghost use Rattle.std.specs.Option.{option_copied, option_map};
 ghost use Rattle.std.specs.String.{string_bytes};
 ghost use Rattle.group_types.specs.HeartbeatStep.{is_news};
-ghost use Rattle.group_types.specs.Join.{blank_record, record_of_beat, record_of_join, updated};
+ghost use Rattle.group_types.specs.Join.{blank_record, record_of_beat, record_of_join, returned_epoch, updated};
 ghost use Rattle.group_types.specs.Leave.{away};
+ghost use Rattle.group_types.specs.Renewal as renewal;
 ghost use Rattle.group_types.specs.Tick.{has_come, is_due};
 ghost use Rattle.group_types.specs.Settle.{arrived, settled_record};
 ghost use Rattle.kip_msgs.specs.Views.{heartbeat_request_value};
 ghost use Rattle.group_epochs.specs.Request.{heartbeat_of};
 ghost use Rattle.range_assign.specs.Members.{subscriber_of};
-ghost use Rattle.group_epochs.specs.Joins.{returned_epoch};
 ghost use Rattle.group_epochs.specs.Records.{beaten};
-ghost use Rattle.group_epochs.specs.Seen.{is_instance, seen_as};
+ghost use Rattle.group_epochs.specs.Seen.{is_instance};
 ghost use Rattle.group_epochs.specs.Deadlines.{first_deadline};
 
 use crate::deadlines::earlier;
@@ -196,7 +196,7 @@ impl Record {
 
     /// The member as an assignor sees it. Takes no memory.
     pub(crate) fn as_subscriber<'a>(&'a self, id: &'a MemberId) -> Subscriber<'a>
-        ensures { subscriber_of result ≡ seen_as id.now self.now }
+        ensures { subscriber_of result ≡ renewal.subscriber_of (id.now, self.now) }
     {
         Subscriber {
             id,

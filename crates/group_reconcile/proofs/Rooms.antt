@@ -1,5 +1,5 @@
 -- Room for the cells of all partitions of a set.
-use Rattle.std.proofs.Common.{◌≡◌, ◌⊎◌, inl, inr, ℕ, ◌≤◌, ℤ, pos, negsuc, Bool, true, false, ◌||◌, List, [], ◌∷◌, refl, sym, ap, subst, arith}
+use Rattle.std.proofs.Common.{◌≡◌, ◌⊎◌, inl, inr, ℕ, ◌≤◌, ℤ, pos, negsuc, Bool, true, false, ◌||◌, List, [], ◌∷◌, refl, sym, ap, subst, arith, ltb-true, lt-ltb}
 use Rattle.std.specs.List.{AllByRecursion, list_any}
 use Rattle.std.specs.Ordering.{eq_by_cmp}
 use Rattle.std.specs.Cmp.{Equal-is, eq_by_cmp_equiv}
@@ -10,7 +10,7 @@ use Rattle.group_types.specs.Owners.{IsIndex}
 use Rattle.group_reconcile.specs.Tables.{Sizes, HasRoom, KeepsRoom}
 
 within_more : (k : ℤ) (m n : ℕ) → m ≤ n → IsIndex k m → IsIndex k n
-within_more (pos i) m n more within = omega arith
+within_more (pos i) m n more within = let below = ltb-true i m within in lt-ltb i n (omega arith)
 within_more (negsuc i) m n more within = within
 
 pub room_kept : (old new : Sizes) (p : Partition) → KeepsRoom old new → HasRoom old p → HasRoom new p

@@ -1,5 +1,5 @@
 -- What the tables have once a cell was written.
-use Rattle.std.proofs.Common.{inl, inr, true≢false, ◌≤◌, ◌≡◌, ◌≢◌, ℕ, zero, suc, ◌<◌, ℤ, pos, negsuc, Bool, true, false, cond, ◌&&◌, List, [], ◌∷◌, length, refl, sym, ap, subst, ◌∙◌, arith, Option, Some, None, get_or, set, unwrap_or, nat_lt, is_some}
+use Rattle.std.proofs.Common.{inl, inr, true≢false, ◌≤◌, ◌≡◌, ◌≢◌, ℕ, zero, suc, ◌<◌, ℤ, pos, negsuc, Bool, true, false, cond, ◌&&◌, List, [], ◌∷◌, length, refl, sym, ap, subst, ◌∙◌, arith, Option, Some, None, get_or, set, unwrap_or, nat_lt, is_some, ltb-true}
 use Rattle.std.specs.Ordering.{eq_by_cmp, is_eq, int_cmp}
 use Rattle.std.specs.Prelude.{IsSome, OnOk, Result, Ok, Err}
 use Rattle.std.specs.Cmp.{Equal-is, eq_by_cmp_equiv}
@@ -64,9 +64,9 @@ if_past : {A : Type 0} (i n : ℕ) (x y : A) → n ≤ i → cond (nat_lt i n) x
 if_past i n x y h = ap (λ b. cond b x y) (ltb_not i n h)
 
 pub puts : (old new : List (Option Cell)) (k : ℤ) (cell : Option Cell) → IsIndex k (length old) → SetsCell old new k cell → Puts old new k cell
-puts old new (negsuc i) cell within sets j = absurd within
+puts old new (negsuc i) cell within sets j = absurd (true≢false (sym within))
 puts old new (pos i) cell within sets (pos n) =
-    ap (λ cs. get_or cs n None) (sets ∙ if_within i (length old) (set old i cell) old within) ∙ set_at old i n cell within
+    ap (λ cs. get_or cs n None) (sets ∙ ap (λ b. cond b (set old i cell) old) within) ∙ set_at old i n cell (ltb-true i (length old) within)
 puts old new (pos i) cell within sets (negsuc n) = refl
 
 pub clears : (old new : List (Option Cell)) (k : ℤ) → SetsCell old new k None → Puts old new k None
@@ -145,8 +145,8 @@ room_at ts sizes p o is finds room =
     (ap (λ s. finite.get s p.topic) (sym is) ∙ get-sizes_in p.topic ts ∙ ap (option_map (λ c. length c.items)) finds) room
 
 pub no_room : (k : ℤ) → IsIndex k 0 → ⊥
-no_room (pos i) h = omega arith
-no_room (negsuc i) h = h
+no_room (pos i) h = let below = ltb-true i 0 h in omega arith
+no_room (negsuc i) h = true≢false (sym h)
 
 -- without a table of its topic a partition has no cell
 pub cells-absent : (ts : List TopicCells) (p : Partition) → lookup (is_at (text_cmp p.topic)) ts ≡ None → cells_in ts ≡ finite.remove (cells_in ts) p

@@ -1,4 +1,4 @@
--- What comes of a heartbeat at a sound group. The stages of HeartbeatStep are taken apart here for all laws that look at what an accepted
+-- What comes of a heartbeat at a consistent group. The stages of HeartbeatStep are taken apart here for all laws that look at what an accepted
 -- heartbeat leaves.
 use Rattle.std.proofs.Common.{◌≡◌, ◌≢◌, ℕ, zero, suc, ◌≤◌, ◌+◌, ◌==◌, ℤ, pos, negsuc, Bool, true, false, cond, not, ◌&&◌, ◌||◌, max, nat_le, List, [], ◌∷◌, Option, Some, None, MatchOption, is_some, refl, sym, ap, subst, ◌∙◌, arith, true≢false}
 use Rattle.std.specs.List.{list_any}
@@ -24,15 +24,15 @@ use Rattle.group_types.specs.Group.{Record, Records, Past, Group, wanted}
 use Rattle.group_types.specs.Members.{past_stamp, without_past}
 use Rattle.group_types.specs.Settle.{may_settle, settled_by, settled_record}
 use Rattle.group_types.specs.Renewal.{Renews, RenewsWhere, changed_if, view_for}
-use Rattle.group_types.specs.Join.{IsNamed, IsSerial, Name, name_of_serial, returned_at}
+use Rattle.group_types.specs.Join.{IsNamed, IsSerial, Name, name_of_serial}
 use Rattle.group_types.specs.Leave.{gone_away, last_epoch, left}
 use Rattle.group_types.specs.Checks.{Verdict, Accepted, Refused, Overtaken, Member, Sender, is_away, is_unreleased, record_under, sender_of, verdict_on}
 use Rattle.group_types.specs.HeartbeatStep as machine
 use Rattle.group_types.specs.HeartbeatStep.{Answer, Replied, Closes, Reply, Arrival, Draft, BeatsWith, ByVerdict, GoesAwayWith, IsRefused, StepOf, TakesIn, HeartbeatStep, acceptance, assignment_of, draft_of_beat, draft_of_join, draft_under, farewell, handed_over, is_news, refusal, sent_after, shown}
-use Rattle.group_types.specs.Sound.{IsSound}
+use Rattle.group_types.proofs.Consistent.{IsConsistent}
 use Rattle.group_types.specs.Fencing.{IsAcceptedAs, last_stamp, stamp_kept}
 use Rattle.group_types.proofs.Lookups.{not_none, some_is, get-inserted}
-use Rattle.group_types.proofs.Renewals.{changed_is_sound, renewed_is_sound}
+use Rattle.group_types.proofs.Renewals.{changed_is_consistent, renewed_is_consistent}
 use Rattle.group_types.proofs.Senders.{named_fresh, named_own, other_is, own_is}
 use Rattle.group_types.proofs.Drafts.{IsReady, beat_epoch, beat_is_ready, join_epoch, join_is_ready}
 use Rattle.group_types.proofs.Checked.{IsLater, IsRefusal, in_time, joining, leaver, refusals_differ, unavailable_is}
@@ -85,7 +85,7 @@ stored g m r = record g { records = finite.insert g.records m r }
 
 pub record Stages (d : Draft) (q : Heartbeat) (answer : Answer) (new : Group) : Type 0 where
   pub renewed : Group
-  pub sound : IsSound renewed
+  pub sound : IsConsistent renewed
   pub records : renewed.records ≡ d.group.records
   pub grants : renewed.grants ≡ d.group.grants
   pub past : renewed.past ≡ d.group.past
@@ -123,7 +123,7 @@ pub data Came (g : Group) (a : Arrival) (answer : Answer) (new : Group) : Type 0
 
 -- ---- the renewal
 
-module _ (d renewed : Group) (sound : IsSound d) where
+module _ (d renewed : Group) (sound : IsConsistent d) where
   abbrev Renewed : Type 0
   Renewed =
       (renewed.records ≡ d.records) × (renewed.grants ≡ d.grants) × (renewed.past ≡ d.past) × (renewed.clock ≡ d.clock)
@@ -151,12 +151,12 @@ module _ (d renewed : Group) (sound : IsSound d) where
   renewed_if true view renews = renewed_as (changed_if true d view) refl refl refl refl refl refl (suc d.epoch == d.target_epoch) refl renews
   renewed_if false view renews = renewed_as d refl refl refl refl refl refl (d.epoch == d.target_epoch) refl renews
 
-  renewed_soundly : (change : Bool) (view : Topics) → (change && nat_le GREATEST_EPOCH d.epoch) ≡ false → Renews (changed_if change d view) renewed → IsSound renewed
-  renewed_soundly false view room renews = renewed_is_sound d sound renewed renews
-  renewed_soundly true view room renews =
+  renewed_consistently : (change : Bool) (view : Topics) → (change && nat_le GREATEST_EPOCH d.epoch) ≡ false → Renews (changed_if change d view) renewed → IsConsistent renewed
+  renewed_consistently false view room renews = renewed_is_consistent d sound renewed renews
+  renewed_consistently true view room renews =
       let below = leb-false GREATEST_EPOCH d.epoch room in
       let target = sound.target_epoch in
-      changed_is_sound d sound (suc d.epoch) view renewed (omega (arith, target)) (omega (arith, below)) renews
+      changed_is_consistent d sound (suc d.epoch) view renewed (omega (arith, target)) (omega (arith, below)) renews
 
 -- ---- the stages
 
@@ -182,7 +182,7 @@ module _ (g : Group) (a : Arrival) (answer : Answer) (new : Group) (d : Draft) (
       ∙ ap (λ (r : Record). assignment_of (is_full q || is_news r.sent (shown (offered renewed d q) d.id)) (shown (offered renewed d q) d.id)) is_kept in
       record {
         renewed = renewed;
-        sound = renewed_soundly d.group renewed drafting.ready.sound change view room goes.renews;
+        sound = renewed_consistently d.group renewed drafting.ready.sound change view room goes.renews;
         records = same.0;
         grants = same.1;
         past = same.2;
@@ -232,10 +232,6 @@ named_stamp g [] name (serial, is_serial, named) none last is = absurd (by seria
         not_none last
         (sym ((λ i. stamp_kept (fresh.0 i) (not_in_past g.past (made_id g.salt n) fresh.1 i))) ∙ ap (last_stamp g) (sym (ap (λ (x : Name). x.id) same)) ∙ is)
 
-returned_release : (r : Record) (e : Epoch) → (returned_at e r).release_deadline ≡ r.release_deadline
-returned_release r (At n) = refl
-returned_release r Away = refl
-
 either_true : (a b : Bool) → a ≡ true → (a || b) ≡ true
 either_true true b so = refl
 either_true false b never = absurd (true≢false (sym never))
@@ -244,7 +240,7 @@ away_of : (e : Epoch) → not (is_away e) ≡ false → is_away e ≡ true
 away_of (At n) never = absurd (true≢false never)
 away_of Away so = refl
 
-module _ (g : Group) (sound : IsSound g) (a : Arrival) where
+module _ (g : Group) (sound : IsConsistent g) (a : Arrival) where
   abbrev TheHeartbeat : Heartbeat
   TheHeartbeat = a.heartbeat
 
@@ -342,7 +338,7 @@ module _ (g : Group) (sound : IsSound g) (a : Arrival) where
           epoch = (0, joins);
           named_in_time = later;
           in_time = λ last is. later last (ap (last_stamp g) (sym same) ∙ is);
-          whose = its_own r refl same (ap (finite.get g.records) same ∙ there) (join_epoch r TheHeartbeat a.stamp Now) (λ partial. absurd (true≢false (sym join_is_full ∙ partial))) (returned_release r r.epoch);
+          whose = its_own r refl same (ap (finite.get g.records) same ∙ there) (join_epoch r TheHeartbeat a.stamp Now) (λ partial. absurd (true≢false (sym join_is_full ∙ partial))) refl;
         }
 
   -- ---- by the kind of heartbeat
@@ -393,6 +389,6 @@ module _ (g : Group) (sound : IsSound g) (a : Arrival) where
         (refusal_fails answer code (subst IsRefusal refused (refusals_differ (kind_of TheHeartbeat.epoch) TheSender g TheHeartbeat a.stamp)) is.0)
     by_verdict Overtaken late is = unchanged is.1 (closing_fails answer is.0)
 
-pub came : (g : Group) → IsSound g → (a : Arrival) (answer : Answer) (new : Group) → HeartbeatStep g a answer new → Came g a answer new
+pub came : (g : Group) → IsConsistent g → (a : Arrival) (answer : Answer) (new : Group) → HeartbeatStep g a answer new → Came g a answer new
 came g sound a answer new step =
     by_verdict g sound a answer new (verdict_on (kind_of a.heartbeat.epoch) (sender_of g.records a.heartbeat) g a.heartbeat a.stamp) refl step

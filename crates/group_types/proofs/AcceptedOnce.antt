@@ -16,16 +16,16 @@ use Rattle.group_types.specs.Leave.{away, gone_away, left, risen, without_member
 use Rattle.group_types.specs.Tick.{at_moment, due, expired, is_due, ticked, without_members}
 use Rattle.group_types.specs.HeartbeatStep.{Answer, Replied, Arrival, Draft, farewell, handed_over}
 use Rattle.group_types.specs.Laws.{GroupEvent, IsGroupStep, OfCommit, OfHeartbeat, OfTick}
-use Rattle.group_types.specs.Sound.{IsPast, IsSound}
+use Rattle.group_types.specs.Sound.{IsPast}
+use Rattle.group_types.proofs.Consistent.{IsConsistent, consistent}
 use Rattle.group_types.specs.Fencing.{AcceptsOnce, IsAcceptedAs, IsLate, IsRunKnowing, last_stamp, stamp_kept}
 use Rattle.group_types.proofs.Entries.{entries_found}
 use Rattle.group_types.proofs.Lookups.{Tie, ties, differs, tie, not_none, some_is, get-inserted, get-insert_other, removed_is_none}
 use Rattle.group_types.proofs.Orders.{text_cmp_total}
 use Rattle.group_types.proofs.PastLemmas.{first_differs, not_past, past_without}
 use Rattle.group_types.proofs.Remembered.{IsSameOrForgotten, others_remembered, remembered_now, stamp_without_other}
-use Rattle.group_types.proofs.Soundness.{Leaves, clocked_is_sound, leaves_after, leaves_of_sorted, leaving_is_sound, risen_is_sound}
-use Rattle.group_types.proofs.Heartbeats.{heartbeats_are_sound}
-use Rattle.group_types.proofs.Runs.{step_is_sound}
+use Rattle.group_types.proofs.Soundness.{Leaves, clocked_is_consistent, leaves_after, leaves_of_sorted, leaving_is_consistent, risen_is_consistent}
+use Rattle.group_types.proofs.Heartbeats.{heartbeats_are_consistent, step_is_consistent}
 use Rattle.group_types.proofs.Checked.{IsLater}
 use Rattle.group_types.proofs.Accepted.{Came, unchanged, has_left, went_away, taken_in, came, Fails, nobody, Drafting, Stages, Whose, its_own, newcomer, takes_over}
 use Rattle.group_types.specs.Checks.{Member}
@@ -108,27 +108,27 @@ one_leaves g past m r there k = by (tie k m)
         inl (ap (last_stamp (without_member g m r.stamp)) is ∙ left_stamp g past m r there r.stamp ∙ sym (ap (last_stamp g) is ∙ at_some g m r there))
     by (differs other apart) = left_others g past m r there r.stamp k apart
 
-all_leave : (ms : List (Text × Record)) (g : Group) → IsSound g → Leaves g.records ms → (k : Text) → IsSameOrForgotten (last_stamp g k) (last_stamp (without_members g ms) k)
+all_leave : (ms : List (Text × Record)) (g : Group) → IsConsistent g → Leaves g.records ms → (k : Text) → IsSameOrForgotten (last_stamp g k) (last_stamp (without_members g ms) k)
 all_leave [] g sound leaves k = inl refl
 all_leave (m ∷ ms) g sound leaves k =
     let after : Group = without_member g m.0 m.1.stamp in
     then_goes (last_stamp g k) (last_stamp after k) (last_stamp (without_members after ms) k)
     (one_leaves g sound.past m.0 m.1 leaves.0 k)
-    (all_leave ms after (leaving_is_sound g sound m.0 m.1 leaves.0 m.1.stamp) (leaves_after g.records m.0 ms leaves.1 leaves.2) k)
+    (all_leave ms after (leaving_is_consistent g sound m.0 m.1 leaves.0 m.1.stamp) (leaves_after g.records m.0 ms leaves.1 leaves.2) k)
 
-expired_goes : (ms : List (Text × Record)) (g : Group) → IsSound g → Leaves g.records ms → (k : Text) → IsSameOrForgotten (last_stamp g k) (last_stamp (expired g ms) k)
+expired_goes : (ms : List (Text × Record)) (g : Group) → IsConsistent g → Leaves g.records ms → (k : Text) → IsSameOrForgotten (last_stamp g k) (last_stamp (expired g ms) k)
 expired_goes [] g sound leaves k = inl refl
-expired_goes (m ∷ ms) g sound leaves k = all_leave (m ∷ ms) (record g { epoch = risen g.epoch }) (risen_is_sound g sound) leaves k
+expired_goes (m ∷ ms) g sound leaves k = all_leave (m ∷ ms) (record g { epoch = risen g.epoch }) (risen_is_consistent g sound) leaves k
 
-ticked_goes : (g : Group) → IsSound g → (moment : ℕ) (k : Text) → IsSameOrForgotten (last_stamp g k) (last_stamp (ticked g moment) k)
+ticked_goes : (g : Group) → IsConsistent g → (moment : ℕ) (k : Text) → IsSameOrForgotten (last_stamp g k) (last_stamp (ticked g moment) k)
 ticked_goes g sound moment k =
     let now : Group = at_moment g moment in
-    expired_goes (due now) now (clocked_is_sound g (max g.clock moment) sound)
+    expired_goes (due now) now (clocked_is_consistent g (max g.clock moment) sound)
     (leaves_of_sorted (λ m. is_due now.clock m.1) g.records (finite.entries g.records) (finite.entries_sorted g.records) (entries_found g.records)) k
 
 -- ---- a join or a beat
 
-module _ (g : Group) (sound : IsSound g) (a : Arrival) (answer : Answer) (new : Group) (d : Draft) (drafting : Drafting g a d) (stages : Stages d a.heartbeat answer new) where
+module _ (g : Group) (sound : IsConsistent g) (a : Arrival) (answer : Answer) (new : Group) (d : Draft) (drafting : Drafting g a d) (stages : Stages d a.heartbeat answer new) where
   taken_stamp : last_stamp new d.id ≡ Some a.stamp
   taken_stamp =
       at_some new d.id (Last g a answer new d drafting stages) (has_record g a answer new d drafting stages)
@@ -179,7 +179,7 @@ module _ (g : Group) (sound : IsSound g) (a : Arrival) (answer : Answer) (new : 
 
 -- ---- any heartbeat
 
-module _ (g : Group) (sound : IsSound g) (a : Arrival) (answer : Answer) (new : Group) where
+module _ (g : Group) (sound : IsConsistent g) (a : Arrival) (answer : Answer) (new : Group) where
   came_goes : (k : Text) → Came g a answer new → Goes (last_stamp g k) (last_stamp new k)
   came_goes k (unchanged same fails) = stays (inl (ap (λ (x : Group). last_stamp x k) same))
   came_goes k (has_left r epoch there later answers is) =
@@ -230,8 +230,8 @@ module _ (g : Group) (sound : IsSound g) (a : Arrival) (answer : Answer) (new : 
 
 -- ---- any event
 
-event_goes : (event : GroupEvent) (g new : Group) → IsSound g → IsGroupStep g event new → (k : Text) → Goes (last_stamp g k) (last_stamp new k)
-event_goes (OfHeartbeat a answer) g new sound step k = came_goes g sound a answer new k (came g sound a answer new step)
+event_goes : (event : GroupEvent) (g new : Group) → IsConsistent g → IsGroupStep g event new → (k : Text) → Goes (last_stamp g k) (last_stamp new k)
+event_goes (OfHeartbeat a answer) g new sound step k = came_goes g sound a answer new k (came g sound a answer new step.1)
 event_goes (OfTick moment) g new sound step k = stays (subst (λ (x : Group). IsSameOrForgotten (last_stamp g k) (last_stamp x k)) (sym step) (ticked_goes g sound moment k))
 event_goes (OfCommit c image reply) g new sound step k = stays (inl (ap (λ (x : Group). last_stamp x k) step.stores))
 
@@ -252,7 +252,7 @@ has_stamp g m known none = by (finite.get g.records m) refl
 
 -- the stamp is late for the one that is known
 record IsLateIn (g : Group) (m : Text) (stamp : Stamp) : Type 0 where
-  sound : IsSound g
+  sound : IsConsistent g
   last : Stamp
   known : last_stamp g m ≡ Some last
   late : IsLate stamp last
@@ -263,18 +263,19 @@ stays_late (event ∷ events) g new m stamp (next, step, known, run) late =
     stays_late events next new m stamp run (by (event_goes event g next late.sound step m))
   where
     by : Goes (last_stamp g m) (last_stamp next m) → IsLateIn next m stamp
-    by (stays (inl same)) = record { sound = step_is_sound event g next step late.sound; last = late.last; known = same ∙ late.known; late = late.late }
+    by (stays (inl same)) = record { sound = step_is_consistent event g next step late.sound; last = late.last; known = same ∙ late.known; late = late.late }
     by (stays (inr forgotten)) = absurd (has_stamp next m known forgotten)
     by (rises later is above) =
-        record { sound = step_is_sound event g next step late.sound; last = later; known = is; late = late_for stamp late.last later late.late (above late.last late.known) }
+        record { sound = step_is_consistent event g next step late.sound; last = later; known = is; late = late_for stamp late.last later late.late (above late.last late.known) }
 
 pub accepts_once : AcceptsOnce
 accepts_once g a m answer next events last b reply new sound step accepted run names late again =
+    let kept = consistent g sound in
     let first : IsLateIn next m b.stamp =
     record {
-      sound = heartbeats_are_sound g a answer next step sound;
+      sound = heartbeats_are_consistent g a answer next step kept;
       last = a.stamp;
-      known = came_stamp g sound a answer next m accepted (came g sound a answer next step);
+      known = came_stamp g kept a answer next m accepted (came g kept a answer next step);
       late = late;
     } in
     let then = stays_late events next last m b.stamp run first in

@@ -20,7 +20,7 @@ use Rattle.group_types.specs.Settle.{arrived, asked, granting, grants_of_others,
 use Rattle.group_types.specs.Request.{Heartbeat, reported}
 use Rattle.group_types.specs.Checks.{Member}
 use Rattle.group_types.specs.HeartbeatStep.{Answer, Replied, Reply, Arrival, Draft, acceptance, handed_over, sent_after}
-use Rattle.group_types.specs.Sound.{IsSound}
+use Rattle.group_types.proofs.Consistent.{IsConsistent}
 use Rattle.group_types.specs.Fencing.{IsAcceptedAs}
 use Rattle.group_types.proofs.Orders.{text_cmp_total}
 use Rattle.group_types.proofs.SetLemmas.{has-in_order}
@@ -28,7 +28,7 @@ use Rattle.group_types.proofs.SpreadLemmas.{get-renamed}
 use Rattle.group_types.proofs.GrantLemmas.{has-granting, has-held, has-others}
 use Rattle.group_types.proofs.Lookups.{Tie, ties, differs, tie, text_ties, not_none, some_is, get-inserted, get-insert_other, removed_is_none}
 use Rattle.group_types.proofs.Soundness.{still_holds}
-use Rattle.group_types.proofs.Settlings.{settled_is_sound}
+use Rattle.group_types.proofs.Settlings.{settled_is_consistent}
 use Rattle.group_types.proofs.TakeOvers.{renamed_itself, renamed_other}
 use Rattle.group_types.proofs.Drafts.{same_last_epoch}
 use Rattle.group_types.proofs.Accepted.{Drafting, Stages, after, may, news, offered, stored}
@@ -107,7 +107,7 @@ or_false : (b : Bool) → (b || false) ≡ b
 or_false true = refl
 or_false false = refl
 
-module _ (g : Group) (sound : IsSound g) (old : Member) (heir : Text) (absent : finite.get g.records heir ≡ None) (other : heir ≢ old.id) where
+module _ (g : Group) (sound : IsConsistent g) (old : Member) (heir : Text) (absent : finite.get g.records heir ≡ None) (other : heir ≢ old.id) where
   abbrev New : Group
   New = handed_over g old heir
 
@@ -231,7 +231,7 @@ module _ (g : Group) (a : Arrival) (answer : Answer) (new : Group) (d : Draft) (
   accepted_is m accepted = same_id m d.id answer (acceptance d.id Settled (news Renewed d q)) stages.answers refl accepted
 
   -- at a take-over
-  module _ (sound : IsSound g) (old : Member) (base_is : drafting.base ≡ handed_over g old d.id) (was : finite.get g.records old.id ≡ Some old.kept)
+  module _ (sound : IsConsistent g) (old : Member) (base_is : drafting.base ≡ handed_over g old d.id) (was : finite.get g.records old.id ≡ Some old.kept)
       (absent : finite.get g.records d.id ≡ None) where
     pub heir_differs : d.id ≢ old.id
     heir_differs same = not_none old.kept (sym absent ∙ ap (finite.get g.records) same ∙ was)

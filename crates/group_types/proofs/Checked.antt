@@ -1,4 +1,4 @@
--- What each verdict on a heartbeat says of it, at a sound group.
+-- What each verdict on a heartbeat says of it, at a consistent group.
 use Rattle.std.proofs.Common.{◌≡◌, ◌≢◌, ℕ, Bool, true, false, cond, not, ◌||◌, ◌&&◌, List, [], ◌∷◌, Option, Some, None, is_none, refl, sym, ap, subst, ◌∙◌, true≢false}
 use Rattle.std.specs.Ordering.{eq_by_cmp, is_gt}
 use Rattle.std.specs.Str.{bytes_eq}
@@ -15,7 +15,8 @@ use Rattle.group_types.specs.Request.{Heartbeat, Kind, Joins, Beats, Leaves, Goe
 use Rattle.group_types.specs.Group.{Record, Records, Past, Group}
 use Rattle.group_types.specs.Members.{past_stamp}
 use Rattle.group_types.specs.Checks.{Verdict, Accepted, Refused, Overtaken, Check, Sender, checks_of, first_of, has_instance, is_another, is_fenced, are_granted, is_late, is_of_past, is_overtaken, is_too_many, is_unreleased, record_under, sender_of, verdict_on}
-use Rattle.group_types.specs.Sound.{IsPast, IsSound}
+use Rattle.group_types.specs.Sound.{IsPast}
+use Rattle.group_types.proofs.Consistent.{IsConsistent}
 use Rattle.group_types.specs.Fencing.{IsLate, IsOfInstance, stamp_kept, stamp_to_pass}
 use Rattle.group_types.proofs.Lookups.{Tie, ties, differs, tie, text_ties, not_none, some_is}
 use Rattle.group_types.proofs.PastLemmas.{not_past}
@@ -109,14 +110,14 @@ own_so records (c ∷ m) named = refl
 
 -- ---- the first check that applies
 
-passed : (v : Verdict) (b : Bool) (w rest : Verdict) → (w ≡ v → ⊥) → cond b w rest ≡ v → (b ≡ false) × (rest ≡ v)
+pub passed : (v : Verdict) (b : Bool) (w rest : Verdict) → (w ≡ v → ⊥) → cond b w rest ≡ v → (b ≡ false) × (rest ≡ v)
 passed v true w rest fails is = absurd (fails is)
 passed v false w rest fails is = (refl, is)
 
-refused_not : (code : _) → Refused code ≡ Accepted → ⊥
+pub refused_not : (code : _) → Refused code ≡ Accepted → ⊥
 refused_not code is = cc
 
-overtaken_not : Overtaken ≡ Accepted → ⊥
+pub overtaken_not : Overtaken ≡ Accepted → ⊥
 overtaken_not is = cc
 
 refused_other : (code : _) → Refused code ≡ Overtaken → ⊥
@@ -173,7 +174,7 @@ refusals_differ MeansNothing sender g q stamp = invalid_is
 
 -- ---- accepted, refused, overtaken
 
-module _ (g : Group) (sound : IsSound g) (q : Heartbeat) (stamp : Stamp) where
+module _ (g : Group) (sound : IsConsistent g) (q : Heartbeat) (stamp : Stamp) where
   abbrev TheSender : Sender
   TheSender = sender_of g.records q
 

@@ -4,7 +4,7 @@ use Rattle.group_types.specs.Request.{Heartbeat, Kind, Joins, Beats, Leaves, Goe
 use Rattle.group_types.specs.Group.{Group}
 use Rattle.group_types.specs.Checks.{Verdict, Overtaken, sender_of, verdict_on}
 use Rattle.group_types.specs.HeartbeatStep.{Answer, Closes, Arrival, ByVerdict, StepOf, HeartbeatStep}
-use Rattle.group_types.specs.Sound.{IsSound}
+use Rattle.group_types.proofs.Consistent.{IsConsistent, consistent}
 use Rattle.group_types.specs.Fencing.{ClosesOnTheOvertaken, IsInOrder, IsOvertaken}
 use Rattle.group_types.proofs.Answering.{closes_when_overtaken}
 use Rattle.group_types.proofs.Checked.{is_overtaken_so, overtaken_is}
@@ -15,7 +15,7 @@ supported_below q (pos zero) is beats joins = absurd (joins refl)
 supported_below q (pos (suc n)) is beats joins = absurd (beats (suc n) refl)
 supported_below q (negsuc n) is beats joins = ap (λ z. int_le (pos 0) z && is_unknown q.assignor) is
 
-module _ (g : Group) (a : Arrival) (answer : Answer) (new : Group) (sound : IsSound g) (step : HeartbeatStep g a answer new) where
+module _ (g : Group) (a : Arrival) (answer : Answer) (new : Group) (sound : IsConsistent g) (step : HeartbeatStep g a answer new) where
   abbrev TheKind : Kind
   TheKind = kind_of a.heartbeat.epoch
 
@@ -33,6 +33,6 @@ module _ (g : Group) (a : Arrival) (answer : Answer) (new : Group) (sound : IsSo
 
 pub closes_on_the_overtaken : ClosesOnTheOvertaken
 closes_on_the_overtaken g a answer new sound step = (
-  (was_overtaken g a answer new sound step, λ is. is_closed_on g a answer new sound step is.0 is.1),
+  (was_overtaken g a answer new (consistent g sound) step, λ is. is_closed_on g a answer new (consistent g sound) step is.0 is.1),
   λ closes. (closes_when_overtaken g a answer new step closes).1,
 )

@@ -12,8 +12,10 @@ use Rattle.group_types.specs.Text.{Text}
 use Rattle.group_types.specs.Topics.{Topic, Topics}
 use Rattle.group_types.specs.Epoch.{is_at}
 use Rattle.group_types.specs.Group.{Record, Group}
-use Rattle.group_types.specs.Commit.{Commit, Commitment, code_of_taken, commit_reply, is_index, is_there, is_too_long, refusal_of_member}
+use Rattle.group_types.specs.Owners.{is_index}
+use Rattle.group_types.specs.Commit.{Commit, Commitment, code_of_taken, commit_reply, is_there, is_too_long, refusal_of_member}
 use Rattle.group_types.specs.CommitCodes.{CommitsAreAnsweredInOrder, HasCommitCodes, IsAtMemberEpoch, IsCommitCode, IsOfNobody, IsPartition, IsTaken, IsTooLong, nobodys, members, unknown_member, stale_epoch, unknown_partition, long_metadata, stored}
+use Rattle.group_types.proofs.Indexes.{index_below, index_of}
 use Rattle.group_types.proofs.Lookups.{not_none, some_is}
 
 -- ---- a taken commit
@@ -27,23 +29,19 @@ not_too_long None short (text, never, long) = not_none text never
 not_too_long (Some text) short (other, same, long) =
     true≢false (sym ((Decides-ltb LONGEST_METADATA (length text)).1 (subst (λ (t : Text). LONGEST_METADATA < length t) (sym (some_is text other same)) long)) ∙ short)
 
-index_below : (index : ℤ) (count : ℕ) → is_index index count ≡ true → (n : ℕ) × (index ≡ pos n) × (n < count)
-index_below (pos n) count so = (n, refl, (Decides-ltb n count).0 so)
-index_below (negsuc n) count never = absurd (true≢false (sym never))
-
 is_partition : (image : Topics) (name : Text) (index : ℤ) → is_there image name index ≡ true → IsPartition image name index
 is_partition image name index so = by (finite.get image name) refl so
   where
     by : (o : Option Topic) → finite.get image name ≡ o → Rattle.std.specs.Option.option_map_or (λ (t : Topic). is_index index t.count) o false ≡ true → IsPartition image name index
     by None none never = absurd (true≢false (sym never))
     by (Some topic) there so =
-        let below = index_below index topic.count so in
+        let below = index_of index topic.count so in
         record { topic = topic; is_topic = there; number = below.0; is_number = below.1; below = below.2 }
 
 no_partition : (image : Topics) (name : Text) (index : ℤ) → is_there image name index ≡ false → ¬ IsPartition image name index
 no_partition image name index none is =
     true≢false (sym (ap (λ (o : Option Topic). Rattle.std.specs.Option.option_map_or (λ (t : Topic). is_index index t.count) o false) is.is_topic
-    ∙ ap (λ i. is_index i is.topic.count) is.is_number ∙ (Decides-ltb is.number is.topic.count).1 is.below) ∙ none)
+    ∙ index_below index is.number is.topic.count is.is_number is.below) ∙ none)
 
 module _ (g : Group) (c : Commit) (image : Topics) (taken : IsTaken g c) (name : Text) (x : Commitment) where
   by_metadata : IsPartition image name x.index → (long : Bool) → is_too_long x.committed.metadata ≡ long

@@ -1,4 +1,4 @@
--- A draft of a sound group is sound: the record of a member that joins, rejoins, takes over or beats is put in.
+-- A draft of a consistent group is consistent: the record of a member that joins, rejoins, takes over or beats is put in.
 use Rattle.std.proofs.Common.{◌≡◌, ◌≢◌, ℕ, ◌≤◌, ◌+◌, false, cond, [], nat_le, Option, Some, None, is_some, IsTrue, refl, sym, ap, subst, ◌∙◌, arith, true≢false}
 use Rattle.std.specs.FinMap as finite
 use Rattle.std.proofs.lemmas.Bool.{leb-false}
@@ -13,15 +13,15 @@ use Rattle.group_types.specs.Request.{Heartbeat}
 use Rattle.group_types.specs.Group.{Record, Group}
 use Rattle.group_types.specs.Members.{without_past}
 use Rattle.group_types.specs.Leave.{last_epoch, last_epoch_at}
-use Rattle.group_types.specs.Join.{Name, IsNamed, joined, record_of_beat, record_of_join, returned, returned_at, updated}
+use Rattle.group_types.specs.Join.{Name, IsNamed, record_of_beat, record_of_join, returned_epoch}
 use Rattle.group_types.specs.Checks.{Member, is_too_many, is_unreleased, other_with, record_under}
 use Rattle.group_types.specs.HeartbeatStep.{Draft, draft_of_beat, draft_of_join, handed_over}
-use Rattle.group_types.specs.Sound.{IsSound}
+use Rattle.group_types.proofs.Consistent.{IsConsistent}
 use Rattle.group_types.proofs.Orders.{text_cmp_total}
 use Rattle.group_types.proofs.Lookups.{get-inserted, not_none}
 use Rattle.group_types.proofs.PastLemmas.{few_without, past_without}
-use Rattle.group_types.proofs.Stored.{IsFit, few_kept, fit_as_before, put_is_sound, put_none}
-use Rattle.group_types.proofs.TakeOvers.{taken_over_is_sound}
+use Rattle.group_types.proofs.Stored.{IsFit, few_kept, fit_as_before, put_is_consistent, put_none}
+use Rattle.group_types.proofs.TakeOvers.{taken_over_is_consistent}
 use Rattle.group_types.proofs.Senders.{named_fresh, named_own, no_other, other_is, own_is, own_none}
 
 -- ---- the epoch of a record
@@ -30,46 +30,44 @@ pub same_last_epoch : (e : Epoch) (r s : Record) → r.previous_epoch ≡ s.prev
 same_last_epoch (At e) r s same = refl
 same_last_epoch Away r s same = same
 
-returned_epoch : (r : Record) (e : Epoch) → r.epoch ≡ e → last_epoch (returned_at e r) ≡ last_epoch r
-returned_epoch r (At e) is = refl
-returned_epoch r Away is = sym (ap (λ x. last_epoch_at x r) is)
+last_returned : (r s : Record) (e : Epoch) → last_epoch_at (returned_epoch e r.previous_epoch) s ≡ last_epoch_at e r
+last_returned r s (At e) = refl
+last_returned r s Away = refl
 
 module _ (r : Record) (q : Heartbeat) (stamp : Stamp) (now : ℕ) where
   pub beat_epoch : last_epoch (record_of_beat r q stamp now) ≡ last_epoch r
   beat_epoch = same_last_epoch r.epoch (record_of_beat r q stamp now) r refl
 
   pub join_epoch : last_epoch (record_of_join (Some r) q stamp now) ≡ last_epoch r
-  join_epoch =
-      same_last_epoch (returned r).epoch (joined (updated (returned r) q stamp now) q.instance) (returned r) refl
-      ∙ returned_epoch r r.epoch refl
+  join_epoch = last_returned r (record_of_join (Some r) q stamp now) r.epoch
 
 -- ---- a record is put in
 
-module _ (g : Group) (sound : IsSound g) (m : Text) (after : Record) (fit : IsFit g m after) (few : finite.len (finite.insert g.records m after) ≤ MOST_MEMBERS) where
-  pub drafted_is_sound : (clock serial : ℕ) → IsSound (record g { records = finite.insert g.records m after; past = without_past g.past m; clock = clock; serial = serial })
-  drafted_is_sound =
-      put_is_sound g sound m after fit few (without_past g.past m)
+module _ (g : Group) (sound : IsConsistent g) (m : Text) (after : Record) (fit : IsFit g m after) (few : finite.len (finite.insert g.records m after) ≤ MOST_MEMBERS) where
+  pub drafted_is_consistent : (clock serial : ℕ) → IsConsistent (record g { records = finite.insert g.records m after; past = without_past g.past m; clock = clock; serial = serial })
+  drafted_is_consistent =
+      put_is_consistent g sound m after fit few (without_past g.past m)
       (past_without g.records (finite.insert g.records m after) g.past m (put_none g sound m after fit) sound.past)
       (let fewer = few_without g.past m in let most = sound.few_past in omega (arith, fewer, most))
 
 -- a draft on which the change, the renewal and the settling can go on
 pub record IsReady (g : Group) (d : Draft) : Type 0 where
-  pub sound : IsSound d.group
+  pub sound : IsConsistent d.group
   pub epoch : d.group.epoch ≡ g.epoch
 
-pub beat_is_ready : (g : Group) → IsSound g → (now : ℕ) (r : Record) (q : Heartbeat) (stamp : Stamp) → finite.get g.records q.member ≡ Some r
+pub beat_is_ready : (g : Group) → IsConsistent g → (now : ℕ) (r : Record) (q : Heartbeat) (stamp : Stamp) → finite.get g.records q.member ≡ Some r
     → IsReady g (draft_of_beat g now r q stamp)
 beat_is_ready g sound now r q stamp kept =
     let after = record_of_beat r q stamp now in
     let fit = fit_as_before g sound q.member r after kept (beat_epoch r q stamp now) refl in
     record {
-      sound = drafted_is_sound g sound q.member after fit (few_kept g sound q.member after fit r kept) now g.serial;
+      sound = drafted_is_consistent g sound q.member after fit (few_kept g sound q.member after fit r kept) now g.serial;
       epoch = refl;
     }
 
 -- ---- a join
 
-module _ (g : Group) (sound : IsSound g) (now : ℕ) (q : Heartbeat) (stamp : Stamp) (name : Name) where
+module _ (g : Group) (sound : IsConsistent g) (now : ℕ) (q : Heartbeat) (stamp : Stamp) (name : Name) where
   -- a new member
   module _ (is_new : finite.get g.records name.id ≡ None) (has_id : name.id ≢ []) where
     holds_nothing : (p : Partition) → IsTrue (has g.grants (name.id, p)) → ⊥
@@ -110,7 +108,7 @@ module _ (g : Group) (sound : IsSound g) (now : ℕ) (q : Heartbeat) (stamp : St
       → nat_le MOST_MEMBERS (finite.len g.records) ≡ false → IsReady g (Drafted None None)
   new_is_ready is_new has_id own_none none room =
       record {
-        sound = drafted_is_sound g sound name.id (record_of_join None q stamp now) (new_is_fit is_new has_id own_none none) (few_with_new is_new has_id room) now name.next_serial;
+        sound = drafted_is_consistent g sound name.id (record_of_join None q stamp now) (new_is_fit is_new has_id own_none none) (few_with_new is_new has_id room) now name.next_serial;
         epoch = refl;
       }
 
@@ -120,7 +118,7 @@ module _ (g : Group) (sound : IsSound g) (now : ℕ) (q : Heartbeat) (stamp : St
       let kept_so : finite.get g.records name.id ≡ Some r = ap (finite.get g.records) same ∙ kept in
       let fit : IsFit g name.id after = subst (λ m. IsFit g m after) (sym same) (rejoin_is_fit r kept none) in
       record {
-        sound = drafted_is_sound g sound name.id after fit (few_kept g sound name.id after fit r kept_so) now name.next_serial;
+        sound = drafted_is_consistent g sound name.id after fit (few_kept g sound name.id after fit r kept_so) now name.next_serial;
         epoch = refl;
       }
 
@@ -128,12 +126,12 @@ module _ (g : Group) (sound : IsSound g) (now : ℕ) (q : Heartbeat) (stamp : St
   take_over_is_ready old is_new has_id is =
       let there = other_is g.records q.member q.instance old is in
       let over : Group = handed_over g old name.id in
-      let sound_over : IsSound over = taken_over_is_sound g sound old.id name.id old.kept old.kept old.kept.stamp there.0 is_new has_id refl refl in
+      let sound_over : IsConsistent over = taken_over_is_consistent g sound old.id name.id old.kept old.kept old.kept.stamp there.0 is_new has_id refl refl in
       let after = record_of_join (Some old.kept) q stamp now in
       let kept : finite.get over.records name.id ≡ Some old.kept = get-inserted (finite.remove g.records old.id) name.id old.kept in
       let fit = fit_as_before over sound_over name.id old.kept after kept (join_epoch old.kept q stamp now) (sym there.1) in
       record {
-        sound = drafted_is_sound over sound_over name.id after fit (few_kept over sound_over name.id after fit old.kept kept) now name.next_serial;
+        sound = drafted_is_consistent over sound_over name.id after fit (few_kept over sound_over name.id after fit old.kept kept) now name.next_serial;
         epoch = refl;
       }
 

@@ -13,7 +13,7 @@ use Rattle.group_types.specs.Group.{Record, Group}
 use Rattle.group_types.specs.Members.{past_stamp}
 use Rattle.group_types.specs.Leave.{risen, without_member}
 use Rattle.group_types.specs.Tick.{at_moment, due, expired, has_come, is_due, ticked, without_members}
-use Rattle.group_types.specs.Sound.{IsSound}
+use Rattle.group_types.proofs.Consistent.{IsConsistent, consistent}
 use Rattle.group_types.specs.Deadlines.{IsDue, TicksTakeTheDue}
 use Rattle.group_types.specs.FormerMembers.{TheDueAreRemembered}
 use Rattle.group_types.proofs.Orders.{text_cmp_total}
@@ -21,7 +21,7 @@ use Rattle.group_types.proofs.Entries.{below_differs, entries_found, first_part,
 use Rattle.group_types.proofs.Lookups.{Tie, ties, differs, tie, text_ties, not_none, some_is}
 use Rattle.group_types.proofs.PastLemmas.{not_past}
 use Rattle.group_types.proofs.Remembered.{Stays, is_remembered_now, remembers_more, remembers_one}
-use Rattle.group_types.proofs.Soundness.{Leaves, clocked_is_sound, leaves_after, leaves_of_sorted, leaving_is_sound, risen_is_sound, ticked_is_sound}
+use Rattle.group_types.proofs.Soundness.{Leaves, clocked_is_consistent, leaves_after, leaves_of_sorted, leaving_is_consistent, risen_is_consistent, ticked_is_consistent}
 
 -- ---- whose deadline has come
 
@@ -173,12 +173,12 @@ module _ (k : Text) (s : Stamp) where
       still_remembered ms (without_member g m.0 m.1.stamp) (suc n)
       (remembers_more g.past k s n m.0 m.1.stamp (omega (arith, room)) is) (omega (arith, room))
 
-leaver_remembered : (k : Text) (r : Record) (ms : List (Text × Record)) (g : Group) → IsSound g → Leaves g.records ms → finite.get g.records k ≡ Some r
+leaver_remembered : (k : Text) (r : Record) (ms : List (Text × Record)) (g : Group) → IsConsistent g → Leaves g.records ms → finite.get g.records k ≡ Some r
     → Named k ms ≡ true → length ms ≤ MOST_PAST_MEMBERS → past_stamp (without_members g ms).past k ≡ Some r.stamp
 leaver_remembered k r [] g sound leaves there never room = absurd (true≢false (sym never))
 leaver_remembered k r (m ∷ ms) g sound leaves there named room =
     by
-    (λ there later. leaver_remembered k r ms (without_member g m.0 m.1.stamp) (leaving_is_sound g sound m.0 m.1 leaves.0 m.1.stamp) (leaves_after g.records m.0 ms leaves.1 leaves.2) there later (omega (arith, room)))
+    (λ there later. leaver_remembered k r ms (without_member g m.0 m.1.stamp) (leaving_is_consistent g sound m.0 m.1 leaves.0 m.1.stamp) (leaves_after g.records m.0 ms leaves.1 leaves.2) there later (omega (arith, room)))
     (tie k m.0)
   where
     by : (finite.get (finite.remove g.records m.0) k ≡ Some r → Named k ms ≡ true → past_stamp (without_members g (m ∷ ms)).past k ≡ Some r.stamp) → Tie k m.0
@@ -193,20 +193,21 @@ leaver_remembered k r (m ∷ ms) g sound leaves there named room =
         rest (finite.get-remove text_cmp_total g.records m.0 k ∙ ap (λ b. cond b None (finite.get g.records k)) apart ∙ there)
         (sym (ap (λ b. b || Named k ms) apart) ∙ named)
 
-expired_remembered : (k : Text) (r : Record) (ms : List (Text × Record)) (g : Group) → IsSound g → Leaves g.records ms → finite.get g.records k ≡ Some r
+expired_remembered : (k : Text) (r : Record) (ms : List (Text × Record)) (g : Group) → IsConsistent g → Leaves g.records ms → finite.get g.records k ≡ Some r
     → Named k ms ≡ true → length ms ≤ MOST_PAST_MEMBERS → past_stamp (expired g ms).past k ≡ Some r.stamp
 expired_remembered k r [] g sound leaves there never room = absurd (true≢false (sym never))
 expired_remembered k r (m ∷ ms) g sound leaves there named room =
-    leaver_remembered k r (m ∷ ms) (record g { epoch = risen g.epoch }) (risen_is_sound g sound) leaves there named room
+    leaver_remembered k r (m ∷ ms) (record g { epoch = risen g.epoch }) (risen_is_consistent g sound) leaves there named room
 
 pub the_due_are_remembered : TheDueAreRemembered
 the_due_are_remembered g moment m r sound few there gone =
     let now : Group = at_moment g moment in
+    let kept = consistent g sound in
     let over : Named m (due now) ≡ true = named_in_due now m ∙ ap (DueOf now.clock) there ∙ was_due g moment m r there gone in
     record {
       left = gone;
-      remembered = expired_remembered m r (due now) now (clocked_is_sound g (max g.clock moment) sound)
+      remembered = expired_remembered m r (due now) now (clocked_is_consistent g (max g.clock moment) kept)
           (leaves_of_sorted (λ m. is_due now.clock m.1) g.records (finite.entries g.records) (finite.entries_sorted g.records) (entries_found g.records))
           there over few;
-      few = (ticked_is_sound g sound moment).few_past;
+      few = (ticked_is_consistent g kept moment).few_past;
     }

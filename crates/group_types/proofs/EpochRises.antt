@@ -10,7 +10,7 @@ use Rattle.group_types.specs.Group.{Record, Records, Grants, Group, Target, held
 use Rattle.group_types.specs.Leave.{away, last_epoch}
 use Rattle.group_types.specs.Settle.{may_move, grants_after, settled_record}
 use Rattle.group_types.specs.HeartbeatStep.{Answer, Arrival, Draft}
-use Rattle.group_types.specs.Sound.{IsSound}
+use Rattle.group_types.proofs.Consistent.{IsConsistent, consistent}
 use Rattle.group_types.specs.MemberEpochs.{EpochsRiseWithinTargets, GoesOnTo}
 use Rattle.group_types.proofs.Orders.{partition_cmp_total, partition_cmp-IsAntisymmetric}
 use Rattle.group_types.proofs.SetLemmas.{apart_of_common, has-minus, is_nothing-Decides, nothing_left}
@@ -119,7 +119,7 @@ module _ (g : Group) (a : Arrival) (answer : Answer) (new : Group) (d : Draft) (
 
 -- ---- nobody else rises
 
-module _ (g : Group) (sound : IsSound g) (a : Arrival) (answer : Answer) (new : Group) (m : Text) (r after : Record)
+module _ (g : Group) (sound : IsConsistent g) (a : Arrival) (answer : Answer) (new : Group) (m : Text) (r after : Record)
     (was : finite.get g.records m ≡ Some r) (is_now : finite.get new.records m ≡ Some after) (rises : last_epoch r < last_epoch after) where
   not_same : last_epoch after ≡ last_epoch r → ⊥
   not_same same = omega (arith, rises, same)
@@ -170,4 +170,4 @@ module _ (g : Group) (sound : IsSound g) (a : Arrival) (answer : Answer) (new : 
 
 pub epochs_rise_within_targets : EpochsRiseWithinTargets
 epochs_rise_within_targets g a answer new m r after sound step was is_now rises =
-    by g sound a answer new m r after was is_now rises (came g sound a answer new step)
+    let kept = consistent g sound in by g kept a answer new m r after was is_now rises (came g kept a answer new step)

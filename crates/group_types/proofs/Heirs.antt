@@ -18,7 +18,7 @@ use Rattle.group_types.specs.Members.{past_stamp, remembering, without_past}
 use Rattle.group_types.specs.Settle.{grants_after, grants_of_others, is_free_for, may_move, moved}
 use Rattle.group_types.specs.Checks.{Member, is_away}
 use Rattle.group_types.specs.HeartbeatStep.{Answer, Arrival, Draft, farewell, handed_over}
-use Rattle.group_types.specs.Sound.{IsSound}
+use Rattle.group_types.proofs.Consistent.{IsConsistent, consistent}
 use Rattle.group_types.specs.FormerMembers.{IsFormer}
 use Rattle.group_types.specs.TakeOvers.{HeirsHaveAll, IsHeirTo, TakesOver}
 use Rattle.group_types.proofs.Orders.{partition_cmp_total, partition_cmp-IsAntisymmetric}
@@ -76,7 +76,7 @@ is_away_so Away so = refl
 
 -- ---- the heir
 
-module _ (g : Group) (sound : IsSound g) (a : Arrival) (answer : Answer) (new : Group) (d : Draft) (drafting : Drafting g a d) (stages : Stages d a.heartbeat answer new)
+module _ (g : Group) (sound : IsConsistent g) (a : Arrival) (answer : Answer) (new : Group) (d : Draft) (drafting : Drafting g a d) (stages : Stages d a.heartbeat answer new)
     (old : Member) (base_is : drafting.base ≡ handed_over g old d.id) (was : finite.get g.records old.id ≡ Some old.kept) (absent : finite.get g.records d.id ≡ None)
     (gone : is_away old.kept.epoch ≡ true) (instance : d.after.instance ≡ old.kept.instance) (reports : reported a.heartbeat ≡ Some nothing) where
   abbrev TheRenewed : Group
@@ -213,7 +213,7 @@ module _ (g : Group) (sound : IsSound g) (a : Arrival) (answer : Answer) (new : 
 
 -- ---- who takes over
 
-module _ (g : Group) (sound : IsSound g) (a : Arrival) (answer : Answer) (new : Group) (old heir : Text) (r : Record) (over : TakesOver g answer new old heir r) where
+module _ (g : Group) (sound : IsConsistent g) (a : Arrival) (answer : Answer) (new : Group) (old heir : Text) (r : Record) (over : TakesOver g answer new old heir r) where
   still_there : finite.get new.records old ≡ finite.get g.records old → ⊥
   still_there same = not_none r (sym over.gone ∙ same ∙ over.was)
 
@@ -255,4 +255,5 @@ module _ (g : Group) (sound : IsSound g) (a : Arrival) (answer : Answer) (new : 
   by (taken_in d drafting stages) = by_owner d drafting stages drafting.whose
 
 pub heirs_have_all : HeirsHaveAll
-heirs_have_all g a answer new old heir r sound step over = by g sound a answer new old heir r over (came g sound a answer new step)
+heirs_have_all g a answer new old heir r sound step over =
+    let kept = consistent g sound in by g kept a answer new old heir r over (came g kept a answer new step)

@@ -5,6 +5,7 @@ use Rattle.group_types.specs.Request.{GOES_AWAY_AT, LEAVES_AT}
 use Rattle.group_types.specs.Group.{Group}
 use Rattle.group_types.specs.HeartbeatStep.{farewell}
 use Rattle.group_types.specs.FormerMembers.{IsFormer, LeaversAreRemembered}
+use Rattle.group_types.proofs.Consistent.{consistent}
 use Rattle.group_types.proofs.Lookups.{removed_is_none}
 use Rattle.group_types.proofs.PastLemmas.{few_remembered, not_past}
 use Rattle.group_types.proofs.Remembered.{remembered_now}
@@ -13,7 +14,7 @@ use Rattle.group_types.proofs.Afterwards.{same_id}
 use Rattle.group_types.proofs.Shown.{never_negative}
 
 pub leavers_are_remembered : LeaversAreRemembered
-leavers_are_remembered g a m answer new sound step leaves accepted = by (came g sound a answer new step)
+leavers_are_remembered g a m answer new sound step leaves accepted = by (came g (consistent g sound) a answer new step)
   where
     by : Came g a answer new → IsFormer new m a.stamp
     by (unchanged same fails) = absurd (nobody answer fails m accepted)

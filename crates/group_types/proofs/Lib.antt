@@ -10,9 +10,12 @@ pub mod MadeIds
 pub mod Members
 pub mod Answering
 pub mod Lookups
+pub mod Images
+pub mod Consistent
 pub mod PastLemmas
 pub mod GrantLemmas
 pub mod Entries
+pub mod Indexes
 pub mod Stored
 pub mod Soundness
 pub mod Settlings
@@ -22,6 +25,7 @@ pub mod TakeOvers
 pub mod Senders
 pub mod Drafts
 pub mod Heartbeats
+pub mod KeptViews
 pub mod Runs
 pub mod Commits
 pub mod CommitOrder

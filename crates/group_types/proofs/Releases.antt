@@ -13,6 +13,7 @@ use Rattle.group_types.specs.Settle.{arrived, asked, settled_record}
 use Rattle.group_types.specs.HeartbeatStep.{Answer, Arrival, Draft, sent_after}
 use Rattle.group_types.specs.Deadlines.{IsTimed, ReleasesAreTimed, asked_before, done, first_asked}
 use Rattle.group_types.proofs.Lookups.{not_none, some_is}
+use Rattle.group_types.proofs.Consistent.{consistent}
 use Rattle.group_types.proofs.Accepted.{Came, unchanged, has_left, went_away, taken_in, came, nobody, Drafting, Stages, Whose, its_own, newcomer, takes_over, may}
 use Rattle.group_types.proofs.Afterwards.{Last, Renewed, Settled, accepted_is, has_record}
 use Rattle.group_types.proofs.EpochRises.{stays_within}
@@ -98,7 +99,7 @@ module _ (g : Group) (a : Arrival) (answer : Answer) (new : Group) (d : Draft) (
   timed = by_owner (may TheRenewed d a.heartbeat) refl drafting.whose
 
 pub releases_are_timed : ReleasesAreTimed
-releases_are_timed g a m answer new epoch after sound step is_epoch accepted is_now = by (came g sound a answer new step)
+releases_are_timed g a m answer new epoch after sound step is_epoch accepted is_now = by (came g (consistent g sound) a answer new step)
   where
     by : Came g a answer new → IsTimed g a new m after
     by (unchanged same fails) = absurd (nobody answer fails m accepted)

@@ -1,21 +1,21 @@
--- A renewed target leaves a sound group.
+-- A renewed target leaves a consistent group.
 use Rattle.std.proofs.Common.{◌≡◌, ℕ, ◌<◌, ◌≤◌, ◌==◌, Bool, true, false, refl, sym, subst, ◌∙◌, arith, true≢false}
 use Rattle.std.proofs.lemmas.Bool.Decides.{Decides-eqb}
 use Rattle.group_types.specs.Limits.{GREATEST_EPOCH}
 use Rattle.group_types.specs.Topics.{Topics}
 use Rattle.group_types.specs.Group.{Target, Group}
 use Rattle.group_types.specs.Renewal.{IsTarget, Renews, RenewsWhere}
-use Rattle.group_types.specs.Sound.{IsSound}
+use Rattle.group_types.proofs.Consistent.{IsConsistent}
 use Rattle.group_types.proofs.TargetOwners.{OwnersAre, target_owners}
 
 -- a group with a target of a later epoch
-module _ (g : Group) (sound : IsSound g) (epoch : ℕ) (view : Topics) (target : Target) (is_target : IsTarget g.records view g.target target)
+module _ (g : Group) (sound : IsConsistent g) (epoch : ℕ) (view : Topics) (target : Target) (is_target : IsTarget g.records view g.target target)
     (later : g.target_epoch < epoch) (most : epoch ≤ GREATEST_EPOCH) where
   owner : OwnersAre g.records view target
   owner = target_owners g.records view g.target target is_target
 
-  pub with_target_is_sound : IsSound (record g { epoch = epoch; view = view; target = target; target_epoch = epoch })
-  with_target_is_sound =
+  pub with_target_is_consistent : IsConsistent (record g { epoch = epoch; view = view; target = target; target_epoch = epoch })
+  with_target_is_consistent =
       record {
         one_holder = sound.one_holder;
         holders = sound.holders;
@@ -33,23 +33,23 @@ module _ (g : Group) (sound : IsSound g) (epoch : ℕ) (view : Topics) (target :
       }
 
 -- a change that is renewed
-pub changed_is_sound : (g : Group) → IsSound g → (epoch : ℕ) (view : Topics) (renewed : Group) → g.target_epoch < epoch → epoch ≤ GREATEST_EPOCH
-    → Renews (record g { epoch = epoch; view = view }) renewed → IsSound renewed
-changed_is_sound g sound epoch view renewed later most renews =
+pub changed_is_consistent : (g : Group) → IsConsistent g → (epoch : ℕ) (view : Topics) (renewed : Group) → g.target_epoch < epoch → epoch ≤ GREATEST_EPOCH
+    → Renews (record g { epoch = epoch; view = view }) renewed → IsConsistent renewed
+changed_is_consistent g sound epoch view renewed later most renews =
     by (epoch == g.target_epoch) refl renews
   where
-    by : (b : Bool) → (epoch == g.target_epoch) ≡ b → RenewsWhere b (record g { epoch = epoch; view = view }) renewed → IsSound renewed
+    by : (b : Bool) → (epoch == g.target_epoch) ≡ b → RenewsWhere b (record g { epoch = epoch; view = view }) renewed → IsConsistent renewed
     by true so is = let same = (Decides-eqb epoch g.target_epoch).0 so in absurd (omega (arith, same, later))
-    by false apart (target, is_target, is) = subst IsSound (sym is) (with_target_is_sound g sound epoch view target is_target later most)
+    by false apart (target, is_target, is) = subst IsConsistent (sym is) (with_target_is_consistent g sound epoch view target is_target later most)
 
 -- no change, and the target is renewed where its epoch is an earlier one
-pub renewed_is_sound : (g : Group) → IsSound g → (renewed : Group) → Renews g renewed → IsSound renewed
-renewed_is_sound g sound renewed renews = by (g.epoch == g.target_epoch) refl renews
+pub renewed_is_consistent : (g : Group) → IsConsistent g → (renewed : Group) → Renews g renewed → IsConsistent renewed
+renewed_is_consistent g sound renewed renews = by (g.epoch == g.target_epoch) refl renews
   where
-    by : (b : Bool) → (g.epoch == g.target_epoch) ≡ b → RenewsWhere b g renewed → IsSound renewed
-    by true so is = subst IsSound (sym is) sound
+    by : (b : Bool) → (g.epoch == g.target_epoch) ≡ b → RenewsWhere b g renewed → IsConsistent renewed
+    by true so is = subst IsConsistent (sym is) sound
     by false apart (target, is_target, is) =
-        subst IsSound (sym is) (with_target_is_sound g sound g.epoch g.view target is_target (below apart) sound.epoch)
+        subst IsConsistent (sym is) (with_target_is_consistent g sound g.epoch g.view target is_target (below apart) sound.epoch)
       where
         below : (g.epoch == g.target_epoch) ≡ false → g.target_epoch < g.epoch
         below apart =

@@ -11,6 +11,7 @@ use Rattle.group_types.specs.HeartbeatStep.{Answer, Arrival, farewell}
 use Rattle.group_types.specs.Deadlines.{SessionsLast}
 use Rattle.group_types.specs.Fencing.{IsAcceptedAs}
 use Rattle.group_types.proofs.Lookups.{not_none, some_is, get-inserted, removed_is_none}
+use Rattle.group_types.proofs.Consistent.{consistent}
 use Rattle.group_types.proofs.Accepted.{Came, unchanged, has_left, went_away, taken_in, came, nobody}
 use Rattle.group_types.proofs.Afterwards.{Last, accepted_is, has_record, last_same, same_id}
 
@@ -31,4 +32,4 @@ module _ (g : Group) (a : Arrival) (m : Text) (answer : Answer) (new : Group) (r
       ∙ (last_same g a answer new d drafting stages).deadline ∙ drafting.deadline
 
 pub sessions_last : SessionsLast
-sessions_last g a m answer new r sound step accepted kept = by g a m answer new r accepted kept (came g sound a answer new step)
+sessions_last g a m answer new r sound step accepted kept = by g a m answer new r accepted kept (came g (consistent g sound) a answer new step)

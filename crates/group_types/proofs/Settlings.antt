@@ -1,4 +1,4 @@
--- A member that is offered its target leaves a sound group.
+-- A member that is offered its target leaves a consistent group.
 use Rattle.std.proofs.Common.{◌≡◌, ℕ, ◌==◌, Bool, true, false, cond, ◌&&◌, ◌||◌, Option, Some, None, is_some, IsTrue, refl, sym, ap, subst, ◌∙◌, arith}
 use Rattle.std.specs.Ordering.{eq_by_cmp}
 use Rattle.std.specs.Cmp.{first_so, second_so}
@@ -13,15 +13,15 @@ use Rattle.group_types.specs.Partition.{Partitions}
 use Rattle.group_types.specs.Group.{Record, Grants, Group, wanted}
 use Rattle.group_types.specs.Leave.{last_epoch, last_epoch_at}
 use Rattle.group_types.specs.Settle.{is_free_for, moved, arrived, asked, may_settle, settled_by, settled}
-use Rattle.group_types.specs.Sound.{IsSound}
+use Rattle.group_types.proofs.Consistent.{IsConsistent}
 use Rattle.group_types.proofs.SpreadLemmas.{has-share_of, owns-get}
 use Rattle.group_types.proofs.GrantLemmas.{free_is, has-moved}
 use Rattle.group_types.proofs.Lookups.{Tie, ties, differs, tie, text_ties, not_none}
-use Rattle.group_types.proofs.Stored.{fit_as_before, kept_is_sound}
+use Rattle.group_types.proofs.Stored.{fit_as_before, kept_is_consistent}
 
 -- ---- the grants of a member that moved
 
-module _ (g : Group) (sound : IsSound g) (m : Text) (r : Record) (kept : finite.get g.records m ≡ Some r) where
+module _ (g : Group) (sound : IsConsistent g) (m : Text) (r : Record) (kept : finite.get g.records m ≡ Some r) where
   abbrev Part : Partitions
   Part = wanted g.target m
 
@@ -63,8 +63,8 @@ module _ (g : Group) (sound : IsSound g) (m : Text) (r : Record) (kept : finite.
       by (differs a_not a_apart) (ties b_is) = moved_gets p (subst (λ k. IsTrue (has Moved (k, p))) b_is other) a (before a a_apart one) ∙ sym b_is
       by (differs a_not a_apart) (differs b_not b_apart) = sound.one_holder a b p (before a a_apart one) (before b b_apart other)
 
-  moved_is_sound : IsSound (record g { grants = Moved })
-  moved_is_sound =
+  moved_is_consistent : IsConsistent (record g { grants = Moved })
+  moved_is_consistent =
       record {
         one_holder = one_holder;
         holders = λ a p holds. holder a p holds (tie a m);
@@ -121,13 +121,13 @@ asked_instance r (Some deadline) now = refl
 
 -- ---- the settling
 
-settled_by_is_sound : (may : Bool) (g : Group) → IsSound g → (m : Text) (o : Option Record) → finite.get g.records m ≡ o → (now : ℕ) → IsSound (settled_by may g m o now)
-settled_by_is_sound may g sound m None none now = sound
-settled_by_is_sound false g sound m (Some r) kept now =
-    kept_is_sound g sound m (asked r r.release_deadline now)
+settled_by_is_consistent : (may : Bool) (g : Group) → IsConsistent g → (m : Text) (o : Option Record) → finite.get g.records m ≡ o → (now : ℕ) → IsConsistent (settled_by may g m o now)
+settled_by_is_consistent may g sound m None none now = sound
+settled_by_is_consistent false g sound m (Some r) kept now =
+    kept_is_consistent g sound m (asked r r.release_deadline now)
     (fit_as_before g sound m r (asked r r.release_deadline now) kept (asked_epoch r r.release_deadline now) (asked_instance r r.release_deadline now)) r kept
-settled_by_is_sound true g sound m (Some r) kept now =
-    kept_is_sound after (moved_is_sound g sound m r kept) m arrives
+settled_by_is_consistent true g sound m (Some r) kept now =
+    kept_is_consistent after (moved_is_consistent g sound m r kept) m arrives
     (record {
       id = λ is. not_none r (sym sound.named ∙ ap (finite.get g.records) (sym is) ∙ kept);
       epoch = let same = arrived_epoch r r.epoch g.target_epoch refl in omega (arith, same);
@@ -141,6 +141,6 @@ settled_by_is_sound true g sound m (Some r) kept now =
     after : Group
     after = record g { grants = moved g.grants m (wanted g.target m) }
 
-pub settled_is_sound : (g : Group) → IsSound g → (m : Text) (owned : Option Partitions) (now : ℕ) → IsSound (settled g m owned now)
-settled_is_sound g sound m owned now =
-    settled_by_is_sound (may_settle g.grants m (wanted g.target m) owned) g sound m (finite.get g.records m) refl now
+pub settled_is_consistent : (g : Group) → IsConsistent g → (m : Text) (owned : Option Partitions) (now : ℕ) → IsConsistent (settled g m owned now)
+settled_is_consistent g sound m owned now =
+    settled_by_is_consistent (may_settle g.grants m (wanted g.target m) owned) g sound m (finite.get g.records m) refl now

@@ -10,7 +10,7 @@ use Rattle.group_types.specs.Owners.{owns}
 use Rattle.group_types.specs.Request.{Heartbeat, is_full}
 use Rattle.group_types.specs.Group.{Record, Group, held, wanted}
 use Rattle.group_types.specs.HeartbeatStep.{Answer, Reply, Arrival, Draft, acceptance, assignment_of, is_news, sent_after, shown}
-use Rattle.group_types.specs.Sound.{IsSound}
+use Rattle.group_types.proofs.Consistent.{consistent}
 use Rattle.group_types.specs.Fencing.{IsAcceptedAs}
 use Rattle.group_types.specs.Assignments.{AssignmentsAreNews, IsShown, ShowsNews, WasSent}
 use Rattle.group_types.proofs.Orders.{partition_cmp_total, partition_cmp-IsAntisymmetric}
@@ -150,7 +150,7 @@ pub never_negative : (z : ℤ) (n k : ℕ) → z ≡ pos n → z ≡ negsuc k �
 never_negative z n k is other = true≢false (sym (ap is_negative other) ∙ ap is_negative is)
 
 pub assignments_are_news : AssignmentsAreNews
-assignments_are_news g a m answer new epoch sound step is_epoch accepted = by (came g sound a answer new step)
+assignments_are_news g a m answer new epoch sound step is_epoch accepted = by (came g (consistent g sound) a answer new step)
   where
     by : Came g a answer new → ShowsNews g a m accepted.reply new
     by (unchanged same fails) = absurd (nobody answer fails m accepted)

@@ -1,4 +1,4 @@
--- What keeps a group sound: members that leave, that go away, ticks and commits.
+-- What keeps a group consistent: members that leave, that go away, ticks and commits.
 use Rattle.std.proofs.Common.{◌≡◌, ◌≢◌, ℕ, ◌≤◌, ◌<◌, ◌+◌, ◌-◌, Bool, true, false, cond, not, ◌&&◌, nat_lt, if◌then◌else◌, List, [], ◌∷◌, Option, Some, None, IsTrue, refl, sym, ap, subst, ◌∙◌, arith, true≢false, max}
 use Rattle.std.specs.Option.{option_map_or}
 use Rattle.std.specs.Str.{bytes_eq}
@@ -21,12 +21,12 @@ use Rattle.group_types.specs.Settle.{grants_of_others}
 use Rattle.group_types.specs.Leave.{risen, without_member, left, away, gone_away}
 use Rattle.group_types.specs.Commit.{Commit, CommitReply, CommitStep, offsets_after, refusal_of_commit}
 use Rattle.group_types.specs.Tick.{at_moment, due, expired, is_due, ticked, without_members}
-use Rattle.group_types.specs.Sound.{IsSound}
+use Rattle.group_types.proofs.Consistent.{IsConsistent}
 use Rattle.group_types.proofs.Orders.{partition_cmp_total, text_cmp_total}
 use Rattle.group_types.proofs.Entries.{below_differs, entries_found, first_part, second_part}
 use Rattle.group_types.proofs.GrantLemmas.{has-others}
 use Rattle.group_types.proofs.Lookups.{Tie, ties, differs, tie, text_ties, some_is, not_none, found_without, none_without, removed_is_none, has_other}
-use Rattle.group_types.proofs.Stored.{fit_as_before, kept_is_sound}
+use Rattle.group_types.proofs.Stored.{fit_as_before, kept_is_consistent}
 use Rattle.group_types.proofs.PastLemmas.{not_past, past_of_fewer, past_remembering, few_remembered}
 
 -- ---- the target and the grants without a member
@@ -79,8 +79,8 @@ risen_bounds epoch most =
     ] refl
 
 -- at another epoch, clock and offsets
-sound_with : (g : Group) (epoch clock : ℕ) (offsets : Offsets) → IsSound g → g.target_epoch ≤ epoch → epoch ≤ GREATEST_EPOCH
-    → IsSound (record g { epoch = epoch; clock = clock; offsets = offsets })
+sound_with : (g : Group) (epoch clock : ℕ) (offsets : Offsets) → IsConsistent g → g.target_epoch ≤ epoch → epoch ≤ GREATEST_EPOCH
+    → IsConsistent (record g { epoch = epoch; clock = clock; offsets = offsets })
 sound_with g epoch clock offsets sound above most =
     record {
       one_holder = sound.one_holder;
@@ -98,19 +98,19 @@ sound_with g epoch clock offsets sound above most =
       few_past = sound.few_past;
     }
 
-pub risen_is_sound : (g : Group) → IsSound g → IsSound (record g { epoch = risen g.epoch })
-risen_is_sound g sound =
+pub risen_is_consistent : (g : Group) → IsConsistent g → IsConsistent (record g { epoch = risen g.epoch })
+risen_is_consistent g sound =
     let bounds = risen_bounds g.epoch sound.epoch in
     sound_with g (risen g.epoch) g.clock g.offsets sound (omega (arith, bounds.0, sound.target_epoch)) bounds.1
 
-pub clocked_is_sound : (g : Group) (now : ℕ) → IsSound g → IsSound (record g { clock = now })
-clocked_is_sound g now sound = sound_with g g.epoch now g.offsets sound sound.target_epoch sound.epoch
+pub clocked_is_consistent : (g : Group) (now : ℕ) → IsConsistent g → IsConsistent (record g { clock = now })
+clocked_is_consistent g now sound = sound_with g g.epoch now g.offsets sound sound.target_epoch sound.epoch
 
 -- after a commit
-pub committed_is_sound : (g : Group) (c : Commit) (image : Topics) (reply : CommitReply) (new : Group) → CommitStep g c image reply new → IsSound g → IsSound new
-committed_is_sound g c image reply new step sound =
+pub committed_is_consistent : (g : Group) (c : Commit) (image : Topics) (reply : CommitReply) (new : Group) → CommitStep g c image reply new → IsConsistent g → IsConsistent new
+committed_is_consistent g c image reply new step sound =
     let offsets = offsets_after (refusal_of_commit g.records c.member c.epoch) g.offsets c image in
-    subst IsSound (sym step.stores) (sound_with g g.epoch g.clock offsets sound sound.target_epoch sound.epoch)
+    subst IsConsistent (sym step.stores) (sound_with g g.epoch g.clock offsets sound sound.target_epoch sound.epoch)
 
 -- ---- a member leaves
 
@@ -118,15 +118,15 @@ fewer : (b : Bool) (n : ℕ) → n ≤ MOST_MEMBERS → cond b (n - 1) n ≤ MOS
 fewer true n few = omega arith
 fewer false n few = few
 
-module _ (g : Group) (sound : IsSound g) (m : Text) (r : Record) (kept : finite.get g.records m ≡ Some r) (stamp : Stamp) where
+module _ (g : Group) (sound : IsConsistent g) (m : Text) (r : Record) (kept : finite.get g.records m ≡ Some r) (stamp : Stamp) where
   abbrev After : Group
   After = without_member g m stamp
 
   has_id : m ≢ []
   has_id is = not_none r (sym sound.named ∙ ap (finite.get g.records) (sym is) ∙ kept)
 
-  pub leaving_is_sound : IsSound After
-  leaving_is_sound =
+  pub leaving_is_consistent : IsConsistent After
+  leaving_is_consistent =
       record {
         one_holder = λ a b p one other. sound.one_holder a b p (still_holds g.grants m a p one).0 (still_holds g.grants m b p other).0;
         holders = λ a p holds.
@@ -152,21 +152,21 @@ module _ (g : Group) (sound : IsSound g) (m : Text) (r : Record) (kept : finite.
       }
 
 -- at member epoch -1
-pub left_is_sound : (g : Group) → IsSound g → (m : Text) (r : Record) → finite.get g.records m ≡ Some r → (stamp : Stamp) (moment : ℕ) → IsSound (left g m stamp moment)
-left_is_sound g sound m r kept stamp moment =
+pub left_is_consistent : (g : Group) → IsConsistent g → (m : Text) (r : Record) → finite.get g.records m ≡ Some r → (stamp : Stamp) (moment : ℕ) → IsConsistent (left g m stamp moment)
+left_is_consistent g sound m r kept stamp moment =
     let clocked : Group = record g { clock = max g.clock moment } in
     let rises : Group = record clocked { epoch = risen g.epoch } in
-    leaving_is_sound rises (risen_is_sound clocked (clocked_is_sound g (max g.clock moment) sound)) m r kept stamp
+    leaving_is_consistent rises (risen_is_consistent clocked (clocked_is_consistent g (max g.clock moment) sound)) m r kept stamp
 
 -- ---- a member goes away for a while
 
 -- at member epoch -2
-pub gone_away_is_sound : (g : Group) → IsSound g → (m : Text) (r : Record) → finite.get g.records m ≡ Some r → (stamp : Stamp) (moment : ℕ) → IsSound (gone_away g m r stamp moment)
-gone_away_is_sound g sound m r kept stamp moment =
+pub gone_away_is_consistent : (g : Group) → IsConsistent g → (m : Text) (r : Record) → finite.get g.records m ≡ Some r → (stamp : Stamp) (moment : ℕ) → IsConsistent (gone_away g m r stamp moment)
+gone_away_is_consistent g sound m r kept stamp moment =
     let now = max g.clock moment in
     let clocked : Group = record g { clock = now } in
-    let is_sound = clocked_is_sound g now sound in
-    kept_is_sound clocked is_sound m (away r stamp now) (fit_as_before clocked is_sound m r (away r stamp now) kept refl refl) r kept
+    let is_sound = clocked_is_consistent g now sound in
+    kept_is_consistent clocked is_sound m (away r stamp now) (fit_as_before clocked is_sound m r (away r stamp now) kept refl refl) r kept
 
 -- ---- a tick
 
@@ -214,18 +214,18 @@ leaves_after records k (e ∷ es) differ leaves = (
         finite.get-remove text_cmp_total records k e.0 ∙ ap (λ b. cond b None (finite.get records e.0)) apart ∙ leaves.0
 
 -- one after the other
-leaving_all_is_sound : (ms : List (Text × Record)) (g : Group) → IsSound g → Leaves g.records ms → IsSound (without_members g ms)
-leaving_all_is_sound [] g sound leaves = sound
-leaving_all_is_sound (m ∷ ms) g sound leaves =
-    leaving_all_is_sound ms (without_member g m.0 m.1.stamp) (leaving_is_sound g sound m.0 m.1 leaves.0 m.1.stamp) (leaves_after g.records m.0 ms leaves.1 leaves.2)
+leaving_all_is_consistent : (ms : List (Text × Record)) (g : Group) → IsConsistent g → Leaves g.records ms → IsConsistent (without_members g ms)
+leaving_all_is_consistent [] g sound leaves = sound
+leaving_all_is_consistent (m ∷ ms) g sound leaves =
+    leaving_all_is_consistent ms (without_member g m.0 m.1.stamp) (leaving_is_consistent g sound m.0 m.1 leaves.0 m.1.stamp) (leaves_after g.records m.0 ms leaves.1 leaves.2)
 
-expired_is_sound : (ms : List (Text × Record)) (g : Group) → IsSound g → Leaves g.records ms → IsSound (expired g ms)
-expired_is_sound [] g sound leaves = sound
-expired_is_sound (m ∷ ms) g sound leaves =
-    leaving_all_is_sound (m ∷ ms) (record g { epoch = risen g.epoch }) (risen_is_sound g sound) leaves
+expired_is_consistent : (ms : List (Text × Record)) (g : Group) → IsConsistent g → Leaves g.records ms → IsConsistent (expired g ms)
+expired_is_consistent [] g sound leaves = sound
+expired_is_consistent (m ∷ ms) g sound leaves =
+    leaving_all_is_consistent (m ∷ ms) (record g { epoch = risen g.epoch }) (risen_is_consistent g sound) leaves
 
-pub ticked_is_sound : (g : Group) → IsSound g → (moment : ℕ) → IsSound (ticked g moment)
-ticked_is_sound g sound moment =
+pub ticked_is_consistent : (g : Group) → IsConsistent g → (moment : ℕ) → IsConsistent (ticked g moment)
+ticked_is_consistent g sound moment =
     let now : Group = at_moment g moment in
-    expired_is_sound (due now) now (clocked_is_sound g (max g.clock moment) sound)
+    expired_is_consistent (due now) now (clocked_is_consistent g (max g.clock moment) sound)
     (leaves_of_sorted (λ m. is_due now.clock m.1) g.records (finite.entries g.records) (finite.entries_sorted g.records) (entries_found g.records))

@@ -1,4 +1,4 @@
--- What keeps a group sound: a member's record is put in, whether the member is new or has one already.
+-- What keeps a group consistent: a member's record is put in, whether the member is new or has one already.
 use Rattle.std.proofs.Common.{◌≡◌, ◌≢◌, ℕ, ◌≤◌, ◌+◌, cond, [], Some, None, is_some, IsTrue, sym, ap, subst, ◌∙◌, length}
 use Rattle.std.specs.FinMap as finite
 use Rattle.group_types.specs.Limits.{MOST_MEMBERS, MOST_PAST_MEMBERS}
@@ -7,7 +7,8 @@ use Rattle.group_types.specs.Text.{Text}
 use Rattle.group_types.specs.Sets.{has}
 use Rattle.group_types.specs.Group.{Record, Records, Past, Group}
 use Rattle.group_types.specs.Leave.{last_epoch}
-use Rattle.group_types.specs.Sound.{IsPast, IsSound}
+use Rattle.group_types.specs.Sound.{IsPast}
+use Rattle.group_types.proofs.Consistent.{IsConsistent}
 use Rattle.group_types.proofs.Orders.{text_cmp_total}
 use Rattle.group_types.proofs.Lookups.{Tie, ties, differs, tie, not_none, Found, this, another, found, get-inserted, get-insert_other}
 use Rattle.group_types.proofs.PastLemmas.{past_of_fewer}
@@ -20,7 +21,7 @@ pub record IsFit (g : Group) (m : Text) (after : Record) : Type 0 where
   pub instance : (n : Text) (s : Record) (i : Text) → n ≢ m → finite.get g.records n ≡ Some s → after.instance ≡ Some i → s.instance ≡ Some i → ⊥
 
 -- a record with the epoch and the instance of the one that was there
-pub fit_as_before : (g : Group) → IsSound g → (m : Text) (r after : Record) → finite.get g.records m ≡ Some r
+pub fit_as_before : (g : Group) → IsConsistent g → (m : Text) (r after : Record) → finite.get g.records m ≡ Some r
     → last_epoch after ≡ last_epoch r → after.instance ≡ r.instance → IsFit g m after
 fit_as_before g sound m r after kept same_epoch same_instance =
     record {
@@ -30,7 +31,7 @@ fit_as_before g sound m r after kept same_epoch same_instance =
       instance = λ n s i other there is also. other (sound.instances n m s r i there kept also (sym same_instance ∙ is));
     }
 
-module _ (g : Group) (sound : IsSound g) (m : Text) (after : Record) (fit : IsFit g m after) where
+module _ (g : Group) (sound : IsConsistent g) (m : Text) (after : Record) (fit : IsFit g m after) where
   abbrev pub Put : Records
   Put = finite.insert g.records m after
 
@@ -73,9 +74,9 @@ module _ (g : Group) (sound : IsSound g) (m : Text) (after : Record) (fit : IsFi
           fit.settled p (sym (ap last_epoch is) ∙ same) (sym (ap (λ t. has g.grants (t, p)) a_is) ∙ holds) ∙ ap Some (sym a_is)
       by (another other apart was) = sound.settled a s p was same holds
 
-  pub put_is_sound : finite.len Put ≤ MOST_MEMBERS → (past : Past) → IsPast Put past → length past ≤ MOST_PAST_MEMBERS → (clock serial : ℕ)
-      → IsSound (record g { records = Put; past = past; clock = clock; serial = serial })
-  put_is_sound few past is_past few_past clock serial =
+  pub put_is_consistent : finite.len Put ≤ MOST_MEMBERS → (past : Past) → IsPast Put past → length past ≤ MOST_PAST_MEMBERS → (clock serial : ℕ)
+      → IsConsistent (record g { records = Put; past = past; clock = clock; serial = serial })
+  put_is_consistent few past is_past few_past clock serial =
       record {
         one_holder = sound.one_holder;
         holders = λ a p holds. put_has a (sound.holders a p holds);
@@ -105,5 +106,5 @@ module _ (g : Group) (sound : IsSound g) (m : Text) (after : Record) (fit : IsFi
     kept_none : (a : Text) → finite.get g.records a ≡ None → finite.get Put a ≡ None
     kept_none a none = put_none a (λ same. not_none r (sym none ∙ ap (finite.get g.records) same ∙ kept)) none
 
-    pub kept_is_sound : IsSound (record g { records = Put })
-    kept_is_sound = put_is_sound few_kept g.past (past_of_fewer g.records Put g.past kept_none sound.past) sound.few_past g.clock g.serial
+    pub kept_is_consistent : IsConsistent (record g { records = Put })
+    kept_is_consistent = put_is_consistent few_kept g.past (past_of_fewer g.records Put g.past kept_none sound.past) sound.few_past g.clock g.serial

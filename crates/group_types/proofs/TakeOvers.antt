@@ -1,4 +1,4 @@
--- A member that takes over leaves a sound group: it has all that the former id had.
+-- A member that takes over leaves a consistent group: it has all that the former id had.
 use Rattle.std.proofs.Common.{◌≡◌, ◌≢◌, ◌≤◌, ◌+◌, ◌-◌, Bool, true, false, cond, ◌&&◌, ◌||◌, [], Option, Some, None, is_some, IsTrue, refl, sym, ap, subst, ◌∙◌, arith, true≢false}
 use Rattle.std.specs.Option.{option_map}
 use Rattle.std.specs.Ordering.{eq_by_cmp}
@@ -14,7 +14,7 @@ use Rattle.group_types.specs.Group.{Record, Records, Grants, Target, Group, held
 use Rattle.group_types.specs.Members.{members_of, taken_over, with_members, without_past}
 use Rattle.group_types.specs.Leave.{last_epoch}
 use Rattle.group_types.specs.Settle.{granting, grants_of_others}
-use Rattle.group_types.specs.Sound.{IsSound}
+use Rattle.group_types.proofs.Consistent.{IsConsistent}
 use Rattle.group_types.proofs.Orders.{text_cmp_total}
 use Rattle.group_types.proofs.SetLemmas.{has-in_order}
 use Rattle.group_types.proofs.SpreadLemmas.{get-renamed}
@@ -35,7 +35,7 @@ renamed_other old new id other =
       | false ↦ λ apart. refl
     ] refl
 
-module _ (g : Group) (sound : IsSound g) (old heir : Text) (r after : Record) (last : Stamp)
+module _ (g : Group) (sound : IsConsistent g) (old heir : Text) (r after : Record) (last : Stamp)
     (kept : finite.get g.records old ≡ Some r) (is_new : finite.get g.records heir ≡ None) (has_id : heir ≢ [])
     (same_epoch : last_epoch after ≡ last_epoch r) (same_instance : after.instance ≡ r.instance) where
   abbrev AfterRecords : Records
@@ -181,8 +181,8 @@ module _ (g : Group) (sound : IsSound g) (old heir : Text) (r after : Record) (l
       ∙ ap (λ o. cond (is_some o) (finite.len (finite.remove g.records old)) (finite.len (finite.remove g.records old) + 1)) (none_without g.records old heir is_new)
       ∙ ap (λ n. n + 1) one_fewer
 
-  pub taken_over_is_sound : IsSound (record (with_members g (taken_over (members_of g) old heir after last)) { target = AfterTarget; grants = AfterGrants })
-  taken_over_is_sound =
+  pub taken_over_is_consistent : IsConsistent (record (with_members g (taken_over (members_of g) old heir after last)) { target = AfterTarget; grants = AfterGrants })
+  taken_over_is_consistent =
       record {
         one_holder = λ a b p one other.
             let first = held_before a p one in

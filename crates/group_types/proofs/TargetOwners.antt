@@ -17,12 +17,13 @@ use Rattle.group_types.specs.Sets.{has}
 use Rattle.group_types.specs.Partition.{partition_cmp}
 use Rattle.group_types.specs.Topics.{Topic, Topics}
 use Rattle.group_types.specs.Assignors.{Subscriber, assignor_of, subscribers_of}
-use Rattle.group_types.specs.Owners.{IsIndex, IsRangeOwner, IsSubscriber, Spread}
+use Rattle.group_types.specs.Owners.{IsRangeOwner, IsSubscriber, Spread}
 use Rattle.group_types.specs.Uniform.{AreFilled, AreMoves, Fills, GoesTo, in_partition_order, partitions_of}
 use Rattle.group_types.specs.Group.{Record, Records, Target}
 use Rattle.group_types.specs.Renewal.{AreOwners, IsTarget, subscriber_of}
 use Rattle.group_types.specs.Sound.{IsOfView}
 use Rattle.group_types.proofs.Orders.{partition_cmp_total, partition_cmp-IsAntisymmetric}
+use Rattle.group_types.proofs.Indexes.{index_below}
 use Rattle.group_types.proofs.Lookups.{some_is}
 use Rattle.group_types.proofs.Entries.{entries_found}
 
@@ -53,7 +54,7 @@ all_of_topic view e there =
     let long = length-range_with_len 0 e.1.count in
     let low : i < e.1.count = omega arith in
     let same : get_or (range_with_len 0 e.1.count) i 0 ≡ i = get_or-range_with_len 0 e.1.count i 0 low ∙ (let same : 0 + i ≡ i = omega arith in same) in
-    record { name = e.0; topic = e.1; is_topic = there; same_id = refl; index = subst (λ k. k < e.1.count) (sym same) low }))
+    record { name = e.0; topic = e.1; is_topic = there; same_id = refl; index = index_below _ i e.1.count (ap pos same) low }))
   where
     part : ℕ → Text × Partition
     part i = (e.0, record { topic = e.1.id; index = pos i })
@@ -90,7 +91,7 @@ module _ (records : Records) (view : Topics) (subs : List Subscriber) (all : All
       topic = owns.topic;
       is_topic = owns.of_view;
       same_id = owns.same_id;
-      index = subst (λ z. IsIndex z owns.topic.count) (sym owns.is_index) owns.below;
+      index = index_below p.index owns.index owns.topic.count owns.is_index owns.below;
     },
   )
 

@@ -1,5 +1,5 @@
 -- A commit of offsets at one group (KIP-848, "OffsetCommit"; Kafka protocol guide, "OffsetCommit Request v9").
-use Rattle.std.specs.Prelude.{◌≡◌, ℕ, ℤ, pos, negsuc, Bool, true, false, not, ◌&&◌, ◌==◌, if◌then◌else◌, int_lt, nat_lt, List, [], ◌∷◌, map, length, Option, Some, None}
+use Rattle.std.specs.Prelude.{◌≡◌, ℕ, ℤ, pos, Bool, true, false, not, ◌&&◌, ◌==◌, if◌then◌else◌, int_lt, nat_lt, List, [], ◌∷◌, map, length, Option, Some, None}
 use Rattle.std.specs.List.{flat_map}
 use Rattle.std.specs.Option.{option_map_or}
 use Rattle.std.specs.FinMap as finite
@@ -8,6 +8,7 @@ use Rattle.group_types.specs.declared.code.Code.TheVariants as codes
 use Rattle.group_types.specs.Limits.{LONGEST_METADATA}
 use Rattle.group_types.specs.Text.{Text}
 use Rattle.group_types.specs.Topics.{Topics}
+use Rattle.group_types.specs.Owners.{is_index}
 use Rattle.group_types.specs.Epoch.{is_at}
 use Rattle.group_types.specs.Group.{Record, Records, Committed, Offsets, Group}
 
@@ -48,10 +49,6 @@ refusal_of_commit records m epoch =
     if int_lt epoch (pos 0) && finite.len records == 0 then None else refusal_of_member (finite.get records m) epoch
 
 -- ---- a taken commit, partition by partition
-
-abbrev pub is_index : ℤ → ℕ → Bool
-is_index (pos i) count = nat_lt i count
-is_index (negsuc i) count = false
 
 abbrev pub is_there : Topics → Text → ℤ → Bool
 is_there image name index = option_map_or (λ t. is_index index t.count) (finite.get image name) false

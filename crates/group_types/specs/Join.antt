@@ -85,12 +85,12 @@ updated r q stamp now =
     }
 
 -- a member that was away is at its previous epoch again
-abbrev pub returned_at : Epoch → Record → Record
-returned_at (At e) r = r
-returned_at Away r = record r { epoch = At r.previous_epoch }
+abbrev pub returned_epoch : Epoch → ℕ → Epoch
+returned_epoch (At e) previous = At e
+returned_epoch Away previous = At previous
 
 abbrev pub returned : Record → Record
-returned r = returned_at r.epoch r
+returned r = record r { epoch = returned_epoch r.epoch r.previous_epoch }
 
 -- a join sets the instance, and the member is sent everything again
 abbrev pub joined : Record → Option Text → Record

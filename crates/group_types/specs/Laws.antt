@@ -7,6 +7,7 @@ use Rattle.group_types.specs.declared.stamp.Stamp.{Stamp}
 use Rattle.group_types.specs.Limits.{GREATEST_EPOCH}
 use Rattle.group_types.specs.Text.{Text}
 use Rattle.group_types.specs.Topics.{Topics}
+use Rattle.group_types.specs.Images.{AreImageTopics}
 use Rattle.group_types.specs.Group.{Record, Group, starting_group}
 use Rattle.group_types.specs.Leave.{left, gone_away}
 use Rattle.group_types.specs.Tick.{ticked}
@@ -47,10 +48,11 @@ CommitsAreAtEpoch =
     → c.epoch ≡ pos epoch → refusal_of_commit g.records c.member c.epoch ≡ None
     → (r : Record) × IsMember g c.member r × (r.epoch ≡ At epoch)
 
--- a heartbeat leaves a sound group, whatever it is and whatever is answered
+-- a heartbeat leaves a sound group, whatever it is and whatever is answered, where the node's topics are an image's
 abbrev pub HeartbeatsAreSound : Type 0
 HeartbeatsAreSound =
-    (g : Group) (a : Arrival) (answer : Answer) (new : Group) → HeartbeatStep g a answer new → IsSound g → IsSound new
+    (g : Group) (a : Arrival) (answer : Answer) (new : Group)
+    → AreImageTopics a.image → HeartbeatStep g a answer new → IsSound g → IsSound new
 
 -- ---- all that comes to a group
 
@@ -60,8 +62,9 @@ pub data GroupEvent : Type 0 where
   OfTick : ℕ → GroupEvent
   OfCommit : Commit → Topics → CommitReply → GroupEvent
 
+-- the topics that a heartbeat comes with are an image's
 abbrev pub IsGroupStep : Group → GroupEvent → Group → Type 0
-IsGroupStep g (OfHeartbeat a answer) new = HeartbeatStep g a answer new
+IsGroupStep g (OfHeartbeat a answer) new = AreImageTopics a.image × HeartbeatStep g a answer new
 IsGroupStep g (OfTick moment) new = new ≡ ticked g moment
 IsGroupStep g (OfCommit c image reply) new = CommitStep g c image reply new
 

@@ -3,6 +3,7 @@ pub mod Text
 pub mod Sets
 pub mod Partition
 pub mod Topics
+pub mod Images
 pub mod MemberId
 pub mod Epoch
 pub mod Stamp

@@ -27,9 +27,13 @@ owns spread id p = option_map_or (λ owner. bytes_eq owner id) (finite.get sprea
 abbrev pub share_of : Spread → Text → Partitions
 share_of spread id = of_list (finite.keys (finite.retain_keys spread (owns spread id)))
 
+-- the number is an index of a topic with so many partitions
+abbrev pub is_index : ℤ → ℕ → Bool
+is_index (pos i) count = nat_lt i count
+is_index (negsuc i) count = false
+
 abbrev pub IsIndex : ℤ → ℕ → Type 0
-IsIndex (pos i) count = i < count
-IsIndex (negsuc i) count = ⊥
+IsIndex index count = IsTrue (is_index index count)
 
 -- the partition is one of a topic of the view that is among the names
 abbrev pub IsSubscribed : Topics → Names → Partition → Type 0

@@ -6,6 +6,7 @@ use Rattle.group_types.specs.Limits.{GREATEST_EPOCH, MOST_MEMBERS, MOST_PAST_MEM
 use Rattle.group_types.specs.Text.{Text}
 use Rattle.group_types.specs.Sets.{has}
 use Rattle.group_types.specs.Topics.{Topic, Topics}
+use Rattle.group_types.specs.Images.{AreImageTopics}
 use Rattle.group_types.specs.Owners.{IsIndex}
 use Rattle.group_types.specs.Group.{Record, Records, Past, Group}
 use Rattle.group_types.specs.Members.{past_stamp}
@@ -32,7 +33,8 @@ pub record IsSound (g : Group) : Type 0 where
   pub one_holder : (m n : Text) (p : Partition) → IsTrue (has g.grants (m, p)) → IsTrue (has g.grants (n, p)) → m ≡ n
   pub holders : (m : Text) (p : Partition) → IsTrue (has g.grants (m, p)) → IsTrue (finite.contains_key g.records m)
   pub owners : (m : Text) (p : Partition) → finite.get g.target p ≡ Some m → IsTrue (finite.contains_key g.records m)
-  -- what is owned is of the stored view
+  -- the stored view is of an image, and what is owned is of the view
+  pub view : AreImageTopics g.view
   pub owned : (m : Text) (p : Partition) → finite.get g.target p ≡ Some m → IsOfView g.view p
   -- a member's epoch is at most the target's, and at the target's it holds no more than its target
   pub epochs : (m : Text) (r : Record) → finite.get g.records m ≡ Some r → last_epoch r ≤ g.target_epoch

@@ -30,7 +30,7 @@ pub fn refusals_change_nothing()
     ensures { RefusalsChangeNothing }
 {}
 
-/// A heartbeat leaves a sound group, whatever it is and whatever is answered.
+/// A heartbeat leaves a sound group, whatever it is and whatever is answered, where the node's topics are an image's.
 pub fn heartbeats_are_sound()
     ensures { HeartbeatsAreSound }
 {}
@@ -55,7 +55,8 @@ pub fn commits_are_at_epoch()
     ensures { CommitsAreAtEpoch }
 {}
 
-/// Whatever came to a group since it was new, it is sound: no two members hold one partition, among others.
+/// Whatever came to a group since it was new, it is sound: no two members hold one partition, and its view is of an image, among
+/// others.
 pub fn every_group_is_sound()
     ensures { EveryGroupIsSound }
 {}

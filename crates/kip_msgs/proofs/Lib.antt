@@ -1,4 +1,6 @@
 pub mod Puts
+pub mod GrowthLemmas
+pub mod ListingLemmas
 pub mod MessageLaws
 pub mod HeadLaws
 pub mod GivesLaws

@@ -6,6 +6,8 @@ pub mod Reading
 pub mod Heads
 pub mod Answers
 pub mod Topics
+pub mod Listing
+pub mod Growth
 pub mod Views
 pub mod Writable
 pub mod TagCount

@@ -21,7 +21,7 @@ use Rattle.group_types.proofs.SetLemmas.{common-nothing, has-nothing, is_nothing
 use Rattle.group_types.specs.Partition.{Partitions, partition_cmp}
 use Rattle.group_types.specs.Assignors.{Subscriber, IdsAreApart, subscribers_of}
 use Rattle.topic_meta.specs.declared.view_topic.ViewTopic.{ViewTopic}
-use Rattle.topic_meta.specs.Facts.{AreImageTopics}
+use Rattle.group_types.specs.Images.{AreImageTopics}
 use Rattle.topic_meta.specs.Views.{all_named, named}
 use Rattle.topic_meta.proofs.Places.{get-topic_at, topic_at-ids_apart}
 use Rattle.range_assign.specs.Shares.{AreShares, owned_in, spread_of}

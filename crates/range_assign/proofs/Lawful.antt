@@ -9,8 +9,9 @@ use Rattle.group_types.specs.Text.{Text}
 use Rattle.group_types.specs.Topics.{Topics}
 use Rattle.group_types.specs.Sets.{has}
 use Rattle.group_types.specs.Assignors.{Subscriber, subscribers_of}
-use Rattle.group_types.specs.Owners.{IsIndex, IsRangeOwner, IsSubscriber, range_place}
-use Rattle.topic_meta.specs.Facts.{AreImageTopics}
+use Rattle.group_types.specs.Owners.{IsRangeOwner, IsSubscriber, range_place}
+use Rattle.group_types.proofs.Indexes.{index_below, index_of}
+use Rattle.group_types.specs.Images.{AreImageTopics}
 use Rattle.range_assign.specs.Laws.{RangeIsLawful, SubscribedPartitionsHaveAnOwner}
 use Rattle.range_assign.proofs.Dealt.{place_of_subscriber, pos_inj}
 use Rattle.range_assign.proofs.Places.{range_place-below}
@@ -27,10 +28,6 @@ some_subscriber (x ∷ xs) name (suc k) m is there =
       | true ↦ omega arith
       | false ↦ later
     ]
-
-index_of : (z : ℤ) (count : ℕ) → IsIndex z count → (i : ℕ) × (z ≡ pos i) × (i < count)
-index_of (pos i) count is = (i, refl, is)
-index_of (negsuc i) count is = absurd is
 
 pub owner_of : (view : Topics) (subs : List Subscriber) (p : Partition) (id : Text) → IsSubscriber view subs p id → (owner : Text) × IsRangeOwner view subs p owner
 owner_of view subs p id (m, (k, within, is), same, (name, topic, of_view, subscribes, same_id, at)) =
@@ -63,7 +60,7 @@ owner_subscribes view subs p id owns =
       m,
       (at.0, within, get_or_from_slice_get subs at.0 m m at.1),
       owns.same_owner,
-      (owns.name, owns.topic, owns.of_view, at.2, owns.same_id, subst (λ z. IsIndex z owns.topic.count) (sym owns.is_index) owns.below),
+      (owns.name, owns.topic, owns.of_view, at.2, owns.same_id, index_below p.index owns.index owns.topic.count owns.is_index owns.below),
     )
 
 pub range_is_lawful : RangeIsLawful

@@ -5,7 +5,7 @@ use Rattle.group_types.specs.Text.{Text}
 use Rattle.group_types.specs.Topics.{Topics}
 use Rattle.group_types.specs.Assignors.{Subscriber}
 use Rattle.group_types.specs.Owners.{Spread, IsLawful, IsRange, IsRangeOwner, IsSubscriber}
-use Rattle.topic_meta.specs.Facts.{AreImageTopics}
+use Rattle.group_types.specs.Images.{AreImageTopics}
 
 -- Under range each partition that some member subscribes has exactly one owner, who subscribes it; nothing else is owned.
 abbrev pub RangeIsLawful : Type 0

@@ -1,22 +1,22 @@
 -- The topics that an image has of a list of names, and that they are the view of the names.
-use Rattle.std.proofs.Common.{◌≡◌, ℕ, ◌≤◌, Bool, true, false, cond, ◌||◌, T, List, [], ◌∷◌, ◌++◌, map, length, refl, sym, ap, subst, ◌∙◌, arith, Option, Some, None, append_assoc, is_some, String, sum_by}
+use Rattle.std.proofs.Common.{◌≡◌, Bool, true, false, cond, ◌||◌, T, List, [], ◌∷◌, ◌++◌, map, refl, sym, ap, subst, ◌∙◌, Option, Some, None, append_assoc, String}
 use Rattle.std.specs.declared.alloc.Global.{Global}
 use Rattle.std.specs.Cmp.{Equal-is}
-use Rattle.std.specs.List.{filter_map, cons_option, list_any, filter}
+use Rattle.std.specs.List.{filter_map, cons_option, list_any}
 use Rattle.std.specs.Option.{option_map}
 use Rattle.std.specs.Ordering.{eq_by_cmp}
 use Rattle.std.specs.BTreeMap.{BTreeMap, get_by_text}
 use Rattle.std.specs.FinMap as finite
 use Rattle.std.specs.FinMap.{get, entries, find, is_sorted}
-use Rattle.std.specs.FinMap.Entries.{below_all, where_key, is_sorted-where_key, find-where_key}
+use Rattle.std.specs.FinMap.Entries.{below_all}
 use Rattle.std.proofs.lemmas.List.{append-nil}
-use Rattle.std.proofs.lemmas.List.Sums.{sum_by-cons}
 use Rattle.group_types.specs.Text.{Text, text_cmp}
 use Rattle.group_types.specs.Topics.{Topic, Topics, Names, view_of}
 use Rattle.group_types.specs.Sets.{has, in_order}
+use Rattle.group_types.specs.Images.{AreImageTopics}
+use Rattle.group_types.proofs.Images.{get-retained, retained-AreImageTopics}
 use Rattle.group_types.proofs.Orders.{text_cmp_total, text_cmp-IsAntisymmetric}
 use Rattle.topic_meta.proofs.Truths.{first, second, both}
-use Rattle.topic_meta.specs.Facts.{AreImageTopics, partition_count}
 use Rattle.topic_meta.specs.Stored.{shown_topic, topics_in}
 use Rattle.topic_meta.specs.Views.{shown, IsView}
 use Rattle.topic_meta.specs.declared.topic.StoredTopic.{StoredTopic}
@@ -97,8 +97,7 @@ find-found image q (n ∷ ns) =
     ] refl
 
 pub get-view_of : (image : Topics) (names : Names) (q : Text) → get (view_of image names) q ≡ cond (has names q) (get image q) None
-get-view_of image names q =
-    finite.get-retain_keys image (has names) q (λ x tie. ap is_some (finite.get_tied text_cmp_total names q x tie))
+get-view_of image names q = get-retained image (has names) q
 
 -- what is found of the names of a set is the view of the set
 pub shown-found : (image : Topics) (names : Names) → shown (found image (in_order names)) ≡ view_of image names
@@ -115,69 +114,10 @@ true_from_T : (b : Bool) → T b → b ≡ true
 true_from_T true h = refl
 true_from_T false h = absurd h
 
-length-filter : {A : Type 0} (p : A → Bool) (xs : List A) → length (filter p xs) ≤ length xs
-length-filter p [] = omega arith
-length-filter p (x ∷ xs) =
-    let rest = length-filter p xs in
-    elim (p x) as (λ b. length (cond b (x ∷ filter p xs) (filter p xs)) ≤ length (x ∷ xs)) [
-      | true ↦ omega arith
-      | false ↦ omega arith
-    ]
-
-kept : (image : Topics) (names : Names) → view_of image names ≡ shown (where_key text_cmp (has names) (entries image))
-kept image names =
-    finite.same_map text_cmp_total text_cmp-IsAntisymmetric _ _ (λ q.
-    get-view_of image names q
-    ∙ ap (λ o. cond (has names q) o None) (finite.get-entries image q)
-    ∙ sym (find-where_key text_cmp (has names) q (λ x tie. ap is_some (finite.get_tied text_cmp_total names q x tie)) (entries image))
-    ∙ sym (finite.get-from_sorted text_cmp _ q (is_sorted-where_key text_cmp (has names) (entries image) (finite.entries_sorted image))))
-
-entries-view_of : (image : Topics) (names : Names) → entries (view_of image names) ≡ where_key text_cmp (has names) (entries image)
-entries-view_of image names =
-    ap entries (kept image names)
-    ∙ finite.entries-from_sorted text_cmp _ (is_sorted-where_key text_cmp (has names) (entries image) (finite.entries_sorted image))
-
-len-view_of : (image : Topics) (names : Names) → finite.len (view_of image names) ≤ finite.len image
-len-view_of image names =
-    let shorter = length-filter (λ e. has names e.0) (entries image) in
-    let whole = finite.len-entries image in
-    let part = finite.len-entries (view_of image names) ∙ ap length (entries-view_of image names) in
-    omega arith
-
-sum_by-filter : {A : Type 0} (f : A → ℕ) (p : A → Bool) (xs : List A) → sum_by f (filter p xs) ≤ sum_by f xs
-sum_by-filter f p [] = omega arith
-sum_by-filter f p (x ∷ xs) =
-    let rest = sum_by-filter f p xs in
-    let whole = sum_by-cons f x xs in
-    elim (p x) as (λ b. sum_by f (cond b (x ∷ filter p xs) (filter p xs)) ≤ sum_by f (x ∷ xs)) [
-      | true ↦ let part = sum_by-cons f x (filter p xs) in omega arith
-      | false ↦ omega arith
-    ]
-
-partition_count-view_of : (image : Topics) (names : Names) → partition_count (view_of image names) ≤ partition_count image
-partition_count-view_of image names =
-    let smaller = sum_by-filter (λ e. e.1.count) (λ e. has names e.0) (entries image) in
-    let part = ap (sum_by (λ e. e.1.count)) (entries-view_of image names) in
-    omega arith
-
-from_view : (b : Bool) (o : Option Topic) (t : Topic) → cond b o None ≡ Some t → o ≡ Some t
-from_view true o t h = h
-from_view false o t h = absurd (cc)
-
-pub view_of-AreImageTopics : (image : Topics) (names : Names) → AreImageTopics image → AreImageTopics (view_of image names)
-view_of-AreImageTopics image names are =
-    let before = λ (q : Text) (t : Topic) (is : get (view_of image names) q ≡ Some t). from_view (has names q) (get image q) t (sym (get-view_of image names q) ∙ is) in
-    record {
-      ids_apart = λ p q s t is_s is_t same. are.ids_apart p q s t (before p s is_s) (before q t is_t) same;
-      counts = λ q t is. are.counts q t (before q t is);
-      few = let shorter = len-view_of image names in let bound = are.few in omega arith;
-      few_partitions = let smaller = partition_count-view_of image names in let bound = are.few_partitions in omega arith;
-    }
-
 pub found-IsView : (image : Topics) (names : Names) → AreImageTopics image → IsView (found image (in_order names))
 found-IsView image names are = record {
   rising = true_from_T _ (rising-found image (entries names) (finite.entries_sorted names));
-  sound = subst AreImageTopics (sym (shown-found image names)) (view_of-AreImageTopics image names are);
+  sound = subst AreImageTopics (sym (shown-found image names)) (retained-AreImageTopics image (has names) are);
 }
 
 -- once no name is left, what was found is all

@@ -13,9 +13,9 @@ use Rattle.std.specs.FinMap.Entries.{below_all}
 use Rattle.group_types.specs.Limits.{MOST_TOPIC_PARTITIONS}
 use Rattle.group_types.specs.Text.{Text, text_cmp}
 use Rattle.group_types.specs.Topics.{Topic, Topics}
+use Rattle.group_types.specs.Images.{AreImageTopics}
 use Rattle.group_types.proofs.Orders.{text_cmp_total}
 use Rattle.topic_meta.proofs.Truths.{first, second}
-use Rattle.topic_meta.specs.Facts.{AreImageTopics}
 use Rattle.topic_meta.specs.Views.{named, all_named}
 use Rattle.topic_meta.specs.declared.view_topic.ViewTopic.{ViewTopic}
 

@@ -5,12 +5,13 @@ use Rattle.std.specs.Option.{option_or}
 use Rattle.std.proofs.lemmas.List.{map-append, append-nil}
 use Rattle.std.proofs.lemmas.Bool.{ltb-false}
 use Rattle.std.proofs.Math.ListN.{length-append}
+use Rattle.flex_wire.specs.Spelling.{FitsUuid}
 use Rattle.group_types.specs.Limits.{MOST_TOPICS, MOST_PARTITIONS}
+use Rattle.group_types.specs.Images.{AreImageTopics}
 use Rattle.topic_meta.specs.declared.draft.Draft.{Draft}
 use Rattle.topic_meta.specs.declared.image_fault.ImageFault.{ImageFault}
 use Rattle.topic_meta.specs.declared.topic.TopicEntry.{TopicEntry}
 use Rattle.topic_meta.specs.Drafts.{IsDraftOf}
-use Rattle.topic_meta.specs.Facts.{AreImageTopics}
 use Rattle.topic_meta.specs.Images.{Entry, entry_of, entries_of, topics_of, fault_of, first_fault_after, first_fault, is_too_many, partitions_in}
 use Rattle.topic_meta.specs.Stored.{topics_in}
 use Rattle.topic_meta.proofs.Sound.{IsSound, sound-nil, sound-push, topics_of-AreImageTopics}
@@ -38,14 +39,14 @@ module _ (all done rest left : List TopicEntry) (old : Draft) (x : TopicEntry) (
   pub reading-fault : (fault : ImageFault) → fault_of (entries_of done) (entry_of x) ≡ Some fault → first_fault_after [] (entries_of all) ≡ Some fault
   reading-fault fault is = next_fault ∙ ap (λ f. option_or f (first_fault_after (entries_of done ++ entry_of x ∷ []) (entries_of left))) is
 
-  pub reading-more : (new : Draft) → fault_of (entries_of done) (entry_of x) ≡ None → IsDraftOf (entries_of done ++ entry_of x ∷ []) new
-      → IsReading all (done ++ x ∷ []) left new
-  reading-more new none is =
+  pub reading-more : (new : Draft) → fault_of (entries_of done) (entry_of x) ≡ None → FitsUuid (entry_of x).id
+      → IsDraftOf (entries_of done ++ entry_of x ∷ []) new → IsReading all (done ++ x ∷ []) left new
+  reading-more new none uuid is =
       let longer : entries_of done ++ entry_of x ∷ [] ≡ entries_of (done ++ x ∷ []) = sym (map-append entry_of done (x ∷ [])) in
       record {
         parts = reading.parts ∙ ap (λ list. done ++ list) taken ∙ sym (append_assoc done (x ∷ []) left);
         drafted = subst (λ entries. IsDraftOf entries new) longer is;
-        sound = subst IsSound longer (sound-push (entries_of done) (entry_of x) reading.sound none);
+        sound = subst IsSound longer (sound-push (entries_of done) (entry_of x) reading.sound none uuid);
         clear = next_fault
             ∙ ap (λ f. option_or f (first_fault_after (entries_of done ++ entry_of x ∷ []) (entries_of left))) none
             ∙ ap (λ entries. first_fault_after entries (entries_of left)) longer;

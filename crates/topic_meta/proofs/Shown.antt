@@ -1,6 +1,5 @@
 -- The topics of a tree and of a slice are as many as the entries, and in their order.
-use Rattle.std.proofs.lemmas.List.{nil_from_length}
-use Rattle.std.proofs.Common.{◌≡◌, ℕ, Bool, true, false, ◌&&◌, List, [], ◌∷◌, map, length, refl, sym, ap, subst, ◌∙◌, arith, Some, string_bytes, String, IsTrue, sum_by, ◌==◌}
+use Rattle.std.proofs.Common.{◌≡◌, ℕ, Bool, true, false, ◌&&◌, List, [], ◌∷◌, map, length, refl, sym, ap, subst, ◌∙◌, string_bytes, String, IsTrue, ◌==◌}
 use Rattle.std.specs.declared.alloc.Global.{Global}
 use Rattle.std.specs.declared.cmp.Ordering.TheVariants.{Less}
 use Rattle.std.specs.Ordering.{is_lt}
@@ -18,27 +17,14 @@ use Rattle.std.proofs.lemmas.Map.Keys.{sorted_head, sorted_tail}
 use Rattle.std.proofs.lemmas.Float.{T_from_true}
 use Rattle.group_types.specs.Text.{Text, text_cmp}
 use Rattle.group_types.specs.Topics.{Topic, Topics}
+use Rattle.group_types.specs.Images.{AreImageTopics}
+use Rattle.group_types.proofs.Images.{empty-AreImageTopics}
 use Rattle.group_types.proofs.Orders.{text_cmp_total, text_cmp-IsAntisymmetric}
-use Rattle.topic_meta.specs.Facts.{AreImageTopics}
 use Rattle.topic_meta.specs.Stored.{shown_topic, topics_in}
 use Rattle.topic_meta.specs.Views.{shown, IsView}
 use Rattle.topic_meta.specs.declared.topic.StoredTopic.{StoredTopic}
 
 -- ---- no topics
-
-nowhere : (q : Text) (t : Topic) → finite.get {R = text_cmp} finite.empty q ≡ Some t → ⊥
-nowhere q t is = let none = sym (finite.get-empty {X = Topic} text_cmp q) ∙ is in cc
-
-no_entries : let none : Topics = finite.empty in entries none ≡ []
-no_entries = nil_from_length _ (sym (finite.len-entries finite.empty) ∙ finite.len-empty text_cmp Topic)
-
-pub empty-AreImageTopics : AreImageTopics finite.empty
-empty-AreImageTopics = record {
-  ids_apart = λ p q s t is_s is_t same. absurd (nowhere p s is_s);
-  counts = λ q t is. absurd (nowhere q t is);
-  few = let none = finite.len-empty text_cmp Topic in omega arith;
-  few_partitions = let none = ap (sum_by (λ e. e.1.count)) no_entries in omega arith;
-}
 
 pub shown-nil : shown [] ≡ finite.empty
 shown-nil = finite.same_map text_cmp_total text_cmp-IsAntisymmetric _ _ (λ q. finite.get-from_sorted text_cmp [] q tt ∙ sym (finite.get-empty text_cmp q))

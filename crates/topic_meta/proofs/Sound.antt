@@ -1,4 +1,4 @@
--- A list without a fault makes topics that are apart and have counts in range.
+-- A list without a fault makes topics that are apart and have counts in range; their ids are UUIDs, as the entries' are.
 use Rattle.std.proofs.Common.{◌≡◌, ◌⊎◌, ℕ, ◌+◌, ◌<◌, ◌≤◌, Bool, true, false, cond, ◌&&◌, ◌||◌, List, [], ◌∷◌, ◌++◌, map, length, refl, sym, ap, subst, ◌∙◌, inl, inr, arith, Option, Some, None, bytes_eq, true≢false, if◌then◌else◌, nat_lt, nat_le, sum_by}
 use Rattle.std.specs.Set.{is_member}
 use Rattle.std.specs.FinMap as finite
@@ -10,12 +10,13 @@ use Rattle.std.proofs.lemmas.Bool.{ltb-true, leb-true}
 use Rattle.std.proofs.lemmas.List.{map-append}
 use Rattle.std.proofs.lemmas.List.Sums.{sum_by-cons}
 use Rattle.std.proofs.lemmas.Slice.Eq.{bytes_eq-Decides}
+use Rattle.flex_wire.specs.Spelling.{FitsUuid}
 use Rattle.group_types.specs.Limits.{MOST_TOPICS, MOST_PARTITIONS, MOST_TOPIC_PARTITIONS}
 use Rattle.group_types.specs.Text.{Text, text_cmp}
 use Rattle.group_types.specs.Topics.{Topic}
+use Rattle.group_types.specs.Images.{IdsAreApart, IdsAreUuids, CountsAreInRange, AreImageTopics, partition_count}
 use Rattle.group_types.proofs.Orders.{text_cmp_total}
 use Rattle.topic_meta.specs.declared.image_fault.ImageFault.TheVariants.{DuplicateName, DuplicateId}
-use Rattle.topic_meta.specs.Facts.{IdsAreApart, CountsAreInRange, AreImageTopics, partition_count}
 use Rattle.topic_meta.specs.Images.{Entry, topic_of, topics_of, partitions, partitions_in, is_count, fault_if, fault_of}
 use Rattle.topic_meta.proofs.Drafts.{topics_of-push, is_member-push, bytes_eq-tie}
 
@@ -54,6 +55,7 @@ in_range n h =
 pub record IsSound (entries : List Entry) : Type 0 where
   pub among : (q : Text) (t : Topic) → get (topics_of entries) q ≡ Some t → is_member bytes_eq (map (λ e. e.id) entries) t.id ≡ true
   pub ids_apart : IdsAreApart (topics_of entries)
+  pub ids : IdsAreUuids (topics_of entries)
   pub counts : CountsAreInRange (topics_of entries)
 
 nowhere : (q : Text) (t : Topic) → get (topics_of []) q ≡ Some t → ⊥
@@ -63,6 +65,7 @@ pub sound-nil : IsSound []
 sound-nil = record {
   among = λ q t is. absurd (nowhere q t is);
   ids_apart = λ p q s t is_s is_t same. absurd (nowhere p s is_s);
+  ids = λ q t is. absurd (nowhere q t is);
   counts = λ q t is. absurd (nowhere q t is);
 }
 
@@ -101,8 +104,8 @@ module _ (earlier : List Entry) (e : Entry) (sound : IsSound earlier) where
   apart_from_new free q t is same =
       true≢false (sym (sound.among q t is) ∙ ap (is_member bytes_eq (map (λ d. d.id) earlier)) same ∙ free)
 
-  pub sound-push : fault_of earlier e ≡ None → IsSound (earlier ++ e ∷ [])
-  sound-push none =
+  pub sound-push : fault_of earlier e ≡ None → FitsUuid e.id → IsSound (earlier ++ e ∷ [])
+  sound-push none uuid =
       let clear = clear_parts (is_member bytes_eq (map (λ d. d.name) earlier) e.name) (is_member bytes_eq (map (λ d. d.id) earlier) e.id) (partitions e.count) none in
       record {
         among = λ q t is. member-more earlier e t.id ∙ elim (split earlier e clear.name_free q t is) [
@@ -118,6 +121,10 @@ module _ (earlier : List Entry) (e : Entry) (sound : IsSound earlier) where
             | inl k ↦ absurd (apart_from_new clear.id_free p s h (same ∙ ap (λ u. u.id) k.1))
             | inr k ↦ sound.ids_apart p q s t h k same
           ]
+        ];
+        ids = λ q t is. elim (split earlier e clear.name_free q t is) [
+          | inl h ↦ subst (λ (u : Topic). FitsUuid u.id) (sym h.1) uuid
+          | inr h ↦ sound.ids q t h
         ];
         counts = λ q t is. elim (split earlier e clear.name_free q t is) [
           | inl h ↦ subst (λ (u : Topic). (1 ≤ u.count) × (u.count ≤ MOST_TOPIC_PARTITIONS)) (sym h.1) (in_range (partitions e.count) clear.counted)
@@ -175,6 +182,7 @@ partition_count-topics_of (e ∷ entries) =
 pub topics_of-AreImageTopics : (entries : List Entry) → IsSound entries → length entries ≤ MOST_TOPICS → partitions_in entries ≤ MOST_PARTITIONS → AreImageTopics (topics_of entries)
 topics_of-AreImageTopics entries sound short small = record {
   ids_apart = sound.ids_apart;
+  ids = sound.ids;
   counts = sound.counts;
   few = let bound = len-topics_of entries in omega arith;
   few_partitions = let bound = partition_count-topics_of entries in omega arith;

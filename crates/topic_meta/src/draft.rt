@@ -15,6 +15,7 @@ pub struct Draft {
 
 impl Draft {
     ghost use Rattle.std.specs.Prelude.{◌≡◌, ◌⊎◌, List, [], ◌∷◌, ◌++◌, OnOk, IfErr, Some, None};
+    ghost use Rattle.flex_wire.specs.Spelling.{FitsUuid};
     ghost use Rattle.topic_meta.specs.Drafts.{IsDraftOf};
     ghost use Rattle.topic_meta.specs.Images.{Entry, entry_of, fault_of};
     ghost use Rattle.topic_meta.specs.declared.image_fault.ImageFault.TheVariants.{NoMemory};
@@ -35,7 +36,10 @@ impl Draft {
             (fault_of earlier (entry_of entry) ≡ None) × IsDraftOf (earlier ++ entry_of entry ∷ []) self.new) }
         ensures refused { (earlier : List Entry) → IsDraftOf earlier self.old → IfErr result (λ fault.
             (fault ≡ NoMemory) ⊎ (fault_of earlier (entry_of entry) ≡ Some fault)) }
+        ensures sixteen { FitsUuid entry.id }
     {
+        // so that the id is known to have sixteen bytes
+        let _bytes: &[u8] = entry.id.as_bytes();
         let count = entry.partitions();
         if !is_in_range(count) {
             return Err(ImageFault::BadCount);

@@ -6,7 +6,7 @@ ghost use Rattle.std.specs.FinMap as finite;
 ghost use Rattle.std.specs.Map.Iter.{ShowsInOrder, deref};
 ghost use Rattle.group_types.specs.Topics.{view_of};
 ghost use Rattle.topic_meta.specs.Images.{topics_of, entries_of, first_fault, is_too_many, partitions_in};
-ghost use Rattle.topic_meta.specs.Facts.{AreImageTopics};
+ghost use Rattle.group_types.specs.Images.{AreImageTopics};
 ghost use Rattle.topic_meta.specs.declared.image_fault.ImageFault.TheVariants.{NoMemory};
 
 use crate::draft::Draft;
@@ -31,7 +31,7 @@ pub struct Image {
 impl Model for Image {
     ghost use Rattle.group_types.specs.Topics.{Topics};
     ghost use Rattle.topic_meta.specs.Stored.{topics_code, topics_in};
-    ghost use Rattle.topic_meta.specs.Facts.{AreImageTopics};
+    ghost use Rattle.group_types.specs.Images.{AreImageTopics};
 
     ghost Value = { Topics };
 

@@ -3,7 +3,7 @@
 ghost use Rattle.std.specs.Prelude.{◌≡◌, IsTrue, IfOk, ◌↔◌, zip};
 ghost use Rattle.std.specs.List.{list_all};
 ghost use Rattle.std.specs.FinMap as finite;
-ghost use Rattle.topic_meta.specs.Facts.{AreImageTopics};
+ghost use Rattle.group_types.specs.Images.{AreImageTopics};
 ghost use Rattle.topic_meta.specs.Views.{all_named, is_same, are_same, shown, IsView};
 
 use crate::view_topic::ViewTopic;

@@ -7,7 +7,7 @@ use Rattle.group_types.specs.declared.partition.Partition.{Partition}
 use Rattle.group_types.specs.Text.{Text}
 use Rattle.group_types.specs.Topics.{Topic, Topics}
 use Rattle.group_types.specs.Uniform.{in_partition_order, partitions_of}
-use Rattle.topic_meta.specs.Facts.{AreImageTopics}
+use Rattle.group_types.specs.Images.{AreImageTopics}
 use Rattle.topic_meta.proofs.Places.{ids_apart-at}
 use Rattle.range_assign.proofs.Dealt.{pos_inj}
 use Rattle.uniform_assign.proofs.Lists.{flat_map-from, range-from, slice_get-append_cases, slice_get-map_from}

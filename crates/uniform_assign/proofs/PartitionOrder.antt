@@ -13,6 +13,7 @@ use Rattle.group_types.specs.Sets.{has}
 use Rattle.group_types.specs.Assignors.{Subscriber, subscribers_of}
 use Rattle.group_types.specs.Owners.{IsIndex, IsSubscriber}
 use Rattle.group_types.specs.Uniform.{in_partition_order, partitions_of}
+use Rattle.group_types.proofs.Indexes.{index_below, index_of}
 use Rattle.group_types.proofs.Orders.{text_cmp-IsAntisymmetric}
 use Rattle.topic_meta.proofs.Places.{get-at}
 use Rattle.range_assign.proofs.Dealt.{place_of_subscriber}
@@ -36,10 +37,6 @@ pub topic_from : (view : Topics) (t : ℕ) (e : Text × Topic) → slice_get (fi
 topic_from view t e is =
     let same = get_or_from_slice_get (finite.entries view) t e e is in
     ap (λ x. finite.get view x.0) (sym same) ∙ get-at view t e (slice_get_within (finite.entries view) t e is) ∙ ap (λ x. Some x.1) same
-
-pub index_of : (z : ℤ) (count : ℕ) → IsIndex z count → (i : ℕ) × (z ≡ pos i) × (i < count)
-index_of (pos i) count is = (i, refl, is)
-index_of (negsuc i) count is = absurd is
 
 -- the partition with this name is one of the topic that has it
 pub record IsOfTopic (view : Topics) (x : Text × Partition) : Type 0 where
@@ -93,7 +90,7 @@ taker_subscribes view subs x m of_x taker = (
   m,
   Contains-at subs taker.place m taker.is_there,
   refl,
-  (x.0, of_x.topic, of_x.of_view, taker.subscribes, of_x.same_id, subst (λ z. IsIndex z of_x.topic.count) (sym of_x.is_index) of_x.below),
+  (x.0, of_x.topic, of_x.of_view, taker.subscribes, of_x.same_id, index_below x.1.index of_x.index of_x.topic.count of_x.is_index of_x.below),
 )
 
 -- a subscribed partition with the place where it is, and the subscriber among the takers

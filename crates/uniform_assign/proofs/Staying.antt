@@ -16,8 +16,9 @@ use Rattle.group_types.specs.Topics.{Topic, Topics}
 use Rattle.group_types.specs.Partition.{Partitions, partition_cmp}
 use Rattle.group_types.specs.Sets.{has, in_order, size}
 use Rattle.group_types.specs.Assignors.{Subscriber, subscribers_of}
-use Rattle.group_types.specs.Owners.{IsIndex, IsLawful, IsShare, IsSubscriber, Spread}
+use Rattle.group_types.specs.Owners.{IsLawful, IsShare, IsSubscriber, Spread}
 use Rattle.group_types.specs.Uniform.{AreFilled, Fills, GoesTo, IsEven, IsUniform, count, in_partition_order}
+use Rattle.group_types.proofs.Indexes.{index_below, index_of}
 use Rattle.group_types.proofs.SetLemmas.{has-in_order}
 use Rattle.topic_meta.specs.Views.{all_named, named}
 use Rattle.topic_meta.specs.declared.view_topic.ViewTopic.{ViewTopic}
@@ -29,7 +30,7 @@ use Rattle.uniform_assign.specs.Marks.{AddsMark, AddsMarks, AreAllMarked, AreNam
 use Rattle.uniform_assign.proofs.Lists.{Contains-at, at_Contains, slice_get-map_at, slice_get-map_from}
 use Rattle.uniform_assign.proofs.Owned.{count-share}
 use Rattle.uniform_assign.proofs.Owners.{same_tied, tied_is}
-use Rattle.uniform_assign.proofs.PartitionOrder.{IsOfTopic, index_of, part_from, taker_from, taker_subscribes, topic_at, topic_from}
+use Rattle.uniform_assign.proofs.PartitionOrder.{IsOfTopic, part_from, taker_from, taker_subscribes, topic_at, topic_from}
 use Rattle.uniform_assign.proofs.Soundness.{IsOwned, OwnersSubscribe, even_is_level, lawful_none, lawful_of, lawful_subscribe}
 
 pub where_true : {P : Type 0} (b : Bool) → (b ≡ true → P) → OnTrue b P
@@ -159,7 +160,7 @@ module _ (view : Topics) (subs : List Subscriber) (topics : List ViewTopic) (sha
             topic_from view t (named x) at,
             sym (marked-at topics member.names marks marked t x part.is_topic) ∙ part.is_named,
             ap (λ (q : Partition). q.topic) part.same,
-            subst (λ z. IsIndex z x.count) (sym (ap (λ (q : Partition). q.index) part.same)) part.below,
+            index_below p.index i x.count (ap (λ (q : Partition). q.index) part.same) part.below,
           ),
         )
 

@@ -11,7 +11,7 @@ use Rattle.group_types.specs.Topics.{Topic}
 use Rattle.group_types.specs.Assignors.{IdsAreApart, Subscriber, member_cmp, subscribers_of}
 use Rattle.group_types.specs.Uniform.{partitions_of}
 use Rattle.range_assign.specs.Members.{subscribers_in}
-use Rattle.topic_meta.specs.Facts.{AreImageTopics}
+use Rattle.group_types.specs.Images.{AreImageTopics}
 use Rattle.uniform_assign.specs.declared.board.Place.{Place}
 use Rattle.uniform_assign.specs.declared.board.Board.{Board}
 

@@ -1,6 +1,6 @@
 use Rattle.std.proofs.Common.{ap}
 use Rattle.group_types.specs.Group.{Group}
-use Rattle.group_types.proofs.Soundness.{committed_is_sound}
+use Rattle.group_types.proofs.Runs.{committed_is_sound}
 use Rattle.group_types.proofs.laws.commits_are_sound.Goals as goal
 
 pub returns : goal.returns

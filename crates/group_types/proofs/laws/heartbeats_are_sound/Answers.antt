@@ -1,4 +1,4 @@
-use Rattle.group_types.proofs.Heartbeats.{heartbeats_are_sound}
+use Rattle.group_types.proofs.Runs.{heartbeats_are_sound}
 use Rattle.group_types.proofs.laws.heartbeats_are_sound.Goals as goal
 
 pub returns : goal.returns

@@ -1,4 +1,4 @@
-use Rattle.group_types.proofs.Soundness.{left_is_sound, gone_away_is_sound}
+use Rattle.group_types.proofs.Runs.{left_is_sound, gone_away_is_sound}
 use Rattle.group_types.proofs.laws.leaves_are_sound.Goals as goal
 
 pub returns : goal.returns

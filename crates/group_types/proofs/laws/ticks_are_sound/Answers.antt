@@ -1,4 +1,4 @@
-use Rattle.group_types.proofs.Soundness.{ticked_is_sound}
+use Rattle.group_types.proofs.Runs.{ticked_is_sound}
 use Rattle.group_types.proofs.laws.ticks_are_sound.Goals as goal
 
 pub returns : goal.returns

@@ -7,10 +7,10 @@ use Rattle.std.specs.VecDeque.Iter.{deque_iter_rest}
 use Rattle.std.proofs.lemmas.List.{map-append}
 use Rattle.group_types.specs.Assignors.{IdsAreApart, member_cmp}
 use Rattle.group_types.specs.Group.{Records}
+use Rattle.group_types.specs.Renewal as renewal
 use Rattle.group_types.specs.Renewal.{AreMembers}
 use Rattle.range_assign.specs.Members.{subscriber_of, subscribers_in}
 use Rattle.group_epochs.specs.Records.{RecordsState}
-use Rattle.group_epochs.specs.Seen.{seen_as}
 use Rattle.group_epochs.specs.Table.{IsSplitAt, keys_in, other_places, rows_at, seen_of}
 use Rattle.group_epochs.proofs.Around.{apart_around, around_listed, listed_around, sorted_around}
 use Rattle.group_epochs.proofs.Listed.{listed}
@@ -35,14 +35,14 @@ in_order-requires-clause-sorted c =
     let split : IsSplitAt (keys_in all) places (r.instance, id) front back =
     subst (λ k. IsSplitAt (keys_in all) places k front back) (λ i. (c.instance.ensures i, c.as_str-2.ensures.value i)) c.around.ensures in
     let listed_so = around_listed all table.distinct table.named id own own_is there places front back c.self.invariant.member_order r split in
-    let pushed : subscribers_in c.push.new.self.items ≡ map seen_of (rows_at all (other_places own front)) ++ seen_as id r ∷ [] =
+    let pushed : subscribers_in c.push.new.self.items ≡ map seen_of (rows_at all (other_places own front)) ++ renewal.subscriber_of (id, r) ∷ [] =
     ap subscribers_in c.in_ok-push.ensures.items
     ∙ map-append subscriber_of c.add_others.new.subscribers.items (c.as_subscriber.result ∷ [])
     ∙ (λ i. (c.in_ok-add_others.ensures ∙ ap (λ l. subscribers_in l ++ map seen_of (rows_at all (other_places own front))) c.in_ok-members.ensures.items) i ++ c.as_subscriber.ensures i ∷ []) in
     let given : subscribers_in c.add_others-2.new.subscribers.items ≡ listed_so =
     c.in_ok-add_others-2.ensures
     ∙ ap (λ l. l ++ map seen_of (rows_at all (other_places own back))) pushed
-    ∙ append_assoc (map seen_of (rows_at all (other_places own front))) (seen_as id r ∷ []) (map seen_of (rows_at all (other_places own back))) in
+    ∙ append_assoc (map seen_of (rows_at all (other_places own front))) (renewal.subscriber_of (id, r) ∷ []) (map seen_of (rows_at all (other_places own back))) in
     subst (IsSorted member_cmp) (sym given) (sorted_around all table.distinct table.named id own own_is there places front back c.self.invariant.member_order r split)
 
 pub in_order-requires-clause-apart : goal.in_order-requires-clause-apart
@@ -62,14 +62,14 @@ in_order-requires-clause-apart c =
     let split : IsSplitAt (keys_in all) places (r.instance, id) front back =
     subst (λ k. IsSplitAt (keys_in all) places k front back) (λ i. (c.instance.ensures i, c.as_str-2.ensures.value i)) c.around.ensures in
     let listed_so = around_listed all table.distinct table.named id own own_is there places front back c.self.invariant.member_order r split in
-    let pushed : subscribers_in c.push.new.self.items ≡ map seen_of (rows_at all (other_places own front)) ++ seen_as id r ∷ [] =
+    let pushed : subscribers_in c.push.new.self.items ≡ map seen_of (rows_at all (other_places own front)) ++ renewal.subscriber_of (id, r) ∷ [] =
     ap subscribers_in c.in_ok-push.ensures.items
     ∙ map-append subscriber_of c.add_others.new.subscribers.items (c.as_subscriber.result ∷ [])
     ∙ (λ i. (c.in_ok-add_others.ensures ∙ ap (λ l. subscribers_in l ++ map seen_of (rows_at all (other_places own front))) c.in_ok-members.ensures.items) i ++ c.as_subscriber.ensures i ∷ []) in
     let given : subscribers_in c.add_others-2.new.subscribers.items ≡ listed_so =
     c.in_ok-add_others-2.ensures
     ∙ ap (λ l. l ++ map seen_of (rows_at all (other_places own back))) pushed
-    ∙ append_assoc (map seen_of (rows_at all (other_places own front))) (seen_as id r ∷ []) (map seen_of (rows_at all (other_places own back))) in
+    ∙ append_assoc (map seen_of (rows_at all (other_places own front))) (renewal.subscriber_of (id, r) ∷ []) (map seen_of (rows_at all (other_places own back))) in
     subst IdsAreApart (sym given) (apart_around all table.distinct table.named id own own_is there places front back c.self.invariant.member_order r split)
 
 pub returns : goal.returns
@@ -89,14 +89,14 @@ returns c =
     let split : IsSplitAt (keys_in all) places (r.instance, id) front back =
     subst (λ k. IsSplitAt (keys_in all) places k front back) (λ i. (c.instance.ensures i, c.as_str-2.ensures.value i)) c.around.ensures in
     let listed_so = around_listed all table.distinct table.named id own own_is there places front back c.self.invariant.member_order r split in
-    let pushed : subscribers_in c.push.new.self.items ≡ map seen_of (rows_at all (other_places own front)) ++ seen_as id r ∷ [] =
+    let pushed : subscribers_in c.push.new.self.items ≡ map seen_of (rows_at all (other_places own front)) ++ renewal.subscriber_of (id, r) ∷ [] =
     ap subscribers_in c.in_ok-push.ensures.items
     ∙ map-append subscriber_of c.add_others.new.subscribers.items (c.as_subscriber.result ∷ [])
     ∙ (λ i. (c.in_ok-add_others.ensures ∙ ap (λ l. subscribers_in l ++ map seen_of (rows_at all (other_places own front))) c.in_ok-members.ensures.items) i ++ c.as_subscriber.ensures i ∷ []) in
     let given : subscribers_in c.add_others-2.new.subscribers.items ≡ listed_so =
     c.in_ok-add_others-2.ensures
     ∙ ap (λ l. l ++ map seen_of (rows_at all (other_places own back))) pushed
-    ∙ append_assoc (map seen_of (rows_at all (other_places own front))) (seen_as id r ∷ []) (map seen_of (rows_at all (other_places own back))) in
+    ∙ append_assoc (map seen_of (rows_at all (other_places own front))) (renewal.subscriber_of (id, r) ∷ []) (map seen_of (rows_at all (other_places own back))) in
     let listed_all = all_in_member_order all places table.distinct c.self.invariant.member_order in
     let apart = ordered_distinct all places listed_all table.distinct in
     let named = ordered_named all places listed_all table.distinct table.named in
@@ -106,6 +106,6 @@ returns c =
     (record {
       same =
           members_move (rows_at all places) id r c.in_order.result apart named
-          (subst (IsPermutation (seen_as id r ∷ listed all id places)) (sym subs) (listed_around all table.distinct table.named id own own_is there places front back c.self.invariant.member_order r split));
+          (subst (IsPermutation (renewal.subscriber_of (id, r) ∷ listed all id places)) (sym subs) (listed_around all table.distinct table.named id own own_is there places front back c.self.invariant.member_order r split));
       sorted = subst (IsSorted member_cmp) (sym subs) (sorted_around all table.distinct table.named id own own_is there places front back c.self.invariant.member_order r split);
     }))

@@ -1,5 +1,5 @@
 use Rattle.std.proofs.Common.{sym, subst, ◌∙◌}
-use Rattle.topic_meta.specs.Facts.{AreImageTopics}
+use Rattle.group_types.specs.Images.{AreImageTopics}
 use Rattle.topic_meta.proofs.Shown.{topics_in-clone}
 use Rattle.topic_meta.proofs.image.Image.copy.Goals as goal
 

@@ -3,7 +3,7 @@ use Rattle.std.specs.FinMap.{get}
 use Rattle.std.specs.Int.{w32}
 use Rattle.std.specs.Option.{option_map}
 use Rattle.std.proofs.lemmas.Int.{ints, to_z_pos}
-use Rattle.topic_meta.specs.Facts.{AreImageTopics}
+use Rattle.group_types.specs.Images.{AreImageTopics}
 use Rattle.topic_meta.specs.Stored.{shown_topic}
 use Rattle.topic_meta.proofs.Found.{got}
 use Rattle.topic_meta.proofs.image.Image.find.Goals as goal

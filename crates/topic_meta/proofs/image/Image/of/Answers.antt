@@ -12,7 +12,7 @@ loop-entry-init c = reading-start _ _ _ c.into_iter-entry-iterator.ensures.into_
 pub loop-entry-preserved : goal.loop-entry-preserved
 loop-entry-preserved c =
     let taken = c.in_ok-add.ensures.taken (entries_of c.loop-entry.yielded) c.loop-entry.invariant.drafted in
-    reading-more _ _ _ _ c.loop-entry.draft _ c.in-Some.ensures.steps.0 c.loop-entry.invariant _ taken.0 taken.1
+    reading-more _ _ _ _ c.loop-entry.draft _ c.in-Some.ensures.steps.0 c.loop-entry.invariant _ taken.0 c.in_ok-add.ensures.sixteen taken.1
 
 pub returns-in_err-add-clause-refused : goal.returns-in_err-add-clause-refused
 returns-in_err-add-clause-refused c =

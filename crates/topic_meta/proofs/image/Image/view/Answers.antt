@@ -3,10 +3,12 @@ use Rattle.std.specs.BTreeMap.{get_by_text}
 use Rattle.std.specs.FinMap.{get}
 use Rattle.std.specs.Option.{option_map}
 use Rattle.std.proofs.lemmas.List.{map-append}
-use Rattle.topic_meta.specs.Facts.{AreImageTopics}
+use Rattle.group_types.specs.Sets.{has}
+use Rattle.group_types.specs.Images.{AreImageTopics}
+use Rattle.group_types.proofs.Images.{retained-AreImageTopics}
 use Rattle.topic_meta.specs.Stored.{shown_topic}
 use Rattle.topic_meta.specs.Views.{named, all_named, shown, IsView}
-use Rattle.topic_meta.proofs.Found.{found, found-more, found-skip, got, shown-found, found-IsView, found-end, view_of-AreImageTopics}
+use Rattle.topic_meta.proofs.Found.{found, found-more, found-skip, got, shown-found, found-IsView, found-end}
 use Rattle.topic_meta.proofs.image.Image.view.Goals as goal
 
 pub loop-name-init : goal.loop-name-init
@@ -52,5 +54,5 @@ returns c =
     let value = c.in_order.ensures ∙ ap shown ended ∙ shown-found c.args.self.now c.args.names.now in
     record {
       value = value;
-      sound = subst AreImageTopics (sym value) (view_of-AreImageTopics c.args.self.now c.args.names.now (subst AreImageTopics c.self.view_is c.self.invariant));
+      sound = subst AreImageTopics (sym value) (retained-AreImageTopics c.args.self.now (has c.args.names.now) (subst AreImageTopics c.self.view_is c.self.invariant));
     }
