@@ -1,36 +1,40 @@
 -- A member's calls have an outcome: a request that it may make is spelled, and of a reply it is known whether it is its own.
-use Rattle.std.proofs.Common.{◌≡◌, ◌⊎◌, ℕ, zero, suc, ◌≤◌, ◌<◌, ◌+◌, ℤ, pos, negsuc, Bool, true, false, cond, not, ◌||◌, ◌&&◌, List, [], ◌∷◌, length, Result, Ok, Err, Option, option_map, Some, None, unwrap_or, All, IfSome, inl, inr, refl, sym, ap, subst, ◌∙◌, arith}
+use Rattle.std.proofs.Common.{◌≡◌, ◌⊎◌, ℕ, suc, ◌<◌, ℤ, pos, Bool, true, false, cond, not, ◌||◌, ◌&&◌, List, [], ◌∷◌, length, Ok, Err, Option, option_map, Some, None, unwrap_or, inl, inr, refl, sym, ap, subst, ◌∙◌, arith}
 use Rattle.std.specs.Prelude.{FitsSigned, nat_lt}
-use Rattle.std.specs.Cmp.{eq_by_cmp_equiv}
+use Rattle.std.specs.Cmp.{eq_by_cmp_equiv, first_so, second_so}
 use Rattle.std.specs.Int.{w32}
 use Rattle.std.specs.List.{AllByRecursion, list_any}
 use Rattle.std.specs.Ordering.{eq_by_cmp, int_eq}
+use Rattle.std.specs.Str.{bytes_eq}
 use Rattle.std.proofs.lemmas.Bool.{ltb-true}
 use Rattle.std.proofs.lemmas.Bool.Decides.{Decides-int_eq}
 use Rattle.std.proofs.lemmas.List.Elements.{All-from_recursion}
-use Rattle.std.proofs.lemmas.Option.{same_Some}
-use Rattle.flex_wire.specs.Composed.{FitsNullableArray}
+use Rattle.std.proofs.lemmas.List.Sums.{AllPass-from_list_all}
+use Rattle.flex_wire.specs.Composed.{FitsArray, FitsNullableArray}
 use Rattle.flex_wire.specs.Laws.{AreBytes}
-use Rattle.flex_wire.specs.Spelling.{FitsCount, FitsNullableText, FitsTaggedFields, FitsText, FitsUuid}
+use Rattle.flex_wire.specs.Spelling.{FitsNullableText, FitsTaggedFields, FitsText, FitsUuid}
 use Rattle.kip_msgs.specs.declared.api.Api.TheVariants.{Heartbeat as HeartbeatApi}
 use Rattle.kip_msgs.specs.Values.{HeartbeatReplyValue, ReplyValue, ResponseHeaderValue, TopicPartitionsValue, commit_reply, heartbeat_reply, reply_api}
 use Rattle.kip_msgs.specs.Spelling.{FitsHeartbeatRequest, FitsRequestHeader, FitsTopicPartitions, SpellsReply, request_body}
 use Rattle.kip_msgs.specs.Laws.{OneReplyABody}
+use Rattle.kip_msgs.specs.Listing.{alone, before}
 use Rattle.kip_msgs.specs.Reading.{reply_at}
 use Rattle.kip_msgs.proofs.ReplyLaws.{read_spells, spells_read}
 use Rattle.group_types.specs.declared.partition.Partition.{Partition}
-use Rattle.group_types.specs.Text.{Text, text_cmp}
-use Rattle.group_types.specs.Sets.{in_order, has}
-use Rattle.group_types.specs.Partition.{partition_cmp, Partitions}
-use Rattle.group_types.specs.Request.{Heartbeat, GOES_AWAY_AT, LEAVES_AT, SAME_TIMEOUT}
+use Rattle.group_types.specs.Text.{Text}
+use Rattle.group_types.specs.Sets.{in_order}
+use Rattle.group_types.specs.Partition.{partition_cmp}
+use Rattle.group_types.specs.Request.{Heartbeat, GOES_AWAY_AT, LEAVES_AT}
 use Rattle.group_types.proofs.Orders.{partition_cmp_total}
 use Rattle.group_types.proofs.SetLemmas.{has-in_order}
-use Rattle.member_core.specs.Asking.{Ask, Beat, Full, Fullness, GoAway, Join, Leave, Owned, Short, after_asking, beat_of, fullness_of, full_heartbeat, header_of, heartbeat_for, heartbeat_value, may_ask, may_ask_at, request_for, short_heartbeat}
+use Rattle.member_core.specs.Asking.{Ask, Beat, Full, Fullness, GoAway, Join, Leave, Owned, Short, after_asking, beat_of, fullness_of, full_heartbeat, header_of, heartbeat_for, heartbeat_value, may_ask_at, request_for, short_heartbeat}
 use Rattle.member_core.specs.Client.{Client}
 use Rattle.member_core.specs.Existence.{AsksAreMade, CanSay, RepliesHaveAnOutcome}
 use Rattle.member_core.specs.Limits.{GREATEST_NUMBER}
-use Rattle.member_core.specs.Listing.{listed, listed_before}
+use Rattle.member_core.specs.Listing.{listed}
 use Rattle.member_core.specs.Taking.{News, Takes, TakesIf, Tells, after_news, news_of}
+use Rattle.member_core.specs.Writing.{are_few_names, are_few_owned, is_few}
+use Rattle.member_core.proofs.Sizes.{few_within, fits_few}
 
 -- ---- what is listed has a spelling
 
@@ -40,50 +44,32 @@ no_tags = record { count = omega arith; each = λ k d h. absurd (omega arith); r
 abbrev IsWritten : Partition → Type 0
 IsWritten p = FitsUuid p.topic × FitsSigned w32 p.index
 
--- an entry that has a spelling, with at most so many indexes
-record IsEntry (most : ℕ) (t : TopicPartitionsValue) : Type 0 where
+-- an entry that has a spelling but for the number of its indexes
+record IsEntry (t : TopicPartitionsValue) : Type 0 where
   pub topic_id : FitsUuid t.topic_id
   pub partitions : AllByRecursion (FitsSigned w32) t.partitions
-  pub few : length t.partitions ≤ most
   pub tags : t.tags ≡ []
 
-wider : (most more : ℕ) → most ≤ more → (ts : List TopicPartitionsValue) → AllByRecursion (IsEntry most) ts → AllByRecursion (IsEntry more) ts
-wider most more low [] each = tt
-wider most more low (t ∷ ts) each =
-    (record { topic_id = each.0.topic_id; partitions = each.0.partitions; few = let few = each.0.few in omega arith; tags = each.0.tags }, wider most more low ts each.1)
-
-entry_before : (most : ℕ) (p : Partition) (ts : List TopicPartitionsValue) → IsWritten p → AllByRecursion (IsEntry most) ts → AllByRecursion (IsEntry (suc most)) (listed_before p ts)
-entry_before most p [] is each = (record { topic_id = is.0; partitions = (is.1, tt); few = omega arith; tags = refl }, tt)
-entry_before most p (t ∷ ts) is each =
-    let rest = wider most (suc most) (omega arith) (t ∷ ts) each in
-    elim (eq_by_cmp text_cmp p.topic t.topic_id) as (λ b. AllByRecursion (IsEntry (suc most)) (cond b (record t { partitions = p.index ∷ t.partitions } ∷ ts) (record { topic_id = p.topic; partitions = p.index ∷ []; tags = [] } ∷ t ∷ ts))) [
-      | true ↦ (record { topic_id = each.0.topic_id; partitions = (is.1, each.0.partitions); few = let few = each.0.few in omega arith; tags = each.0.tags }, rest.1)
-      | false ↦ (record { topic_id = is.0; partitions = (is.1, tt); few = omega arith; tags = refl }, rest)
+entry_before : (p : Partition) (ts : List TopicPartitionsValue) → IsWritten p → AllByRecursion IsEntry ts → AllByRecursion IsEntry (before p.topic p.index ts)
+entry_before p [] is each = (record { topic_id = is.0; partitions = (is.1, tt); tags = refl }, tt)
+entry_before p (t ∷ ts) is each =
+    elim (bytes_eq p.topic t.topic_id) as (λ b. AllByRecursion IsEntry (cond b (record t { partitions = p.index ∷ t.partitions } ∷ ts) (alone p.topic p.index ∷ t ∷ ts))) [
+      | true ↦ (record { topic_id = each.0.topic_id; partitions = (is.1, each.0.partitions); tags = each.0.tags }, each.1)
+      | false ↦ (record { topic_id = is.0; partitions = (is.1, tt); tags = refl }, each)
     ]
 
-few_before : (p : Partition) (ts : List TopicPartitionsValue) → length (listed_before p ts) ≤ suc (length ts)
-few_before p [] = omega arith
-few_before p (t ∷ ts) =
-    elim (eq_by_cmp text_cmp p.topic t.topic_id) as (λ b. length (cond b (record t { partitions = p.index ∷ t.partitions } ∷ ts) (record { topic_id = p.topic; partitions = p.index ∷ []; tags = [] } ∷ t ∷ ts)) ≤ suc (length (t ∷ ts))) [
-      | true ↦ omega arith
-      | false ↦ omega arith
-    ]
-
-few_listed : (ps : List Partition) → length (listed ps) ≤ length ps
-few_listed [] = omega arith
-few_listed (p ∷ ps) = omega (arith, few_before p (listed ps), few_listed ps)
-
-entries_listed : (ps : List Partition) → AllByRecursion IsWritten ps → AllByRecursion (IsEntry (length ps)) (listed ps)
+entries_listed : (ps : List Partition) → AllByRecursion IsWritten ps → AllByRecursion IsEntry (listed ps)
 entries_listed [] each = tt
-entries_listed (p ∷ ps) each = entry_before (length ps) p (listed ps) each.0 (entries_listed ps each.1)
+entries_listed (p ∷ ps) each = entry_before p (listed ps) each.0 (entries_listed ps each.1)
 
-listed_fits : (ps : List Partition) → FitsCount (length ps) → AllByRecursion IsWritten ps → FitsCount (length (listed ps)) × All FitsTopicPartitions (listed ps)
+listed_fits : (ps : List Partition) → are_few_owned (Some (listed ps)) ≡ true → AllByRecursion IsWritten ps → FitsArray FitsTopicPartitions (listed ps)
 listed_fits ps few each =
-    let entries = All-from_recursion (IsEntry (length ps)) (listed ps) (entries_listed ps each) in (
-      omega (arith, few_listed ps),
+    let entries = All-from_recursion IsEntry (listed ps) (entries_listed ps each) in
+    let indexes = AllPass-from_list_all (λ t. is_few (length t.partitions)) (listed ps) (second_so _ _ few) in (
+      fits_few (length (listed ps)) (first_so _ _ few),
       λ k d low. record {
         topic_id = (entries k d low).topic_id;
-        partitions = (let most = (entries k d low).few in omega arith, All-from_recursion (FitsSigned w32) _ (entries k d low).partitions);
+        partitions = (fits_few _ (indexes k d low), All-from_recursion (FitsSigned w32) _ (entries k d low).partitions);
         tags = subst FitsTaggedFields (sym (entries k d low).tags) no_tags;
       },
     )
@@ -113,8 +99,12 @@ module _ (c : Client) (can : CanSay c) where
   abbrev Fits : Heartbeat → Type 0
   Fits q = FitsHeartbeatRequest (heartbeat_value q)
 
-  own_fits : FitsCount (length (listed (in_order c.own))) × All FitsTopicPartitions (listed (in_order c.own))
-  own_fits = listed_fits (in_order c.own) can.few (each_of_list IsWritten (in_order c.own) (λ p there. can.own p (has-in_order c.own p ∙ there)))
+  -- no array has more elements than a body may have bytes
+  abbrev AreFew : Heartbeat → Type 0
+  AreFew q = (are_few_names q.names && are_few_owned (option_map listed q.owned)) ≡ true
+
+  own_written : AllByRecursion IsWritten (in_order c.own)
+  own_written = each_of_list IsWritten (in_order c.own) (λ p there. can.own p (has-in_order c.own p ∙ there))
 
   -- a heartbeat that says no more than an instance and what is owned
   brief_fits : (epoch : ℤ) → FitsSigned w32 epoch → (instance : Option Text) → FitsNullableText instance → (owned : Option (List Partition))
@@ -132,30 +122,30 @@ module _ (c : Client) (can : CanSay c) where
     tags = no_tags;
   }
 
-  full_fits : (epoch : ℤ) (owned : List Partition) → FitsSigned w32 epoch → FitsCount (length (listed owned)) × All FitsTopicPartitions (listed owned) → Fits (full_heartbeat c epoch owned)
-  full_fits epoch owned fits listing = record {
+  full_fits : (epoch : ℤ) (owned : List Partition) → FitsSigned w32 epoch → AllByRecursion IsWritten owned → AreFew (full_heartbeat c epoch owned) → Fits (full_heartbeat c epoch owned)
+  full_fits epoch owned fits each few = record {
     group_id = can.settings.group;
     member_id = id_fits c.id can.id;
     member_epoch = fits;
     instance_id = can.settings.instance;
     rack_id = can.settings.rack;
     rebalance_timeout_ms = can.settings.rebalance_timeout;
-    subscribed_topic_names = (can.names, can.settings.names);
+    subscribed_topic_names = (fits_few (length c.settings.names) (first_so _ _ few), can.settings.names);
     server_assignor = can.settings.assignor;
-    topic_partitions = listing;
+    topic_partitions = listed_fits owned (second_so (is_few (length c.settings.names)) _ few) each;
     tags = no_tags;
   }
 
-  beat_fits : (fullness : Fullness) → Fits (beat_of c fullness)
-  beat_fits Short = brief_fits (pos c.epoch) can.epoch None tt None tt
-  beat_fits Owned = brief_fits (pos c.epoch) can.epoch None tt (Some (in_order c.own)) own_fits
-  beat_fits Full = full_fits (pos c.epoch) (in_order c.own) can.epoch own_fits
+  beat_fits : (fullness : Fullness) → AreFew (beat_of c fullness) → Fits (beat_of c fullness)
+  beat_fits Short few = brief_fits (pos c.epoch) can.epoch None tt None tt
+  beat_fits Owned few = brief_fits (pos c.epoch) can.epoch None tt (Some (in_order c.own)) (listed_fits (in_order c.own) few own_written)
+  beat_fits Full few = full_fits (pos c.epoch) (in_order c.own) can.epoch own_written few
 
-  asked_fits : (ask : Ask) → Fits (heartbeat_for c ask)
-  asked_fits Join = full_fits (pos 0) [] (record { sfits = omega arith }) (listed_fits [] (omega arith) tt)
-  asked_fits (Beat fullness) = beat_fits (fullness_of c fullness)
-  asked_fits Leave = brief_fits LEAVES_AT (record { sfits = omega arith }) None tt None tt
-  asked_fits GoAway = brief_fits GOES_AWAY_AT (record { sfits = omega arith }) c.settings.instance can.settings.instance None tt
+  asked_fits : (ask : Ask) → AreFew (heartbeat_for c ask) → Fits (heartbeat_for c ask)
+  asked_fits Join few = full_fits (pos 0) [] (record { sfits = omega arith }) tt few
+  asked_fits (Beat fullness) few = beat_fits (fullness_of c fullness) few
+  asked_fits Leave few = brief_fits LEAVES_AT (record { sfits = omega arith }) None tt None tt
+  asked_fits GoAway few = brief_fits GOES_AWAY_AT (record { sfits = omega arith }) c.settings.instance can.settings.instance None tt
 
   header_fits : c.number < GREATEST_NUMBER → FitsRequestHeader (header_of (suc c.number))
   header_fits low = record { correlation_id = record { sfits = omega arith }; client_id = tt; tags = no_tags }
@@ -170,13 +160,13 @@ number_left false number rest is = ltb-true number GREATEST_NUMBER (first (nat_l
     first false b is = is
 
 pub asks_are_made : AsksAreMade
-asks_are_made c ask can may =
+asks_are_made c ask can may small =
     let low = number_left c.waits c.number (may_ask_at c.place ask c.settings.instance) may in (
       request_body (request_for c ask),
       after_asking c ask,
       record {
         may = may;
-        spells = record { fits = (header_fits c can low, asked_fits c can ask); bytes = refl };
+        spells = record { fits = (header_fits c can low, asked_fits c can ask (few_within (request_for c ask) small)); bytes = refl };
         after = refl;
       },
     )

@@ -1,6 +1,4 @@
 pub mod Outcomes
-pub mod GrowthLemmas
-pub mod ListingLemmas
 pub mod Beside
 pub mod Reports
 pub mod ShortRequests

@@ -18,7 +18,7 @@ use Rattle.member_core.specs.declared.fault.BeatFault.TheVariants.{TooLarge}
 
 -- ---- few enough
 
-fits_few : (n : ℕ) → is_few n ≡ true → FitsCount n
+pub fits_few : (n : ℕ) → is_few n ≡ true → FitsCount n
 fits_few n so = omega (arith, leb-true n LARGEST_BODY so)
 
 names_written : (names : Option (List (List ℕ))) → IfSome names (All IsShort) → are_few_names names ≡ true → IfSome names (IsWritableArray IsShort)
@@ -209,3 +209,10 @@ refused v more = let large : is_too_large v ≡ true = grind (arith, nat_tests) 
 
 pub many_refused : (v : RequestValue) → are_few v ≡ false → size_refusal v ≡ Some TooLarge
 many_refused v some = refused v (over v some)
+
+-- so one that isn't too large has few elements in each array
+pub few_within : (v : RequestValue) → is_too_large v ≡ false → are_few v ≡ true
+few_within v small = elim (are_few v) as (λ b. are_few v ≡ b → b ≡ true) [
+  | true ↦ λ _. refl
+  | false ↦ λ some. let more = over v some in grind (arith, nat_tests)
+] refl

@@ -15,7 +15,6 @@ pub mod Framing
 pub mod Writing
 pub mod Refusing
 pub mod Commits
-pub mod Growth
 pub mod Outcomes
 pub mod Next
 pub mod Standing

@@ -1,5 +1,5 @@
 -- Why a member doesn't make a request, and what it does where it does.
-use Rattle.std.specs.Prelude.{◌≡◌, ◌≤◌, ◌⊎◌, ℕ, Bool, true, false, nat_lt, if◌then◌else◌, List, [], length, Option, Some, None}
+use Rattle.std.specs.Prelude.{◌≡◌, ◌≤◌, ◌⊎◌, ℕ, Bool, true, false, nat_lt, if◌then◌else◌, List, [], length, Option, Some, None, IfSome}
 use Rattle.kip_msgs.specs.Values.{RequestValue}
 use Rattle.kip_msgs.specs.Spelling.{request_body}
 use Rattle.group_types.specs.Text.{Text}
@@ -52,9 +52,16 @@ early_refusal c ask = first_refusal (instance_refusal (wants_instance ask) c.set
 abbrev pub refusal_of : Client → Ask → Option BeatFault
 refusal_of c ask = first_refusal (early_refusal c ask) (size_refusal (request_for c ask))
 
--- a fault is what is in the way, or want of memory
+-- whether a fault is seen before any memory is taken
+abbrev pub is_seen_first : BeatFault → Bool
+is_seen_first NoInstance = true
+is_seen_first TooLarge = false
+is_seen_first Spent = true
+is_seen_first NoMemory = false
+
+-- A fault is what is in the way; or it is want of memory, and then nothing is in the way that is seen before any memory is taken.
 abbrev pub IsFault : Option BeatFault → BeatFault → Type 0
-IsFault refusal fault = (refusal ≡ Some fault) ⊎ (fault ≡ NoMemory)
+IsFault refusal fault = (refusal ≡ Some fault) ⊎ ((fault ≡ NoMemory) × IfSome refusal (λ other. is_seen_first other ≡ false))
 
 -- The member makes the request, whose frame this is; nothing was in the way.
 pub record Sends (c : Client) (ask : Ask) (frame : List ℕ) (new : Client) : Type 0 where

@@ -1,10 +1,10 @@
 //! The frame of a request.
-ghost use Rattle.std.specs.Prelude.{◌≡◌, ◌≤◌, length, IfOk, IfErr};
+ghost use Rattle.std.specs.Prelude.{◌≡◌, ◌≤◌, false, length, IfOk, IfErr};
 ghost use Rattle.kip_msgs.specs.Views.{request_value};
 ghost use Rattle.group_types.specs.Limits.{LARGEST_BODY as MOST};
 ghost use Rattle.member_core.specs.Framing.{IsFrame, IsRequestFrame};
 ghost use Rattle.member_core.specs.Refusing.{size_refusal, IsFault};
-ghost use Rattle.member_core.specs.Writing.{HasShortRequest};
+ghost use Rattle.member_core.specs.Writing.{HasShortRequest, are_few as few};
 
 use crate::counts::are_few;
 use crate::fault::BeatFault;
@@ -14,11 +14,13 @@ use kip_msgs::{Request, put_request};
 use std::alloc::{AllocError, Global};
 
 /// The frame of a request: an INT32 size, and the body of that many bytes (Kafka protocol guide, "Protocol"). Refused
-/// where the body has more bytes than a frame may have, or where memory is short.
+/// where the body has more bytes than a frame may have, which takes no memory to see where an array has more elements than that;
+/// or where memory is short.
 pub(crate) fn frame_of(alloc: Global, request: &Request<'_>) -> Result<Vec<u8>, BeatFault>
     requires { HasShortRequest (request_value request.now) }
     ensures frame { IfOk result (λ frame. IsRequestFrame (request_value request.now) frame.items) }
     ensures fault { IfErr result (λ fault. IsFault (size_refusal (request_value request.now)) fault) }
+    ensures many { few (request_value request.now) ≡ false → result ≡ Err BeatFault.TooLarge }
 {
     if !are_few(request) {
         return Err(BeatFault::TooLarge);

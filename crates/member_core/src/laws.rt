@@ -31,7 +31,8 @@ pub fn members_own_only_inside()
     ensures { MembersOwnOnlyInside }
 {}
 
-/// What a member may ask for it asks: there is the request, where what the member knows has a spelling.
+/// What a member may ask for it asks, where the request isn't too large: there is the request, where each text, number and
+/// partition that the member knows has a spelling.
 pub fn asks_are_made()
     ensures { AsksAreMade }
 {}

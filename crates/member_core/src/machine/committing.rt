@@ -1,10 +1,10 @@
 //! What a member commits.
-ghost use Rattle.std.specs.Prelude.{◌≡◌, map, All, IfOk, IfErr};
+ghost use Rattle.std.specs.Prelude.{◌≡◌, false, map, All, IfOk, IfErr};
 ghost use Rattle.kip_msgs.specs.Views.{commit_request_topic_value};
 ghost use Rattle.member_core.specs.Commits.{commit_under};
 ghost use Rattle.member_core.specs.Framing.{IsRequestFrame};
 ghost use Rattle.member_core.specs.Refusing.{size_refusal, IsFault};
-ghost use Rattle.member_core.specs.Writing.{HasShortTopic};
+ghost use Rattle.member_core.specs.Writing.{HasShortTopic, are_few};
 
 use super::Machine;
 use crate::fault::BeatFault;
@@ -24,6 +24,8 @@ impl Machine {
             IsRequestFrame (commit_under self.now correlation (map commit_request_topic_value topics.entry)) frame.items) }
         ensures fault { IfErr result (λ fault.
             IsFault (size_refusal (commit_under self.now correlation (map commit_request_topic_value topics.entry))) fault) }
+        ensures many { are_few (commit_under self.now correlation (map commit_request_topic_value topics.entry)) ≡ false
+            → result ≡ Err BeatFault.TooLarge }
     {
         let header = RequestHeader {
             correlation_id: correlation,

@@ -26,8 +26,8 @@ impl Member<Outside> {
     /// Asks to join, and gives the request's frame, size and body. A join says all of the settings, reports that the
     /// member owns nothing, and names the id that the member has, if any (KIP-848).
     ///
-    /// Where it is refused the member comes back as it was. Faults, judged in this order: `Spent`, `TooLarge`; or
-    /// `NoMemory`.
+    /// Where it is refused the member comes back as it was. Faults, judged in this order: `Spent`, which takes no memory to
+    /// see; then `TooLarge` or `NoMemory`.
     pub fn join(self) -> Result<(Member<Sent<Outside>>, Vec<u8>), (Member<Outside>, BeatFault)>
         ensures sends { IfOk result (λ x. Sends self Join x.1.items x.0) }
         ensures unchanged { IfErr result (λ x. x.0 ≡ self) }
@@ -45,8 +45,8 @@ impl<S: Present> Member<S> {
     /// Asks with a heartbeat of this kind, or a full one after a request that was given up, and gives the request's
     /// frame, size and body (KIP-848, "ConsumerGroupHeartbeat API").
     ///
-    /// Where it is refused the member comes back as it was. Faults, judged in this order: `Spent`, `TooLarge`; or
-    /// `NoMemory`.
+    /// Where it is refused the member comes back as it was. Faults, judged in this order: `Spent`, which takes no memory to
+    /// see; then `TooLarge` or `NoMemory`.
     pub fn beat(self, kind: Kind) -> Result<(Member<Sent<S>>, Vec<u8>), (Member<S>, BeatFault)>
         ensures sends { IfOk result (λ x. Sends self (Beat (fullness kind)) x.1.items x.0) }
         ensures unchanged { IfErr result (λ x. x.0 ≡ self) }
@@ -62,8 +62,8 @@ impl<S: Present> Member<S> {
     /// Leaves the group for good or for a while, and gives the request's frame, size and body (KIP-848). The member
     /// doesn't wait for the reply: it is gone, and owns nothing.
     ///
-    /// Where it is refused the member comes back as it was. Faults, judged in this order: `NoInstance`, `Spent`,
-    /// `TooLarge`; or `NoMemory`.
+    /// Where it is refused the member comes back as it was. Faults, judged in this order: `NoInstance`, `Spent`, which take
+    /// no memory to see; then `TooLarge` or `NoMemory`.
     pub fn quit(self, quit: Quit) -> Result<(Member<Gone>, Vec<u8>), (Member<S>, BeatFault)>
         ensures sends { IfOk result (λ x. Sends self (quit_ask quit) x.1.items x.0) }
         ensures unchanged { IfErr result (λ x. x.0 ≡ self) }
