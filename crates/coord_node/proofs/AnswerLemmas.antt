@@ -85,30 +85,30 @@ module _ (c : Coordinator) (h : Arrival) (absent : finite.get c.groups h.heartbe
 module _ (c : Coordinator) (h : Arrival) (absent : finite.get c.groups h.heartbeat.group ≡ None) where
   -- a new group, once it is kept or not
   pub at_admission : (opened : Group) (k : Kept) (given answer : group.Answer) (old entries : Entries) → opened ≡ new_group c.salt
-      → group.HeartbeatStep opened h given k.group → groups_of old ≡ c.groups
+      → group.HeartbeatStep opened h given k.group.state → groups_of old ≡ c.groups
       → IsAdmitted old h.heartbeat.group k given answer entries → HeartbeatAt (finite.get c.groups h.heartbeat.group) c h answer (record c { groups = groups_of entries })
   at_admission opened k given answer old entries is step same (fails no_success unchanged answers) =
       let new : groups_of entries ≡ c.groups = ap groups_of unchanged ∙ same in
       subst (λ (m : Groups). HeartbeatAt (finite.get c.groups h.heartbeat.group) c h answer (record c { groups = m })) (sym new)
       (subst (λ (a : group.Answer). HeartbeatAt (finite.get c.groups h.heartbeat.group) c h a c) (sym answers)
-      (at_absent c h absent k.group opened given given c is step (makes_nothing c h.heartbeat.group k.group given no_success)))
+      (at_absent c h absent k.group.state opened given given c is step (makes_nothing c h.heartbeat.group k.group.state given no_success)))
   at_admission opened k given answer old entries is step same (kept success room more answers) =
       let none : finite.get (groups_of old) h.heartbeat.group ≡ None = ap (λ (m : Groups). finite.get m h.heartbeat.group) same ∙ absent in
-      let new : groups_of entries ≡ finite.insert c.groups h.heartbeat.group k.group =
-      ap groups_of more.entries ∙ as_map-push (λ (x : Kept). x.group) old more.key k h.heartbeat.group more.named none
-      ∙ ap (λ (m : Groups). finite.insert m h.heartbeat.group k.group) same in
+      let new : groups_of entries ≡ finite.insert c.groups h.heartbeat.group k.group.state =
+      ap groups_of more.entries ∙ as_map-push (λ (x : Kept). x.group.state) old more.key k h.heartbeat.group more.named none
+      ∙ ap (λ (m : Groups). finite.insert m h.heartbeat.group k.group.state) same in
       let less : finite.len c.groups < MOST_GROUPS = subst (λ (m : Groups). finite.len m < MOST_GROUPS) same room in
       subst (λ (a : group.Answer). HeartbeatAt (finite.get c.groups h.heartbeat.group) c h a (record c { groups = groups_of entries })) (sym answers)
-      (at_absent c h absent k.group opened given given (record c { groups = groups_of entries }) is step
-      (makes_one_more c h.heartbeat.group k.group given (record c { groups = groups_of entries }) success less
+      (at_absent c h absent k.group.state opened given given (record c { groups = groups_of entries }) is step
+      (makes_one_more c h.heartbeat.group k.group.state given (record c { groups = groups_of entries }) success less
       (ap (λ (m : Groups). let n : Coordinator = record c { groups = m } in n) new)))
   at_admission opened k given answer old entries is step same (full success most unchanged answers) =
       let new : groups_of entries ≡ c.groups = ap groups_of unchanged ∙ same in
       let more : MOST_GROUPS ≤ finite.len c.groups = subst (λ (m : Groups). MOST_GROUPS ≤ finite.len m) same most in
       subst (λ (m : Groups). HeartbeatAt (finite.get c.groups h.heartbeat.group) c h answer (record c { groups = m })) (sym new)
       (subst (λ (a : group.Answer). HeartbeatAt (finite.get c.groups h.heartbeat.group) c h a c) (sym answers)
-      (at_absent c h absent k.group opened given (group.Replied (group.refusal CoordinatorNotAvailable)) c is step
-      (makes_no_more c h.heartbeat.group k.group given (group.refusal CoordinatorNotAvailable) success more refl)))
+      (at_absent c h absent k.group.state opened given (group.Replied (group.refusal CoordinatorNotAvailable)) c is step
+      (makes_no_more c h.heartbeat.group k.group.state given (group.refusal CoordinatorNotAvailable) success more refl)))
 
 -- ---- a request, and a frame
 

@@ -6,6 +6,7 @@ use Rattle.std.specs.Int.{w16, w32}
 use Rattle.std.specs.List.{AllByRecursion, list_any}
 use Rattle.std.specs.Ordering.{eq_by_cmp}
 use Rattle.std.specs.Cmp.{eq_by_cmp_equiv}
+use Rattle.std.specs.Str.{bytes_eq}
 use Rattle.std.proofs.lemmas.Bool.{cases_lt}
 use Rattle.std.proofs.lemmas.List.Elements.{All-from_recursion, All-map, All-weaker, recursion_from_All}
 use Rattle.flex_wire.specs.Laws.{AreBytes}
@@ -21,7 +22,8 @@ use Rattle.group_types.specs.declared.partition.Partition.{Partition}
 use Rattle.group_types.specs.declared.stamp.Stamp.{Stamp}
 use Rattle.group_types.specs.Code.{code_number, code_text}
 use Rattle.group_types.specs.Limits.{LARGEST_BODY, LONGEST_STRING, MOST_PARTITIONS, SMALLEST_BODY}
-use Rattle.group_types.specs.Text.{Text, text_cmp}
+use Rattle.group_types.specs.Text.{Text}
+use Rattle.group_types.specs.Images.{AreImageTopics}
 use Rattle.group_types.specs.Sets.{has, in_order, size}
 use Rattle.group_types.specs.Partition.{partition_cmp, Partitions}
 use Rattle.group_types.specs.Group.{Group, new_group}
@@ -30,26 +32,28 @@ use Rattle.group_types.specs.Commit.{Commit, Commitment, CommitReply, TopicCommi
 use Rattle.group_types.specs.HeartbeatStep.{Arrival}
 use Rattle.group_types.specs.HeartbeatStep as group
 use Rattle.group_types.specs.Laws.{EveryGroupIsSound}
+use Rattle.group_types.proofs.Consistent.{consistent}
 use Rattle.group_types.proofs.Orders.{partition_cmp_total}
 use Rattle.group_types.proofs.SetLemmas.{has-in_order}
 use Rattle.group_epochs.specs.Request.{arrival_of, commit_of, commitment_of}
 use Rattle.offset_guard.specs.Replies.{commit_reply_value, reply_partition_value, reply_topic_value}
 use Rattle.offset_guard.specs.Requests.{topic_of}
 use Rattle.group_core.specs.Existence.{HasAnAnswer}
-use Rattle.group_core.specs.Listing.{alone, before, listed}
+use Rattle.kip_msgs.specs.Listing.{alone, before}
+use Rattle.group_core.specs.Listing.{listed}
 use Rattle.group_core.specs.Outcome.{reply_room}
 use Rattle.coord_node.specs.Answers.{CommitsIn, HasShortId, IsSendable}
 use Rattle.coord_node.specs.Coordinator.{Coordinator, Event, Frame, Tick, Image, Answer, Replied, Closes, Done, opening}
 use Rattle.coord_node.specs.Replies.{IsReplyFrame, assignment_value, commit_value, heartbeat_reply_value, reply_value}
 use Rattle.coord_node.specs.Steps.{CommitAt, FrameStepBy, HeartbeatAt, IsRequest, Makes, MakesBy, RequestStep, Run, Sends, Step, has_room, is_success, message_of}
-use Rattle.coord_node.specs.Existence.{AreNodeTopics, CoordinatorsServe, EventsAreAnswered, IsComing, IsServing, RunsAreAnswered}
-use Rattle.coord_node.specs.Laws.{StepsAreSound}
+use Rattle.coord_node.specs.Existence.{CoordinatorsServe, EventsAreAnswered, IsComing, RunsAreAnswered}
+use Rattle.coord_node.specs.Laws.{IsServing, StepsAreSound}
 use Rattle.coord_node.proofs.CommitLemmas.{HasRoomInFrame-commit}
 use Rattle.coord_node.proofs.CommitLengths.{answers_of_topics, length-answers, length-commit_fields, length-topics_answers}
 use Rattle.coord_node.proofs.FittingAnswers.{AreWritten, IsTold, IsToldIn, IsWritten, is_told, refused_told}
-use Rattle.coord_node.proofs.KeptViews.{no_topics, opening_serves, serves_on}
 use Rattle.coord_node.proofs.LengthLemmas.{HaveAssignedIds, HaveIds}
 use Rattle.coord_node.proofs.ReplyLemmas.{FitsTaggedFields-nil, HasRoomInFrame-reply}
+use Rattle.coord_node.proofs.SoundGroups.{opening_serves, serves_on}
 
 -- ---- codes
 
@@ -88,10 +92,10 @@ text_fits StaleMemberEpoch = tt
 abbrev IsEntry : TopicPartitionsValue → Type 0
 IsEntry t = FitsUuid t.topic_id × AllByRecursion (FitsSigned w32) t.partitions
 
-entry_before : (p : Partition) (ts : List TopicPartitionsValue) → IsWritten p → AllByRecursion IsEntry ts → AllByRecursion IsEntry (before p ts)
+entry_before : (p : Partition) (ts : List TopicPartitionsValue) → IsWritten p → AllByRecursion IsEntry ts → AllByRecursion IsEntry (before p.topic p.index ts)
 entry_before p [] is each = ((is.0, (is.1, tt)), tt)
 entry_before p (t ∷ ts) is each =
-    elim (eq_by_cmp text_cmp p.topic t.topic_id) as (λ b. AllByRecursion IsEntry (cond b (record t { partitions = p.index ∷ t.partitions } ∷ ts) (alone p ∷ t ∷ ts))) [
+    elim (bytes_eq p.topic t.topic_id) as (λ b. AllByRecursion IsEntry (cond b (record t { partitions = p.index ∷ t.partitions } ∷ ts) (alone p.topic p.index ∷ t ∷ ts))) [
       | true ↦ ((each.0.0, (is.1, each.0.1)), each.1)
       | false ↦ ((is.0, (is.1, tt)), each)
     ]
@@ -186,16 +190,16 @@ module _ (c : Coordinator) (serving : IsServing c) (new_is_sound : IsSound (new_
   beats_at : (there : Option Group) (h : Arrival) → h.image ≡ c.image → finite.get c.groups h.heartbeat.group ≡ there → FitsText h.heartbeat.member
       → (given : group.Answer) × (new : Coordinator) × HeartbeatAt there c h given new × IsToldIn given
   beats_at None h image absent fits =
-      let present = subst AreNodeTopics (sym image) serving.image in
-      let is = heartbeats (new_group c.salt) h no_topics.image present.image in
-      let told = is_told (new_group c.salt) new_is_sound no_topics h present fits is.answer is.new is.step in
+      let present = subst AreImageTopics (sym image) serving.image in
+      let is = heartbeats (new_group c.salt) h new_is_sound.view present in
+      let told = is_told (new_group c.salt) (consistent (new_group c.salt) new_is_sound) new_is_sound.view h present fits is.answer is.new is.step in
       let (answer, new, made, then_told) = makes_by is.answer h.heartbeat.group is.new told in
       (answer, new, (is.answer, is.new, is.step, made), then_told)
   beats_at (Some g) h image there fits =
-      let present = subst AreNodeTopics (sym image) serving.image in
-      let view = serving.views h.heartbeat.group g there in
-      let is = heartbeats g h view.image present.image in
-      let told = is_told g (serving.groups h.heartbeat.group g there) view h present fits is.answer is.new is.step in
+      let present = subst AreImageTopics (sym image) serving.image in
+      let sound = serving.groups h.heartbeat.group g there in
+      let is = heartbeats g h sound.view present in
+      let told = is_told g (consistent g sound) sound.view h present fits is.answer is.new is.step in
       (is.answer, _, (is.new, is.step, refl), told)
 
 -- ---- commits
@@ -288,12 +292,12 @@ module _ (every : EveryGroupIsSound) (steps_are_sound : StepsAreSound Step) (hea
   steps : (c : Coordinator) (event : Event) → IsServing c → IsComing event → (answer : Answer) × (new : Coordinator) × Step c event answer new
   steps c (Frame body stamp moment) serving coming = frames c serving body coming stamp moment
   steps c (Tick moment) serving coming = (_, _, (refl, refl))
-  steps c (Image topics) serving coming = (_, _, (refl, refl))
+  steps c (Image topics) serving coming = (_, _, (refl, refl, coming))
 
   pub events_are_answered : EventsAreAnswered
   events_are_answered c event serving coming =
       let (answer, new, step) = steps c event serving coming in
-      (answer, new, step, serves_on steps_are_sound c event answer new serving coming step)
+      (answer, new, step, steps_are_sound c event answer new step serving)
 
 -- ---- one event after the other
 
@@ -310,13 +314,5 @@ module _ (answered : EventsAreAnswered) where
 
 -- ---- whatever came, it serves
 
-module _ (steps_are_sound : StepsAreSound Step) where
-  served : (events : List Event) (answers : List Answer) (c new : Coordinator) → IsServing c → AllByRecursion IsComing events → Run c events answers new → IsServing new
-  served [] [] c new serving coming run = subst IsServing (sym run) serving
-  served [] (answer ∷ answers) c new serving coming run = absurd run
-  served (event ∷ events) [] c new serving coming run = absurd run
-  served (event ∷ events) (answer ∷ answers) c new serving coming run =
-      served events answers run.0 new (serves_on steps_are_sound c event answer run.0 serving coming.0 run.1) coming.1 run.2
-
-  pub coordinators_serve : CoordinatorsServe
-  coordinators_serve salt events answers c coming run = served events answers (opening salt) c (opening_serves salt) (recursion_from_All IsComing events coming) run
+pub coordinators_serve : StepsAreSound Step → CoordinatorsServe
+coordinators_serve steps_are_sound salt events answers c run = serves_on Step steps_are_sound events answers (opening salt) c run (opening_serves salt)

@@ -1,11 +1,11 @@
--- Every answer to a heartbeat can be spelled: a sound group tells an epoch that fits, and assigns partitions of its view.
+-- Every answer to a heartbeat can be spelled: a consistent group tells an epoch that fits, and assigns partitions of its view.
 use Rattle.std.proofs.Common.{◌≡◌, ℕ, zero, suc, ◌≤◌, ◌<◌, ◌+◌, ℤ, pos, negsuc, Bool, true, false, ◌||◌, ◌&&◌, nat_le, cond, List, [], ◌∷◌, ◌++◌, Option, Some, None, IfSome, max, ◌==◌, inl, refl, sym, ap, subst, ◌∙◌, arith, true≢false}
 use Rattle.std.specs.Prelude.{FitsSigned}
 use Rattle.std.specs.Cmp.{second_so}
 use Rattle.std.specs.Option.{MatchOption}
 use Rattle.std.specs.FinMap as finite
 use Rattle.std.specs.Int.{w32, w64, to_be_bytes}
-use Rattle.std.proofs.lemmas.Bool.{leb-false}
+use Rattle.std.proofs.lemmas.Bool.{leb-false, ltb-true}
 use Rattle.std.proofs.lemmas.Str.{IsUtf8-from_ascii}
 use Rattle.uuid.specs.Text.{lower}
 use Rattle.uuid.proofs.TextLemmas.{hyphenated_ascii}
@@ -19,29 +19,30 @@ use Rattle.group_types.specs.Text.{Text}
 use Rattle.group_types.specs.Sets.{common, has, size}
 use Rattle.group_types.specs.Partition.{partition_cmp, Partitions}
 use Rattle.group_types.specs.Topics.{Topics}
+use Rattle.group_types.specs.Images.{AreImageTopics}
 use Rattle.group_types.specs.MemberId.{made_id}
 use Rattle.group_types.specs.Owners.{IsIndex, share_of}
 use Rattle.group_types.specs.Request.{Heartbeat, Kind, Joins, Beats, Leaves, GoesAway, MeansNothing, LEAVES_AT, GOES_AWAY_AT, is_full, kind_of, reported}
 use Rattle.group_types.specs.Group.{Group, Record, held}
-use Rattle.group_types.specs.Settle.{may_settle, settled, settled_by}
+use Rattle.group_types.specs.Settle.{may_settle, settled}
 use Rattle.group_types.specs.Join.{IsNamed, Name, name_of_serial}
 use Rattle.group_types.specs.Leave.{last_epoch, last_epoch_at}
-use Rattle.group_types.specs.Renewal.{Renews, RenewsWhere, changed_if, view_for}
+use Rattle.group_types.specs.Renewal.{Renews, changed_if, is_subscribed, view_for}
 use Rattle.group_types.specs.Checks.{Verdict, Accepted, Refused, Overtaken, Member, Sender, sender_of, verdict_on}
 use Rattle.group_types.specs.HeartbeatStep.{Answer, Arrival, BeatsWith, ByVerdict, Closes, Draft, GoesAwayWith, HeartbeatStep, IsRefused, JoinsAs, Replied, Reply, Stages, StepOf, TakesIn, acceptance, assignment_of, draft_of_beat, draft_of_join, draft_under, epoch_number, farewell, is_news, refusal, shown}
-use Rattle.group_types.specs.Sound.{IsOfView, IsSound}
+use Rattle.group_types.specs.Sound.{IsOfView}
+use Rattle.group_types.proofs.Consistent.{IsConsistent}
 use Rattle.group_types.proofs.Drafts.{IsReady, beat_is_ready, join_is_ready}
+use Rattle.group_types.proofs.Images.{retained-AreImageTopics}
+use Rattle.group_types.proofs.KeptViews.{changed_view, join_view, renewed_view, settled_view}
 use Rattle.group_types.proofs.Lookups.{some_is}
 use Rattle.group_types.proofs.MadeIds.{length-made_id}
 use Rattle.group_types.proofs.Orders.{partition_cmp_total}
-use Rattle.group_types.proofs.Renewals.{changed_is_sound, renewed_is_sound}
+use Rattle.group_types.proofs.Renewals.{changed_is_consistent, renewed_is_consistent}
 use Rattle.group_types.proofs.Senders.{own_is}
 use Rattle.group_types.proofs.SetLemmas.{has-common}
-use Rattle.group_types.proofs.Settlings.{settled_is_sound}
-use Rattle.topic_meta.specs.Facts.{AreImageTopics}
+use Rattle.group_types.proofs.Settlings.{settled_is_consistent}
 use Rattle.group_core.proofs.FewPartitions.{few_shown, share_of_view}
-use Rattle.group_core.proofs.SomeStep.{get-kept, view_for-AreImageTopics}
-use Rattle.coord_node.specs.Existence.{AreNodeTopics}
 
 -- ---- what can be spelled
 
@@ -92,21 +93,21 @@ assigned_told true set are = are
 assigned_told false set are = tt
 
 index_told : (z : ℤ) (count : ℕ) → IsIndex z count → count ≤ MOST_TOPIC_PARTITIONS → FitsSigned w32 z
-index_told (pos i) count is few = record { sfits = omega arith }
-index_told (negsuc i) count is few = absurd is
+index_told (pos i) count is few = let below = ltb-true i count is in record { sfits = omega arith }
+index_told (negsuc i) count is few = absurd (true≢false (sym is))
 
-shown_told : (g : Group) → IsSound g → AreNodeTopics g.view → (m : Text) → AreWritten (shown g m)
+shown_told : (g : Group) → IsConsistent g → AreImageTopics g.view → (m : Text) → AreWritten (shown g m)
 shown_told g sound topics m =
     let of : (p : Partition) (n : Text) → finite.get g.target p ≡ Some n → IsOfView g.view p = λ p n owns. sound.owned n p owns in
     record {
-      few = few_shown g.view g.target m (held g.grants m) topics.image of;
+      few = few_shown g.view g.target m (held g.grants m) topics of;
       each = λ p there.
           let at = share_of_view g.view g.target m of p (second_so (has (held g.grants m) p) _ (sym (has-common partition_cmp_total (held g.grants m) (share_of g.target m) p) ∙ there)) in
           let id : FitsUuid p.topic = subst FitsUuid (sym at.same_id) (topics.ids at.name at.topic at.is_topic) in
-          (id, index_told p.index at.topic.count at.index (topics.image.counts at.name at.topic at.is_topic).1);
+          (id, index_told p.index at.topic.count at.index (topics.counts at.name at.topic at.is_topic).1);
     }
 
-replies_told : (g : Group) → IsSound g → AreNodeTopics g.view → (m : Text) (r : Record) → finite.get g.records m ≡ Some r → FitsText m
+replies_told : (g : Group) → IsConsistent g → AreImageTopics g.view → (m : Text) (r : Record) → finite.get g.records m ≡ Some r → FitsText m
     → (full : Bool) → IsToldIn (Replied (acceptance m r (assignment_of (full || is_news r.sent (shown g m)) (shown g m))))
 replies_told g sound topics m r kept fits full =
     let low = sound.epochs m r kept in
@@ -121,61 +122,39 @@ replies_told g sound topics m r kept fits full =
 
 -- ---- the settling, the renewal and the change
 
-pub settled_view : (may : Bool) (g : Group) (m : Text) (o : Option Record) (now : ℕ) → (settled_by may g m o now).view ≡ g.view
-settled_view may g m None now = refl
-settled_view may g m (Some r) now = refl
+settled_topics : (g : Group) (m : Text) (owned : Option Partitions) (now : ℕ) → AreImageTopics g.view → AreImageTopics (settled g m owned now).view
+settled_topics g m owned now topics = subst AreImageTopics (sym (settled_view (may_settle g.grants m _ owned) g m (finite.get g.records m) now)) topics
 
-settled_topics : (g : Group) (m : Text) (owned : Option Partitions) (now : ℕ) → AreNodeTopics g.view → AreNodeTopics (settled g m owned now).view
-settled_topics g m owned now topics = subst AreNodeTopics (sym (settled_view (may_settle g.grants m _ owned) g m (finite.get g.records m) now)) topics
-
-settles_told : (changed : Group) (d : Draft) (q : Heartbeat) (a : Answer) (n : Group) (stages : Stages changed d q a n) → IsSound stages.renewed → AreNodeTopics stages.renewed.view → FitsText d.id → IsToldIn a
+settles_told : (changed : Group) (d : Draft) (q : Heartbeat) (a : Answer) (n : Group) (stages : Stages changed d q a n) → IsConsistent stages.renewed → AreImageTopics stages.renewed.view → FitsText d.id → IsToldIn a
 settles_told changed d q a n stages sound topics fits =
     let renewed : Group = stages.renewed in
-    let is_sound : IsSound stages.settled = subst IsSound (sym stages.settles) (settled_is_sound renewed sound d.id (reported q) renewed.clock) in
-    let of_node : AreNodeTopics stages.settled.view = subst (λ (g : Group). AreNodeTopics g.view) (sym stages.settles) (settled_topics renewed d.id (reported q) renewed.clock topics) in
+    let is_sound : IsConsistent stages.settled = subst IsConsistent (sym stages.settles) (settled_is_consistent renewed sound d.id (reported q) renewed.clock) in
+    let of_node : AreImageTopics stages.settled.view = subst (λ (g : Group). AreImageTopics g.view) (sym stages.settles) (settled_topics renewed d.id (reported q) renewed.clock topics) in
     subst IsToldIn (sym (stages.answers ∙ ap (λ o. Replied (acceptance d.id stages.kept o)) stages.tells))
     (replies_told stages.settled is_sound of_node d.id stages.kept stages.is_kept fits (is_full q))
 
-pub renewed_view : (b : Bool) (g renewed : Group) → RenewsWhere b g renewed → renewed.view ≡ g.view
-renewed_view true g renewed is = ap (λ (x : Group). x.view) is
-renewed_view false g renewed (target, is_target, is) = ap (λ (x : Group). x.view) is
-
-pub view_for-AreNodeTopics : (image : Topics) (records : finite.FinMap _ Record) → AreNodeTopics image → AreNodeTopics (view_for image records)
-view_for-AreNodeTopics image records topics = record {
-  image = view_for-AreImageTopics image records topics.image;
-  ids = λ name t is. topics.ids name t (from_kept _ (finite.get image name) (sym (get-kept image records name) ∙ is));
-}
-  where
-    from_kept : {X : Type 0} {x : X} (b : Bool) (o : Option X) → cond b o None ≡ Some x → o ≡ Some x
-    from_kept true o is = is
-    from_kept false o is = cc
-
-pub changed_topics : (change : Bool) (g : Group) (view : Topics) → AreNodeTopics g.view → AreNodeTopics view → AreNodeTopics (changed_if change g view).view
-changed_topics true g view stored present = present
-changed_topics false g view stored present = stored
-
-module _ (g : Group) (sound : IsSound g) (d : Draft) (ready : IsReady g d) (fits : FitsText d.id) (same : d.group.view ≡ g.view) (stored : AreNodeTopics g.view)
-    (q : Heartbeat) (image : Topics) (present : AreNodeTopics image) (a : Answer) (n : Group) where
+module _ (g : Group) (sound : IsConsistent g) (d : Draft) (ready : IsReady g d) (fits : FitsText d.id) (same : d.group.view ≡ g.view) (stored : AreImageTopics g.view)
+    (q : Heartbeat) (image : Topics) (present : AreImageTopics image) (a : Answer) (n : Group) where
   abbrev View : Topics
   View = view_for image d.group.records
 
-  known : (change : Bool) → AreNodeTopics (changed_if change d.group View).view
-  known change = changed_topics change d.group View (subst AreNodeTopics (sym same) stored) (view_for-AreNodeTopics image d.group.records present)
+  known : (change : Bool) → AreImageTopics (changed_if change d.group View).view
+  known change = changed_view change d.group View (subst AreImageTopics (sym same) stored) (retained-AreImageTopics image (is_subscribed d.group.records) present)
 
-  then_known : (change : Bool) (renewed : Group) → Renews (changed_if change d.group View) renewed → AreNodeTopics renewed.view
+  then_known : (change : Bool) (renewed : Group) → Renews (changed_if change d.group View) renewed → AreImageTopics renewed.view
   then_known change renewed renews =
       let changed : Group = changed_if change d.group View in
-      subst AreNodeTopics (sym (renewed_view (changed.epoch == changed.target_epoch) changed renewed renews)) (known change)
+      subst AreImageTopics (sym (renewed_view (changed.epoch == changed.target_epoch) changed renewed renews)) (known change)
 
   goes_told : (change : Bool) → (change && nat_le GREATEST_EPOCH g.epoch) ≡ false → Stages (changed_if change d.group View) d q a n → IsToldIn a
   goes_told false room stages =
-      settles_told d.group d q a n stages (renewed_is_sound d.group ready.sound stages.renewed stages.renews) (then_known false stages.renewed stages.renews) fits
+      settles_told d.group d q a n stages (renewed_is_consistent d.group ready.sound stages.renewed stages.renews) (then_known false stages.renewed stages.renews) fits
   goes_told true room stages =
       let below = leb-false GREATEST_EPOCH g.epoch room in
       let epochs = ready.epoch in
       let target = ready.sound.target_epoch in
       settles_told (changed_if true d.group View) d q a n stages
-      (changed_is_sound d.group ready.sound (suc d.group.epoch) View stages.renewed (omega (arith, target)) (omega (arith, below, epochs)) stages.renews)
+      (changed_is_consistent d.group ready.sound (suc d.group.epoch) View stages.renewed (omega (arith, target)) (omega (arith, below, epochs)) stages.renews)
       (then_known true stages.renewed stages.renews) fits
 
   taken_told : TakesIn g d q image a n → IsToldIn a
@@ -211,12 +190,6 @@ join_names g serial now id (Some r) other q h fits = fits
 join_names g serial now id None None q h fits = fits
 join_names g serial now id None (Some old) q h fits = fits
 
-pub join_view : (g : Group) (serial now : ℕ) (id : Text) (own : Option Record) (other : Option Member) (q : Heartbeat) (h : Arrival)
-    → (draft_of_join (record g { serial = serial }) now id own other q h.stamp).group.view ≡ g.view
-join_view g serial now id (Some r) other q h = refl
-join_view g serial now id None None q h = refl
-join_view g serial now id None (Some old) q h = refl
-
 -- a check that would refuse doesn't apply
 passed : (b : Bool) (v rest : Verdict) → (v ≡ Accepted → ⊥) → cond b v rest ≡ Accepted → (b ≡ false) × (rest ≡ Accepted)
 passed true v rest fails is = absurd (fails is)
@@ -228,7 +201,7 @@ refuses code is = cc
 overtakes : Overtaken ≡ Accepted → ⊥
 overtakes is = cc
 
-module _ (g : Group) (sound : IsSound g) (stored : AreNodeTopics g.view) (h : Arrival) (present : AreNodeTopics h.image) (fits : FitsText h.heartbeat.member) (a : Answer) (n : Group) where
+module _ (g : Group) (sound : IsConsistent g) (stored : AreImageTopics g.view) (h : Arrival) (present : AreImageTopics h.image) (fits : FitsText h.heartbeat.member) (a : Answer) (n : Group) where
   abbrev TheSender : Sender
   TheSender = sender_of g.records h.heartbeat
 

@@ -1,8 +1,7 @@
 -- How long a reply is spelled.
-use Rattle.std.proofs.Common.{◌≡◌, ℕ, zero, suc, ◌+◌, ◌*◌, ◌≤◌, ℤ, Bool, true, false, cond, List, [], ◌∷◌, ◌++◌, length, Option, option_map, Some, None, All, IfSome, refl, arith, nat_lt, ◌%◌, ◌/◌, length-append}
-use Rattle.std.specs.List.{AllByRecursion, flat_map}
+use Rattle.std.proofs.Common.{◌≡◌, ℕ, zero, suc, ◌+◌, ◌*◌, ◌≤◌, ℤ, pos, Bool, true, false, cond, List, [], ◌∷◌, ◌++◌, length, Option, option_map, Some, None, All, IfSome, refl, ap, arith, nat_lt, ◌%◌, ◌/◌, length-append}
+use Rattle.std.specs.List.{flat_map}
 use Rattle.std.specs.Option.{option_map_or}
-use Rattle.group_types.specs.declared.partition.Partition.{Partition}
 use Rattle.group_types.specs.declared.code.Code.{Code}
 use Rattle.group_types.specs.declared.code.Code.TheVariants.{NoError, UnknownTopicOrPartition, OffsetMetadataTooLarge, CoordinatorNotAvailable, UnknownMemberId, InvalidRequest, GroupIdNotFound, GroupMaxSizeReached, FencedMemberEpoch, UnreleasedInstanceId, UnsupportedAssignor, StaleMemberEpoch}
 use Rattle.group_types.specs.Code.{code_text}
@@ -12,11 +11,12 @@ use Rattle.group_types.specs.HeartbeatStep.{Reply}
 use Rattle.flex_wire.specs.Spelling.{signed, int16, int32, varint, varint_groups, FitsUuid, compact_string, compact_nullable_string, tagged_fields, array_count, mark}
 use Rattle.flex_wire.specs.Composed.{array}
 use Rattle.kip_msgs.specs.Values.{TopicPartitionsValue, ResponseHeaderValue}
-use Rattle.kip_msgs.specs.Spelling.{nullable_struct, topic_partitions_fields, assignment_fields, heartbeat_reply_fields, response_header_fields, reply_body}
-use Rattle.group_core.specs.Listing.{alone, before, listed}
-use Rattle.group_core.specs.Growth.{is_of}
+use Rattle.kip_msgs.specs.Spelling.{FitsAssignment, nullable_struct, topic_partitions_fields, assignment_fields, heartbeat_reply_fields, response_header_fields, reply_body}
+use Rattle.kip_msgs.proofs.ListingLemmas.{HaveNoTags, indexes_in}
+use Rattle.group_core.specs.Listing.{listed}
 use Rattle.group_core.specs.Outcome.{reply_room}
-use Rattle.group_core.proofs.ListingLemmas.{indexes_in, indexes_in-listed, length-listed}
+use Rattle.group_core.proofs.ListingLemmas.{HaveNoTags-listed, indexes_in-listed, length-listed}
+use Rattle.coord_node.specs.Laws.{RepliesFit}
 use Rattle.coord_node.specs.Replies.{assignment_value, heartbeat_reply_value, reply_value}
 
 pub length-int32 : (z : ℤ) → length (int32 z) ≡ 4
@@ -63,22 +63,6 @@ length-indexes : (indexes : List ℤ) → length (flat_map int32 indexes) ≡ 4 
 length-indexes [] = refl
 length-indexes (i ∷ is) =
     omega (arith, length-append (int32 i) (flat_map int32 is), length-int32 i, length-indexes is)
-
--- no entry has tagged fields
-abbrev pub HaveNoTags : List TopicPartitionsValue → Type 0
-HaveNoTags ts = AllByRecursion (λ t. t.tags ≡ []) ts
-
-no_tags_before : (q : Partition) (t : TopicPartitionsValue) (ts : List TopicPartitionsValue) (b : Bool) → HaveNoTags (t ∷ ts) → HaveNoTags (cond b (record t { partitions = q.index ∷ t.partitions } ∷ ts) (alone q ∷ t ∷ ts))
-no_tags_before q t ts true none = none
-no_tags_before q t ts false none = (refl, none)
-
-HaveNoTags-before : (q : Partition) (ts : List TopicPartitionsValue) → HaveNoTags ts → HaveNoTags (before q ts)
-HaveNoTags-before q [] none = (refl, tt)
-HaveNoTags-before q (t ∷ ts) none = no_tags_before q t ts (is_of q t) none
-
-pub HaveNoTags-listed : (ps : List Partition) → HaveNoTags (listed ps)
-HaveNoTags-listed [] = tt
-HaveNoTags-listed (p ∷ ps) = HaveNoTags-before p (listed ps) (HaveNoTags-listed ps)
 
 -- each entry's topic id has its sixteen bytes
 abbrev pub HaveIds : List TopicPartitionsValue → Type 0
@@ -169,3 +153,16 @@ unfolding reply_body
 length-reply_body correlation r ids =
     let header : ResponseHeaderValue = record { correlation_id = correlation; tags = [] } in
     omega (arith, length-append (response_header_fields header) (heartbeat_reply_fields (heartbeat_reply_value r)), length-response_header correlation, length-heartbeat_reply r ids)
+
+-- ---- the frame of a reply
+
+-- whatever is spelled has ids of sixteen bytes
+spelled_ids : (a : Option Partitions) → IfSome (option_map assignment_value a) FitsAssignment → HaveAssignedIds a
+spelled_ids None fits = tt
+spelled_ids (Some set) fits = λ k d low. (fits.topic_partitions.1 k d low).topic_id
+
+pub replies_fit : RepliesFit
+replies_fit correlation r frame is =
+    let size = pos (length is.body) in
+    let ids = spelled_ids r.assignment is.spells.fits.1.assignment in
+    omega (arith, ap length is.framed.bytes, length-append (int32 size) is.body, length-int32 size, ap length is.spells.bytes, length-reply_body correlation r ids)

@@ -7,11 +7,11 @@ pub mod ShortIds
 pub mod OneAnswer
 pub mod FirstJoin
 pub mod AnswerLemmas
+pub mod KeptImages
 pub mod SoundGroups
 pub mod AbsentLemmas
 pub mod CommitLengths
 pub mod CommitLemmas
 pub mod TickLemmas
 pub mod FittingAnswers
-pub mod KeptViews
 pub mod AnsweredEvents

@@ -13,10 +13,11 @@ use Rattle.kip_msgs.specs.Values.{TopicPartitionsValue}
 use Rattle.kip_msgs.specs.Spelling.{reply_body}
 use Rattle.kip_msgs.specs.Writable.{IsShortIfAny, IsWritableTopic, IsWritableAssignment, IsWritableReply}
 use Rattle.group_core.specs.Listing.{listed}
-use Rattle.group_core.proofs.ListingLemmas.{indexes_in, indexes_in-listed, length-listed}
+use Rattle.kip_msgs.proofs.ListingLemmas.{HaveNoTags, indexes_in}
+use Rattle.group_core.proofs.ListingLemmas.{HaveNoTags-listed, indexes_in-listed, length-listed}
 use Rattle.coord_node.specs.Answers.{HasRoomInFrame, IsSendable}
 use Rattle.coord_node.specs.Replies.{assignment_value, reply_value}
-use Rattle.coord_node.proofs.LengthLemmas.{HaveAssignedIds, HaveNoTags, HaveNoTags-listed, length-code_text, length-reply_body}
+use Rattle.coord_node.proofs.LengthLemmas.{HaveAssignedIds, length-code_text, length-reply_body}
 
 pub FitsTaggedFields-nil : FitsTaggedFields []
 FitsTaggedFields-nil = record { count = omega arith; each = λ k d h. absurd (omega arith); rising = λ k h. omega arith }

@@ -1,4 +1,4 @@
--- Every group of a coordinator is sound: it has none at its opening, and each event keeps all of them so.
+-- A coordinator serves from its opening on: then it has no group and no topics, and each event keeps its groups sound.
 use Rattle.std.proofs.Common.{◌≡◌, ℕ, Bool, true, false, List, [], ◌∷◌, map, Option, Some, None, inl, inr, cond, refl, sym, subst, ◌∙◌, arith}
 use Rattle.std.specs.FinMap as finite
 use Rattle.std.specs.FinMap.{find}
@@ -6,6 +6,7 @@ use Rattle.std.specs.Ordering.{eq_by_cmp}
 use Rattle.kip_msgs.specs.Values.{RequestValue, heartbeat_request, commit_request}
 use Rattle.group_types.specs.declared.stamp.Stamp.{Stamp}
 use Rattle.group_types.specs.Text.{Text, text_cmp}
+use Rattle.group_types.specs.Images.{AreImageTopics}
 use Rattle.group_types.specs.Group.{Group, new_group}
 use Rattle.group_types.specs.Tick.{ticked}
 use Rattle.group_types.specs.Commit.{Commit, CommitReply}
@@ -13,12 +14,14 @@ use Rattle.group_types.specs.HeartbeatStep.{Arrival}
 use Rattle.group_types.specs.HeartbeatStep as group
 use Rattle.group_types.specs.Sound.{IsSound}
 use Rattle.group_types.specs.Laws.{CommitsAreSound, EveryGroupIsSound, HeartbeatsAreSound, TicksAreSound}
+use Rattle.group_types.proofs.Images.{empty-AreImageTopics}
 use Rattle.group_types.proofs.Orders.{text_cmp_total}
 use Rattle.group_types.proofs.Lookups.{Found, this, another, found, not_none, some_is}
 use Rattle.group_epochs.specs.Request.{arrival_of, commit_of}
 use Rattle.coord_node.specs.Coordinator.{Coordinator, Event, Frame, Tick, Image, Answer, opening}
 use Rattle.coord_node.specs.Steps.{is_success, has_room, all_ticked, Makes, MakesBy, HeartbeatAt, CommitAt, with_group, RequestRelation, RequestStep, FrameStepBy, EventRelation, RunBy, Step}
-use Rattle.coord_node.specs.Laws.{GroupsAreSound, HasSoundGroups, StepsAreSound}
+use Rattle.coord_node.specs.Laws.{GroupsAreSound, HasSoundGroups, IsServing, StepsAreSound}
+use Rattle.coord_node.proofs.KeptImages.{image_kept}
 
 -- a sound group, put in among sound ones
 put_soundly : (c : Coordinator) → HasSoundGroups c → (name : Text) (g : Group) → IsSound g → HasSoundGroups (with_group c name g)
@@ -56,13 +59,13 @@ module _ (every : EveryGroupIsSound) (heartbeats : HeartbeatsAreSound) (ticks : 
 
   -- ---- heartbeats and commits
 
-  beaten_soundly : (c : Coordinator) → HasSoundGroups c → (a : Arrival) (there : Option Group) → finite.get c.groups a.heartbeat.group ≡ there
+  beaten_soundly : (c : Coordinator) → HasSoundGroups c → (a : Arrival) → AreImageTopics a.image → (there : Option Group) → finite.get c.groups a.heartbeat.group ≡ there
       → (answer : group.Answer) (new : Coordinator) → HeartbeatAt there c a answer new → HasSoundGroups new
-  beaten_soundly c sound a None absent answer new is =
-      let is_sound : IsSound is.1 = heartbeats (new_group c.salt) a is.0 is.1 is.2 (new_is_sound c.salt) in
+  beaten_soundly c sound a image None absent answer new is =
+      let is_sound : IsSound is.1 = heartbeats (new_group c.salt) a is.0 is.1 image is.2 (new_is_sound c.salt) in
       made_soundly is.0 c sound a.heartbeat.group is.1 is_sound answer new is.3
-  beaten_soundly c sound a (Some g) present answer new is =
-      let is_sound : IsSound is.0 = heartbeats g a answer is.0 is.1 (sound a.heartbeat.group g present) in
+  beaten_soundly c sound a image (Some g) present answer new is =
+      let is_sound : IsSound is.0 = heartbeats g a answer is.0 image is.1 (sound a.heartbeat.group g present) in
       subst HasSoundGroups (sym is.2) (put_soundly c sound a.heartbeat.group is.0 is_sound)
 
   committed_soundly : (c : Coordinator) → HasSoundGroups c → (r : Commit) (there : Option Group) → finite.get c.groups r.group ≡ there
@@ -72,12 +75,12 @@ module _ (every : EveryGroupIsSound) (heartbeats : HeartbeatsAreSound) (ticks : 
       let is_sound : IsSound is.0 = (commits g r c.image reply is.0 is.1 (sound r.group g present)).0 in
       subst HasSoundGroups (sym is.2) (put_soundly c sound r.group is.0 is_sound)
 
-  requested_soundly : (c : Coordinator) → HasSoundGroups c → (v : RequestValue) (stamp : Stamp) (moment : ℕ) (answer : Answer) (new : Coordinator)
+  requested_soundly : (c : Coordinator) → IsServing c → (v : RequestValue) (stamp : Stamp) (moment : ℕ) (answer : Answer) (new : Coordinator)
       → RequestStep c v stamp moment answer new → HasSoundGroups new
-  requested_soundly c sound (heartbeat_request header v) stamp moment answer new is =
-      beaten_soundly c sound (arrival_of v stamp moment c.image) (finite.get c.groups v.group_id) refl is.0 new is.1
-  requested_soundly c sound (commit_request header v) stamp moment answer new is =
-      committed_soundly c sound (commit_of v) (finite.get c.groups v.group_id) refl is.0 new is.1
+  requested_soundly c serving (heartbeat_request header v) stamp moment answer new is =
+      beaten_soundly c serving.groups (arrival_of v stamp moment c.image) serving.image (finite.get c.groups v.group_id) refl is.0 new is.1
+  requested_soundly c serving (commit_request header v) stamp moment answer new is =
+      committed_soundly c serving.groups (commit_of v) (finite.get c.groups v.group_id) refl is.0 new is.1
 
   -- ---- ticks
 
@@ -99,22 +102,34 @@ module _ (every : EveryGroupIsSound) (heartbeats : HeartbeatsAreSound) (ticks : 
 
   -- ---- the whole step
 
+  groups_kept : (c : Coordinator) (event : Event) (answer : Answer) (new : Coordinator) → Step c event answer new → IsServing c → HasSoundGroups new
+  groups_kept c (Frame body stamp moment) answer new step serving =
+      framed_soundly RequestStep c serving.groups body stamp moment answer new (λ v is. requested_soundly c serving v stamp moment answer new is) step
+  groups_kept c (Tick moment) answer new step serving = subst HasSoundGroups (sym step.1) (ticked_soundly c serving.groups moment)
+  groups_kept c (Image topics) answer new step serving = subst HasSoundGroups (sym step.1) serving.groups
+
   pub steps_are_sound : StepsAreSound Step
-  steps_are_sound c (Frame body stamp moment) answer new step sound =
-      framed_soundly RequestStep c sound body stamp moment answer new (λ v is. requested_soundly c sound v stamp moment answer new is) step
-  steps_are_sound c (Tick moment) answer new step sound = subst HasSoundGroups (sym step.1) (ticked_soundly c sound moment)
-  steps_are_sound c (Image topics) answer new step sound = subst HasSoundGroups (sym step.1) sound
+  steps_are_sound c event answer new step serving =
+      record {
+        groups = groups_kept c event answer new step serving;
+        image = image_kept c event answer new serving.image step;
+      }
 
 -- ---- one event after the other
 
+pub opening_serves : (salt : ℕ) → IsServing (opening salt)
+opening_serves salt = record {
+  groups = λ name g there. absurd (not_none g (sym (finite.get-empty text_cmp name) ∙ there));
+  image = empty-AreImageTopics;
+}
+
 module _ (Steps : EventRelation) (keeps : StepsAreSound Steps) where
-  run_soundly : (events : List Event) (answers : List Answer) (c new : Coordinator) → RunBy Steps c events answers new → HasSoundGroups c → HasSoundGroups new
-  run_soundly [] [] c new run sound = subst HasSoundGroups (sym run) sound
-  run_soundly [] (answer ∷ answers) c new run sound = absurd run
-  run_soundly (event ∷ events) [] c new run sound = absurd run
-  run_soundly (event ∷ events) (answer ∷ answers) c new run sound =
-      run_soundly events answers run.0 new run.2 (keeps c event answer run.0 run.1 sound)
+  pub serves_on : (events : List Event) (answers : List Answer) (c new : Coordinator) → RunBy Steps c events answers new → IsServing c → IsServing new
+  serves_on [] [] c new run serving = subst IsServing (sym run) serving
+  serves_on [] (answer ∷ answers) c new run serving = absurd run
+  serves_on (event ∷ events) [] c new run serving = absurd run
+  serves_on (event ∷ events) (answer ∷ answers) c new run serving =
+      serves_on events answers run.0 new run.2 (keeps c event answer run.0 run.1 serving)
 
   pub groups_are_sound : GroupsAreSound Steps
-  groups_are_sound salt events answers c run =
-      run_soundly events answers (opening salt) c run (λ name g there. absurd (not_none g (sym (finite.get-empty text_cmp name) ∙ there)))
+  groups_are_sound salt events answers c run = (serves_on events answers (opening salt) c run (opening_serves salt)).groups

@@ -22,7 +22,7 @@ use Rattle.group_types.proofs.Lookups.{some_is}
 use Rattle.group_core.specs.Outcome.{IsCurrent}
 use Rattle.coord_node.specs.declared.kept.Kept.{Kept}
 use Rattle.coord_node.specs.Coordinator.{Groups}
-use Rattle.coord_node.specs.Kept.{IsKept}
+use Rattle.coord_node.specs.Kept.{HasRightNumber, group_in}
 use Rattle.coord_node.specs.NodeView.{Entries, groups_of}
 use Rattle.coord_node.specs.Steps.{all_ticked, removed_from_all}
 use Rattle.coord_node.proofs.GroupLemmas.{by_bytes, get-as_map, none_found}
@@ -50,19 +50,19 @@ stays_current g image moment none current = by (due (at_moment g moment)) none
     by (m ∷ ms) none = absurd (omega (arith, none))
 
 -- what is known of a group whose clock alone has moved stays known
-pub stays_kept : (generation : Option ℕ) (image : Topics) (moment : ℕ) (old new : Kept) → new.group ≡ ticked old.group moment → new.known ≡ old.known
-    → removed_by_tick old.group moment ≡ 0 → IsKept generation image old → IsKept generation image new
+pub stays_kept : (generation : Option ℕ) (image : Topics) (moment : ℕ) (old new : Kept) → new.group.state ≡ ticked old.group.state moment → new.known ≡ old.known
+    → removed_by_tick old.group.state moment ≡ 0 → HasRightNumber generation image old → HasRightNumber generation image new
 stays_kept generation image moment old new group known none kept =
     record {
-      current = λ n at is. subst (λ (g : Group). IsCurrent g image) (sym group) (stays_current old.group image moment none (kept.current n at (sym known ∙ is)));
+      current = λ n at is. subst (λ (g : Group). IsCurrent g image) (sym group) (stays_current old.group.state image moment none (kept.current n at (sym known ∙ is)));
       come = λ n m at is. kept.come n m at (sym known ∙ is);
     }
 
 module _ (moment : ℕ) where
   -- a group that has met the moment, of which nothing more is known than before
   pub record IsTicked (old new : Kept) : Type 0 where
-    pub group : new.group ≡ ticked old.group moment
-    pub kept : (generation : Option ℕ) (image : Topics) → IsKept generation image old → IsKept generation image new
+    pub group : new.group.state ≡ ticked old.group.state moment
+    pub kept : (generation : Option ℕ) (image : Topics) → HasRightNumber generation image old → HasRightNumber generation image new
 
   -- the first groups have met it, and the others not yet
   abbrev pub AreTicked : ℕ → Entries → Entries → Type 0
@@ -73,7 +73,7 @@ module _ (moment : ℕ) where
 
   -- how many members a group loses
   abbrev pub lost : String Global × Kept → ℕ
-  lost e = removed_by_tick e.1.group moment
+  lost e = removed_by_tick e.1.group.state moment
 
   -- one group more
   ticked_next : (n : ℕ) (old new : Entries) (k next : Kept) → AreTicked n old new → slice_get (values_of new) n ≡ Some k → IsTicked k next
@@ -88,11 +88,11 @@ module _ (moment : ℕ) where
 
   -- the members that were lost so far, and those of the next group
   lost_next : (n : ℕ) (old new : Entries) (k : Kept) → AreTicked n old new → slice_get (values_of new) n ≡ Some k
-      → sum_by lost (take (suc n) old) ≡ sum_by lost (take n old) + removed_by_tick k.group moment
+      → sum_by lost (take (suc n) old) ≡ sum_by lost (take n old) + removed_by_tick k.group.state moment
   lost_next zero [] new k is at = absurd (true≢false (sym (ap is_some (sym (ap (λ (es : Entries). slice_get (values_of es) 0) is) ∙ at))))
   lost_next zero (e ∷ es) new k is at =
       let there : e.1 ≡ k = some_is e.1 k (sym (ap (λ (x : Entries). slice_get (values_of x) 0) is) ∙ at) in
-      omega (arith, ap (λ (x : Kept). removed_by_tick x.group moment) there, sum_by-cons lost e [])
+      omega (arith, ap (λ (x : Kept). removed_by_tick x.group.state moment) there, sum_by-cons lost e [])
   lost_next (suc n) [] new k is at = absurd (true≢false (sym (ap is_some (sym (ap (λ (es : Entries). slice_get (values_of es) (suc n)) is) ∙ at))))
   lost_next (suc n) (e ∷ es) [] k is at = absurd is
   lost_next (suc n) (e ∷ es) (f ∷ fs) k is at =
@@ -105,16 +105,16 @@ module _ (moment : ℕ) where
       subst (λ (i : ℕ). AreTicked i old (set_value_at new n next)) one_more (ticked_next n old new k next is at ticks)
 
   pub lost-next : (n : ℕ) (old new : Entries) (k : Kept) → AreTicked n old new → slice_get (values_of new) n ≡ Some k
-      → sum_by lost (take (n + 1) old) ≡ sum_by lost (take n old) + removed_by_tick k.group moment
+      → sum_by lost (take (n + 1) old) ≡ sum_by lost (take n old) + removed_by_tick k.group.state moment
   lost-next n old new k is at =
       let one_more : n + 1 ≡ suc n = omega arith in
       ap (λ (i : ℕ). sum_by lost (take i old)) one_more ∙ lost_next n old new k is at
 
   -- what is known of each group stays known
   pub AreTicked-kept : (n : ℕ) (old new : Entries) (generation : Option ℕ) (image : Topics) → AreTicked n old new
-      → AllByRecursion (λ e. IsKept generation image e.1) old → AllByRecursion (λ e. IsKept generation image e.1) new
-  AreTicked-kept zero old new generation image is each = subst (λ (es : Entries). AllByRecursion (λ e. IsKept generation image e.1) es) (sym is) each
-  AreTicked-kept (suc n) [] new generation image is each = subst (λ (es : Entries). AllByRecursion (λ e. IsKept generation image e.1) es) (sym is) tt
+      → AllByRecursion (λ e. HasRightNumber generation image e.1) old → AllByRecursion (λ e. HasRightNumber generation image e.1) new
+  AreTicked-kept zero old new generation image is each = subst (λ (es : Entries). AllByRecursion (λ e. HasRightNumber generation image e.1) es) (sym is) each
+  AreTicked-kept (suc n) [] new generation image is each = subst (λ (es : Entries). AllByRecursion (λ e. HasRightNumber generation image e.1) es) (sym is) tt
   AreTicked-kept (suc n) (e ∷ es) [] generation image is each = absurd is
   AreTicked-kept (suc n) (e ∷ es) (f ∷ fs) generation image is each =
       (is.1.kept generation image each.0, AreTicked-kept n es fs generation image is.2 each.1)
@@ -126,9 +126,6 @@ module _ (moment : ℕ) where
   AreTicked-length (suc n) (e ∷ es) (f ∷ fs) is = ap suc (AreTicked-length n es fs is.2)
 
   -- ---- all groups, by their names
-
-  abbrev group_in : Kept → Group
-  group_in k = k.group
 
   abbrev entry_ticked : Text × Group → Text × Group
   entry_ticked e = (e.0, ticked e.1 moment)
@@ -194,7 +191,7 @@ module _ (moment : ℕ) where
   sum-groups (e ∷ es) distinct =
       let absent : finite.get (groups_of es) (string_bytes e.0) ≡ None = get-as_map group_in es (string_bytes e.0) ∙ ap (option_map group_in) (none_found group_in e.0 es distinct.0) in
       let there : find text_cmp (string_bytes e.0) (finite.entries (groups_of es)) ≡ None = sym (finite.get-entries (groups_of es) (string_bytes e.0)) ∙ absent in
-      ap (λ (x : List (Text × Group)). sum_by lost_by (map (λ y. y.1) x)) (finite.entries-insert text_cmp_total (groups_of es) (string_bytes e.0) e.1.group)
-      ∙ sum-put (string_bytes e.0) e.1.group (finite.entries (groups_of es)) there
-      ∙ ap (λ n. lost_by e.1.group + n) (sum-groups es distinct.1)
+      ap (λ (x : List (Text × Group)). sum_by lost_by (map (λ y. y.1) x)) (finite.entries-insert text_cmp_total (groups_of es) (string_bytes e.0) e.1.group.state)
+      ∙ sum-put (string_bytes e.0) e.1.group.state (finite.entries (groups_of es)) there
+      ∙ ap (λ n. lost_by e.1.group.state + n) (sum-groups es distinct.1)
       ∙ sym (sum_by-cons lost e es)

@@ -13,7 +13,7 @@ use Rattle.coord_node.specs.declared.kept.Kept.{Kept}
 use Rattle.coord_node.specs.declared.node.Node.TheInside.{Inside}
 use Rattle.coord_node.specs.Coordinator.{Coordinator, Groups}
 use Rattle.coord_node.specs.Answers.{succeeds}
-use Rattle.coord_node.specs.Kept.{IsKept}
+use Rattle.coord_node.specs.Kept.{HasRightNumber, group_in}
 
 -- in the order in which they were made
 abbrev pub Entries : Type 0
@@ -21,14 +21,14 @@ Entries = List (String Global × Kept)
 
 -- the groups by the bytes of their names
 abbrev pub groups_of : Entries → Groups
-groups_of entries = finite.from_entries (map (λ e. (string_bytes e.0, e.1.group)) entries)
+groups_of entries = finite.from_entries (map (λ e. (string_bytes e.0, group_in e.1)) entries)
 
 abbrev pub node_view : Inside → Coordinator
 node_view n = record { salt = n.salt; groups = groups_of n.groups.entries; image = n.image }
 
 -- what is known of each group
 abbrev pub AreKept : Inside → Type 0
-AreKept n = AllByRecursion (λ e. IsKept n.generation n.image e.1) n.groups.entries
+AreKept n = AllByRecursion (λ e. HasRightNumber n.generation n.image e.1) n.groups.entries
 
 -- what holds of every node
 pub record IsNode (n : Inside) : Type 0 where

@@ -8,6 +8,7 @@ use Rattle.group_types.specs.declared.code.Code.{Code}
 use Rattle.group_types.specs.declared.code.Code.TheVariants.{NoError, UnknownTopicOrPartition, OffsetMetadataTooLarge, CoordinatorNotAvailable, UnknownMemberId, InvalidRequest, GroupIdNotFound, GroupMaxSizeReached, FencedMemberEpoch, UnreleasedInstanceId, UnsupportedAssignor, StaleMemberEpoch}
 use Rattle.group_types.specs.declared.stamp.Stamp.{Stamp}
 use Rattle.group_types.specs.Text.{Text}
+use Rattle.group_types.specs.Images.{AreImageTopics}
 use Rattle.group_types.specs.Group.{Group, new_group}
 use Rattle.group_types.specs.Tick.{ticked, removed_by_tick}
 use Rattle.group_types.specs.Commit.{Commit, CommitReply, CommitStep, answers_by}
@@ -121,11 +122,12 @@ all_ticked groups moment = finite.from_entries (map (λ e. (e.0, ticked e.1 mome
 abbrev pub removed_from_all : Groups → ℕ → ℕ
 removed_from_all groups moment = sum_by (λ g. removed_by_tick g moment) (finite.values groups)
 
+-- every image is of topics of which an image's facts hold
 abbrev pub Step : Coordinator → Event → Answer → Coordinator → Type 0
 Step c (Frame body stamp moment) answer new = FrameStepBy RequestStep c body stamp moment answer new
 Step c (Tick moment) answer new =
     (answer ≡ Done (removed_from_all c.groups moment)) × (new ≡ record c { groups = all_ticked c.groups moment })
-Step c (Image topics) answer new = (answer ≡ Done 0) × (new ≡ record c { image = topics })
+Step c (Image topics) answer new = (answer ≡ Done 0) × (new ≡ record c { image = topics }) × AreImageTopics topics
 
 -- what an event does to a coordinator
 abbrev pub EventRelation : Type 1

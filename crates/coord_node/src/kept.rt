@@ -9,7 +9,7 @@ ghost use Rattle.group_epochs.specs.Request.{arrival_of, commit_of};
 ghost use Rattle.group_types.specs.HeartbeatStep.{HeartbeatStep};
 ghost use Rattle.group_core.specs.Commits.{Commits};
 ghost use Rattle.group_core.specs.Outcome.{answer_of};
-ghost use Rattle.coord_node.specs.Kept.{IsKept, is_same, known_after};
+ghost use Rattle.coord_node.specs.Kept.{HasRightNumber, group_in, is_same, known_after};
 ghost use Rattle.coord_node.specs.Answers.{IsSendable};
 
 use crate::success::is_success;
@@ -31,7 +31,7 @@ pub(crate) struct Kept {
 impl Kept {
     /// A new group, of whose view nothing is known. Takes no memory.
     pub(crate) fn new(alloc: Global, salt: u64, hasher: RandomState) -> Kept
-        ensures group { result.group ≡ new_group salt }
+        ensures group { group_in result ≡ new_group salt }
         ensures known { result.known ≡ None }
     {
         Kept {
@@ -51,12 +51,12 @@ impl Kept {
         generation: Option<u64>,
         out: &mut Vec<u8>,
     ) -> Result<Outcome<'a>, AllocError>
-        requires kept { IsKept generation image.now self.old }
+        requires kept { HasRightNumber generation image.now self.old }
         requires id { length request.now.member_id.now ≤ LONGEST_STRING }
-        ensures step { IfOk result (λ outcome. HeartbeatStep self.old.group
-            (arrival_of (heartbeat_request_value request.now) stamp now image.now) (answer_of outcome) self.new.group) }
+        ensures step { IfOk result (λ outcome. HeartbeatStep (group_in self.old)
+            (arrival_of (heartbeat_request_value request.now) stamp now image.now) (answer_of outcome) (group_in self.new)) }
         ensures sendable { IfOk result (λ outcome. IsSendable (answer_of outcome) (vec_capacity out.new - length out.new.items)) }
-        ensures kept { IsKept generation image.now self.new }
+        ensures kept { HasRightNumber generation image.now self.new }
         ensures out { out.new.items ≡ out.old.items }
         ensures err { OnErr result (self.new ≡ self.old) }
     {
@@ -75,9 +75,9 @@ impl Kept {
         request: &CommitRequest<'a>,
         image: &Image,
     ) -> Result<CommitReply<'a>, AllocError>
-        ensures step { IfOk result (λ reply. Commits self.old.group (commit_of (commit_request_value request.now)) image.now
-            (commit_reply_value reply) self.new.group) }
-        ensures kept { (generation : Option ℕ) → IsKept generation image.now self.old → IsKept generation image.now self.new }
+        ensures step { IfOk result (λ reply. Commits (group_in self.old) (commit_of (commit_request_value request.now)) image.now
+            (commit_reply_value reply) (group_in self.new)) }
+        ensures kept { (generation : Option ℕ) → HasRightNumber generation image.now self.old → HasRightNumber generation image.now self.new }
         ensures err { OnErr result (self.new ≡ self.old) }
     {
         self.group.commit(request, image)
@@ -86,10 +86,10 @@ impl Kept {
     /// The group meets the moment. Where members were removed, they may have been the last ones that subscribed a topic. Says how
     /// many. Takes no memory.
     pub(crate) fn tick(&mut self, now: Moment) -> usize
-        ensures group { self.new.group ≡ ticked self.old.group now }
-        ensures removed { result ≡ removed_by_tick self.old.group now }
+        ensures group { group_in self.new ≡ ticked (group_in self.old) now }
+        ensures removed { result ≡ removed_by_tick (group_in self.old) now }
         ensures few { result ≤ MOST_MEMBERS }
-        ensures kept { (generation : Option ℕ) (image : Topics) → IsKept generation image self.old → IsKept generation image self.new }
+        ensures kept { (generation : Option ℕ) (image : Topics) → HasRightNumber generation image self.old → HasRightNumber generation image self.new }
     {
         // so that the group is known to have no more members than the most
         let _ = self.group.epoch();

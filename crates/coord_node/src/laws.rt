@@ -1,6 +1,6 @@
 //! Laws of the coordinator's steps, proved where nothing runs.
 ghost use Rattle.coord_node.specs.Existence.{CoordinatorsServe, EventsAreAnswered, RunsAreAnswered};
-ghost use Rattle.coord_node.specs.Laws.{AnswersFirstJoins, GroupsAreSound, OneAnswer, StepsAreSound};
+ghost use Rattle.coord_node.specs.Laws.{AnswersFirstJoins, GroupsAreSound, OneAnswer, RepliesFit, StepsAreSound};
 ghost use Rattle.coord_node.specs.Steps.{Step};
 
 use group_core::{heartbeats_have_an_answer, heartbeats_have_one_answer};
@@ -23,7 +23,12 @@ pub fn path_is_answered()
     one_request_a_body();
 }
 
-/// An event leaves sound groups where there were sound ones.
+/// The frame of a reply is never longer than the bytes that are reserved for it before its step.
+pub fn replies_fit()
+    ensures { RepliesFit }
+{}
+
+/// An event leaves a coordinator that serves where there was one: its groups are sound, and its topics are an image's.
 pub fn steps_are_sound()
     ensures { StepsAreSound Step }
 {

@@ -23,7 +23,7 @@ pub use event::{Answered, NodeEvent};
 pub use group_core::{Group, Image, Moment, Stamp};
 pub use laws::{
     coordinators_serve, events_are_answered, groups_are_sound, one_answer, path_is_answered,
-    runs_are_answered, steps_are_sound,
+    replies_fit, runs_are_answered, steps_are_sound,
 };
 pub use node::Node;
 pub use parsed::ParsedBody;

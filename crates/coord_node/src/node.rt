@@ -1,11 +1,12 @@
 //! The node and its answers.
 ghost use Rattle.std.specs.Prelude.{◌≡◌, ◌↔◌, ◌+◌, ◌-◌, ◌≤◌, IfOk, OnOk, OnErr, IsTrue, None, length, vec_capacity};
-ghost use Rattle.std.specs.Option.{option_copied};
+ghost use Rattle.std.specs.Option.{option_copied, option_map};
 ghost use Rattle.std.specs.FinMap as finite;
 ghost use Rattle.kip_msgs.specs.Values.{RequestValue};
 ghost use Rattle.kip_msgs.specs.Spelling.{commit_request_fields, request_body, FitsCommitRequest, FitsRequest, SpellsRequest};
 ghost use Rattle.kip_msgs.specs.Views.{commit_reply_value, commit_request_value, heartbeat_request_value, request_value};
 ghost use Rattle.group_types.specs.Limits.{SMALLEST_BODY as FEWEST_BYTES, LARGEST_BODY as MOST_BYTES, LONGEST_STRING};
+ghost use Rattle.group_types.specs.Images.{AreImageTopics};
 ghost use Rattle.group_epochs.specs.Request.{arrival_of};
 ghost use Rattle.group_core.specs.Outcome.{answer_of};
 ghost use Rattle.coord_node.specs.Coordinator.{opening, Done, Frame, Tick, is_remembered_at};
@@ -78,8 +79,11 @@ impl Node {
 
     /// Replaces the image. Each group meets it at its next accepted heartbeat. Takes no memory.
     pub fn set_image(&mut self, image: Image)
-        ensures { self.new ≡ record self.old { image = image } }
+        ensures value { self.new ≡ record self.old { image = image } }
+        ensures sound { AreImageTopics image }
     {
+        // so that its topics are known to be an image's
+        let _ = image.len();
         self.image = image;
         self.generation = match self.generation {
             Some(number) => number.checked_add(1),
@@ -89,7 +93,7 @@ impl Node {
 
     /// The group of a name, where the node has it.
     pub fn group(&self, name: &str) -> Option<&Group>
-        ensures { option_copied result ≡ finite.get self.now.groups name.now }
+        ensures { option_map (λ g. g.state) (option_copied result) ≡ finite.get self.now.groups name.now }
     {
         match self.groups.get(name) {
             Some(kept) => Some(&kept.group),

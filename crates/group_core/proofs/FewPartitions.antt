@@ -5,10 +5,8 @@ use Rattle.std.specs.Cmp.{eq_by_cmp_equiv}
 use Rattle.std.specs.List.{list_any}
 use Rattle.std.specs.Option.{MatchOption}
 use Rattle.std.specs.FinMap as finite
-use Rattle.std.proofs.lemmas.Bool.{lt-ltb}
 use Rattle.std.proofs.lemmas.Bool.Decides.{nat_tests}
 use Rattle.std.proofs.lemmas.List.Sums.{sum_by-cons}
-use Rattle.std.proofs.Common.{nat_lt}
 use Rattle.group_types.specs.declared.partition.Partition.{Partition}
 use Rattle.group_types.specs.Limits.{MOST_PARTITIONS}
 use Rattle.group_types.specs.Text.{Text, text_cmp}
@@ -20,17 +18,13 @@ use Rattle.std.specs.Cmp.{second_so}
 use Rattle.group_types.specs.Partition.{partition_cmp, Partitions}
 use Rattle.group_types.specs.Topics.{Topic, Topics}
 use Rattle.group_types.specs.Assignors.{Subscriber}
-use Rattle.group_types.specs.Owners.{Spread, IsIndex, IsLawful, IsSubscriber, share_of}
+use Rattle.group_types.specs.Owners.{Spread, is_index, IsLawful, IsSubscriber, share_of}
 use Rattle.group_types.proofs.Orders.{text_cmp_total, partition_cmp_total, partition_cmp-IsAntisymmetric}
 use Rattle.group_types.proofs.SetLemmas.{has-common, has-nothing, has-without, size-nothing, size-without, same_set}
 use Rattle.group_types.proofs.SpreadLemmas.{has-share_of, owns-get}
-use Rattle.topic_meta.specs.Facts.{AreImageTopics}
+use Rattle.group_types.proofs.Indexes.{index_of}
+use Rattle.group_types.specs.Images.{AreImageTopics}
 use Rattle.group_types.proofs.GrantLemmas.{both_equal}
-
--- an index of a topic with so many partitions
-abbrev is_index : ℤ → ℕ → Bool
-is_index (pos i) count = nat_lt i count
-is_index (negsuc i) count = false
 
 -- the partition is one of the topic with the id, of which there are so many
 abbrev is_of_topic : List ℕ → ℕ → Partition → Bool
@@ -114,14 +108,10 @@ entry_passes test k v (e ∷ es) is so =
       | false ↦ λ there. ap (λ b. test e.1 || b) (entry_passes test k v es there so) ∙ or_true (test e.1)
     ] is
 
-index_says : (z : ℤ) (count : ℕ) → IsIndex z count → is_index z count ≡ true
-index_says (pos i) count so = lt-ltb i count so
-index_says (negsuc i) count so = absurd so
-
 is_one_of_view : (view : Topics) (p : Partition) → IsOfView view p → is_of_topics (finite.entries view) p ≡ true
 is_one_of_view view p of =
     entry_passes (λ t. is_of_topic t.id t.count p) of.name of.topic (finite.entries view) (sym (finite.get-entries view of.name) ∙ of.is_topic)
-    ((λ i. eq_by_cmp text_cmp (of.same_id i) of.topic.id && index_says p.index of.topic.count of.index i) ∙ ap (λ b. b && true) ((eq_by_cmp_equiv text_cmp_total).refl of.topic.id))
+    ((λ i. eq_by_cmp text_cmp (of.same_id i) of.topic.id && of.index i) ∙ ap (λ b. b && true) ((eq_by_cmp_equiv text_cmp_total).refl of.topic.id))
 
 -- an owner subscribes its partition
 pub owner_subscribes : (view : Topics) (subs : List Subscriber) (spread : Spread) → IsLawful view subs spread → (p : Partition) (id : Text) → finite.get spread p ≡ Some id → IsSubscriber view subs p id
@@ -138,11 +128,8 @@ few_shown view owners id held image of =
     is_one_of_view view p (share_of_view view owners id of p (second_so (has held p) _ (sym (has-common partition_cmp_total held (share_of owners id) p) ∙ there)))) in
     omega (arith, few, image.few_partitions)
 
-from_zero : (z : ℤ) (count : ℕ) → IsIndex z count → (i : ℕ) × (z ≡ pos i)
-from_zero (pos i) count is = (i, refl)
-from_zero (negsuc i) count is = absurd is
-
 -- what a member owns has indexes from 0 on
 pub are_indexed : (view : Topics) (owners : Spread) (id : Text) → AreOfView owners view → AreIndexed (share_of owners id)
 are_indexed view owners id of p there =
-    let there = share_of_view view owners id of p there in from_zero p.index there.topic.count there.index
+    let there = share_of_view view owners id of p there in
+    let at = index_of p.index there.topic.count there.index in (at.0, at.1)

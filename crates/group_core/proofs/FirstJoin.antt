@@ -1,5 +1,5 @@
 -- The first join of a group that nobody has joined, in one closed form.
-use Rattle.std.proofs.Common.{◌≡◌, ℕ, suc, pos, negsuc, max, Bool, true, false, cond, not, ◌||◌, ◌&&◌, ◌==◌, is_some, [], map, refl, sym, ap, subst, ◌∙◌, Option, Some, None, arith, ne_eqb}
+use Rattle.std.proofs.Common.{◌≡◌, ℕ, suc, pos, negsuc, max, true, false, cond, not, ◌||◌, ◌&&◌, ◌==◌, is_some, [], map, refl, sym, ap, subst, ◌∙◌, Some, None, arith, ne_eqb}
 use Rattle.std.specs.List.{list_any}
 use Rattle.std.specs.FinMap as finite
 use lib.Dec.{eqb-zero-suc}

@@ -18,7 +18,6 @@ pub mod Renamings
 pub mod SoleMember
 pub mod Answered
 pub mod ListingLemmas
-pub mod GrowthLemmas
 pub mod Granted
 pub mod Verdicts
 pub mod Kept
@@ -30,3 +29,4 @@ pub mod Marking
 pub mod Ticking
 pub mod SomeTarget
 pub mod SomeStep
+pub mod Sinces

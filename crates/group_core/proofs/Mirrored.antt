@@ -1,5 +1,5 @@
 -- A target under other ids: where each id has another one, and that one this, owners are owners under them.
-use Rattle.std.proofs.Common.{◌≡◌, ◌≢◌, ℕ, suc, ◌+◌, ◌<◌, ◌≤◌, Bool, true, false, cond, List, [], ◌∷◌, map, length, filter, Option, Some, None, refl, sym, ap, subst, ◌∙◌, arith, nat_lt}
+use Rattle.std.proofs.Common.{◌≡◌, ℕ, Bool, true, false, cond, List, [], ◌∷◌, map, length, filter, Option, Some, None, refl, sym, ap, subst, ◌∙◌, arith, nat_lt}
 use Rattle.std.specs.List.{Contains, slice_get}
 use Rattle.std.specs.Option.{MatchOption, option_map}
 use Rattle.std.specs.Ordering.{eq_by_cmp}
@@ -18,9 +18,9 @@ use Rattle.group_types.specs.Owners.{IsRange, IsRangeOwner, IsShare, IsSubscribe
 use Rattle.group_types.specs.Uniform.{AreFilled, AreMoves, CanMove, Fills, GoesTo, IsFewest, IsKept, IsLevel, IsNextMove, IsUniform, count, in_partition_order}
 use Rattle.group_types.specs.Renewal.{AreOwners}
 use Rattle.group_types.proofs.Lookups.{Tie, ties, differs, tie, text_ties}
-use Rattle.group_types.proofs.Orders.{partition_cmp_total, partition_cmp-IsAntisymmetric}
+use Rattle.group_types.proofs.Orders.{partition_cmp_total}
 use Rattle.group_types.proofs.SpreadLemmas.{has-share_of, owns-get}
-use Rattle.uniform_assign.proofs.Lists.{Contains-at, at_Contains, option_map-from, slice_get-map_at, slice_get-map_from}
+use Rattle.uniform_assign.proofs.Lists.{Contains-at, at_Contains, slice_get-map_at, slice_get-map_from}
 use Rattle.uniform_assign.proofs.Owned.{count-share}
 use Rattle.uniform_assign.proofs.Owners.{same_owners}
 

@@ -1,10 +1,10 @@
 -- A target that is renewed once a member has another id is the target that is renewed before, renamed: the member order is
 -- by the instance, which stays.
-use Rattle.std.proofs.Common.{◌≡◌, ◌≢◌, ℕ, ◌+◌, ◌<◌, ◌≤◌, Bool, true, false, cond, List, [], ◌∷◌, map, length, get_or, Option, Some, None, is_some, IsTrue, refl, sym, ap, subst, ◌∙◌, arith, true≢false}
+use Rattle.std.proofs.Common.{◌≡◌, ◌≢◌, ◌+◌, Bool, true, false, cond, List, [], ◌∷◌, map, length, Option, Some, None, is_some, IsTrue, refl, sym, ap, subst, ◌∙◌, arith, true≢false}
 use Rattle.std.specs.declared.cmp.Ordering.{Ordering}
 use Rattle.std.specs.declared.cmp.Ordering.TheVariants.{Less, Equal, Greater}
 use Rattle.std.specs.Ordering.{eq_by_cmp, is_eq, is_lt, ordering_then}
-use Rattle.std.specs.List.{All, AllByRecursion, slice_get}
+use Rattle.std.specs.List.{All, AllByRecursion}
 use Rattle.std.specs.List.Sorted.{IsPermutation, IsSorted}
 use Rattle.std.specs.Option.{option_map}
 use Rattle.std.specs.Str.{bytes_eq}
@@ -18,10 +18,10 @@ use Rattle.std.proofs.lemmas.Slice.Eq.{bytes_eq-Decides}
 use Rattle.group_types.specs.declared.partition.Partition.{Partition}
 use Rattle.group_types.specs.Text.{Text, text_cmp}
 use Rattle.group_types.specs.Topics.{Topics}
-use Rattle.group_types.specs.Assignors.{Subscriber, assignor_of, instance_cmp, member_cmp}
+use Rattle.group_types.specs.Assignors.{Subscriber, instance_cmp, member_cmp}
 use Rattle.group_types.specs.Owners.{Spread, renamed, renamed_id}
 use Rattle.group_types.specs.Group.{Record, Records, Target}
-use Rattle.group_types.specs.Renewal.{AreMembers, AreOwners, IsTarget, subscriber_of}
+use Rattle.group_types.specs.Renewal.{AreMembers, IsTarget, subscriber_of}
 use Rattle.group_types.proofs.Entries.{entries_found}
 use Rattle.group_types.proofs.Lookups.{Tie, ties, differs, tie, Found, this, another, found, not_none, some_is, text_ties}
 use Rattle.group_types.proofs.Orders.{text_cmp_total, text_cmp-IsAntisymmetric, text_cmp-itself}

@@ -8,7 +8,6 @@ use Rattle.std.specs.Str.{bytes_eq}
 use Rattle.std.specs.FinMap as finite
 use Rattle.std.proofs.lemmas.Slice.Eq.{bytes_eq-Decides}
 use Rattle.group_types.specs.declared.partition.Partition.{Partition}
-use Rattle.group_types.specs.declared.stamp.Stamp.{Stamp}
 use Rattle.group_types.specs.Text.{Text, text_cmp}
 use Rattle.group_types.specs.Sets.{common, has, in_order, minus}
 use Rattle.group_types.specs.Partition.{Partitions, partition_cmp}
@@ -16,13 +15,14 @@ use Rattle.group_types.specs.Topics.{Topics}
 use Rattle.group_types.specs.Request.{Heartbeat, is_full, reported}
 use Rattle.group_types.specs.Owners.{Spread, renamed, renamed_id}
 use Rattle.group_types.specs.Group.{Grant, Grants, Group, Past, Record, Records, grant_cmp, held, wanted}
-use Rattle.group_types.specs.Members.{members_of, remembering, taken_over, with_members, without_past}
+use Rattle.group_types.specs.Members.{remembering, without_past}
 use Rattle.group_types.specs.Settle.{grants_after, grants_of_others, granting, is_free_for, may_move, may_settle, moved, settled, settled_by, settled_record}
 use Rattle.group_types.specs.Renewal.{IsChange, IsTarget, Renews, RenewsWhere, changed_if, view_for}
-use Rattle.group_types.specs.Join.{IsNamed, Name, record_of_join}
-use Rattle.group_types.specs.Checks.{Member, Sender, Verdict, Accepted, Refused, Overtaken, sender_of, record_under, other_with}
-use Rattle.group_types.specs.HeartbeatStep.{Answer, Arrival, ByVerdict, Draft, Replied, Stages, TakesIn, acceptance, assignment_of, draft_under, handed_over, is_news, sent_after, shown, verdict_on_change, with_record_at}
+use Rattle.group_types.specs.Join.{record_of_join}
+use Rattle.group_types.specs.Checks.{Member, Verdict, Accepted, Refused, Overtaken, sender_of, record_under, other_with}
+use Rattle.group_types.specs.HeartbeatStep.{Answer, ByVerdict, Draft, Replied, Stages, TakesIn, acceptance, assignment_of, draft_under, handed_over, is_news, sent_after, shown, verdict_on_change, with_record_at}
 use Rattle.group_types.specs.Sound.{IsSound}
+use Rattle.group_types.proofs.Consistent.{IsConsistent, consistent}
 use Rattle.group_types.proofs.GrantLemmas.{free_is, grant_cmp_total, grant_cmp-IsAntisymmetric, has-granting, has-held, has-moved, has-others}
 use Rattle.group_types.proofs.Lookups.{Tie, ties, differs, tie, Found, this, another, found, found_without, get-inserted, none_without, not_none, removed_is_none, some_is, text_ties}
 use Rattle.group_types.proofs.Orders.{partition_cmp_total, partition_cmp-IsAntisymmetric, text_cmp_total, text_cmp-IsAntisymmetric}
@@ -30,7 +30,7 @@ use Rattle.group_types.proofs.PastLemmas.{not_past}
 use Rattle.group_types.proofs.Senders.{named_fresh, other_is}
 use Rattle.group_types.proofs.SetLemmas.{has-in_order, same_set}
 use Rattle.group_types.proofs.SpreadLemmas.{get-renamed, has-share_of}
-use Rattle.group_types.proofs.TakeOvers.{taken_over_is_sound}
+use Rattle.group_types.proofs.TakeOvers.{taken_over_is_consistent}
 use Rattle.group_core.specs.CodeOrder.{Heir, LateDraft, LateStages, TakesInLate, late_draft_under, renamed_last}
 use Rattle.group_core.specs.Laws.{RenamingMayComeLast}
 use Rattle.group_core.proofs.HandOvers.{insert-removed, remove-inserted, view_for-heir}
@@ -281,7 +281,7 @@ module _ (g : Group) (sound : IsSound g) (old : Member) (heir : Text) (there : f
 
   first_past : without_past PastThen heir ≡ remembering (without_past (without_past g.past O) heir) O old.kept.stamp
   first_past =
-      let over : IsSound (handed_over g old heir) = taken_over_is_sound g sound O heir old.kept old.kept old.kept.stamp there is_new has_id refl refl in
+      let over : IsConsistent (handed_over g old heir) = taken_over_is_consistent g (consistent g sound) O heir old.kept old.kept old.kept.stamp there is_new has_id refl refl in
       kept_past PastThen heir (not_past (finite.insert Rest heir old.kept) PastThen heir old.kept over.past (get-inserted Rest heir old.kept))
       ∙ ap (λ (past : Past). remembering (without_past past heir) O old.kept.stamp) (sym (kept_past g.past O (not_past g.records g.past O old.kept sound.past there)))
 

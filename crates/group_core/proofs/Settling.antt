@@ -1,5 +1,5 @@
 -- The stages of a draft are the machine's, once its target was renewed.
-use Rattle.std.proofs.Common.{◌≡◌, ℕ, ◌||◌, Option, Some, None, refl, sym, ap, subst, ◌∙◌}
+use Rattle.std.proofs.Common.{◌≡◌, ℕ, ◌||◌, Option, Some, None, refl, sym, ap, ◌∙◌}
 use Rattle.std.specs.FinMap as finite
 use Rattle.std.specs.Option.{IfSome}
 use Rattle.group_types.specs.Topics.{Topics}

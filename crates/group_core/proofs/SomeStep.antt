@@ -1,5 +1,5 @@
 -- A heartbeat has an answer in every group: each stage of the machine's step has its value.
-use Rattle.std.proofs.Common.{◌≡◌, ℕ, ◌+◌, ◌-◌, ◌^◌, Bool, true, false, cond, is_some, is_none, List, [], ◌∷◌, Option, Some, None, max, ◌==◌, inl, inr, refl, sym, ap, subst, ◌∙◌, arith, true≢false}
+use Rattle.std.proofs.Common.{◌≡◌, ℕ, ◌+◌, ◌-◌, ◌^◌, Bool, true, false, cond, is_none, List, [], ◌∷◌, Option, Some, None, max, ◌==◌, inl, inr, refl, sym, ap, subst, ◌∙◌, arith, true≢false}
 use Rattle.std.specs.FinMap as finite
 use Rattle.std.specs.Option.{MatchOption, option_map}
 use Rattle.group_types.specs.declared.assignor_name.AssignorName.{AssignorName}
@@ -7,10 +7,10 @@ use Rattle.group_types.specs.declared.assignor_name.AssignorName.TheVariants.{Ra
 use Rattle.group_types.specs.declared.stamp.Stamp.{Stamp}
 use Rattle.group_types.specs.declared.code.Code.TheVariants as codes
 use Rattle.group_types.specs.Text.{Text, text_cmp}
-use Rattle.group_types.specs.Sets.{has, of_list}
-use Rattle.group_types.specs.Topics.{Topic, Topics, view_of}
+use Rattle.group_types.specs.Topics.{Topic, Topics}
+use Rattle.group_types.specs.Images.{AreImageTopics}
 use Rattle.group_types.specs.MemberId.{made_id}
-use Rattle.group_types.specs.Request.{Heartbeat, Kind, Joins, Beats, Leaves, GoesAway, MeansNothing, is_full, kind_of, reported}
+use Rattle.group_types.specs.Request.{Heartbeat, Kind, Joins, Beats, Leaves, GoesAway, MeansNothing, kind_of, reported}
 use Rattle.group_types.specs.Group.{Group, Record}
 use Rattle.group_types.specs.Members.{is_remembered, members_of}
 use Rattle.group_types.specs.Settle.{may_settle, settled, settled_by, settled_record}
@@ -19,11 +19,9 @@ use Rattle.group_types.specs.Join.{IsNamed, IsSerial, Name, name_of_serial}
 use Rattle.group_types.specs.Renewal.{IsChange, IsUnchanged, RenewsWhere, changed_if, is_subscribed, view_for}
 use Rattle.group_types.specs.Checks.{Member, Sender, Verdict, Accepted, Refused, Overtaken, is_another, sender_of, verdict_on}
 use Rattle.group_types.specs.HeartbeatStep.{Answer, Arrival, BeatsWith, ByVerdict, Draft, GoesAwayWith, IsRefused, Stages, StepOf, TakesIn, draft_of_beat, draft_of_join, draft_under, verdict_on_change}
+use Rattle.group_types.proofs.Images.{retained-AreImageTopics}
+use Rattle.group_types.proofs.KeptViews.{changed_view}
 use Rattle.group_types.proofs.Lookups.{get-inserted}
-use Rattle.group_types.proofs.Orders.{text_cmp_total, text_cmp-IsAntisymmetric}
-use Rattle.group_types.proofs.SetLemmas.{has-of_list}
-use Rattle.topic_meta.specs.Facts.{AreImageTopics}
-use Rattle.topic_meta.proofs.Found.{get-view_of, view_of-AreImageTopics}
 use Rattle.uniform_assign.proofs.Choices.{Decided, decided_both, first_below}
 use Rattle.uniform_assign.proofs.Counts.{cases_equal}
 use Rattle.uniform_assign.proofs.Keeping.{decided_text}
@@ -87,39 +85,6 @@ decided_unchanged before after stored present =
 is_change_or_not : (before : Option Record) (after : Record) (stored view : Topics) → (change : Bool) × IsChange change before after stored view
 is_change_or_not None after stored view = (true, refl)
 is_change_or_not (Some before) after stored view = elim (decided_unchanged before after stored view) [ inl same ↦ (false, same) | inr other ↦ (true, other) ]
-
--- ---- a view of an image
-
-module _ (image : Topics) (records : finite.FinMap text_cmp Record) where
-  abbrev test : Text → Bool
-  test = is_subscribed records
-
-  abbrev kept : Topics
-  kept = view_for image records
-
-  pub get-kept : (q : Text) → finite.get kept q ≡ cond (test q) (finite.get image q) None
-  get-kept q = finite.get-retain_keys image test q (λ x tie. ap test (sym (text_cmp-IsAntisymmetric q x tie)))
-
-  abbrev kept_names : finite.FinMap text_cmp (Unit {0})
-  kept_names = of_list (finite.keys kept)
-
-  has-kept : (q : Text) → has kept_names q ≡ is_some (cond (test q) (finite.get image q) None)
-  has-kept q = has-of_list text_cmp_total (finite.keys kept) q ∙ sym (finite.contains_key-keys kept q) ∙ ap is_some (get-kept q)
-
-  twice : (b : Bool) (o : Option Topic) → cond (is_some (cond b o None)) o None ≡ cond b o None
-  twice true None = refl
-  twice true (Some t) = refl
-  twice false o = refl
-
-  same_view : view_of image kept_names ≡ kept
-  same_view = finite.same_map text_cmp_total text_cmp-IsAntisymmetric _ _ (λ q.
-      get-view_of image kept_names q
-      ∙ ap (λ b. cond b (finite.get image q) None) (has-kept q)
-      ∙ twice (test q) (finite.get image q)
-      ∙ sym (get-kept q))
-
-  pub view_for-AreImageTopics : AreImageTopics image → AreImageTopics kept
-  view_for-AreImageTopics are = subst AreImageTopics same_view (view_of-AreImageTopics image kept_names are)
 
 -- ---- the id
 
@@ -198,10 +163,6 @@ record IsBegun (g : Group) (d : Draft) : Type 0 where
   pub recorded : HasRecord d.group d.id
   pub view : d.group.view ≡ g.view
 
-changed_view : (change : Bool) (g : Group) (view : Topics) → AreImageTopics g.view → AreImageTopics view → AreImageTopics (changed_if change g view).view
-changed_view true g view stored present = present
-changed_view false g view stored present = stored
-
 changed_record : (change : Bool) (g : Group) (view : Topics) (m : Text) → HasRecord g m → HasRecord (changed_if change g view) m
 changed_record true g view m has = has
 changed_record false g view m has = has
@@ -211,7 +172,7 @@ takes_in g d q image stored are begun =
     let view : Topics = view_for image d.group.records in
     let (change, is) = is_change_or_not d.before d.after g.view view in
     let changed : Group = changed_if change d.group view in
-    let good : AreImageTopics changed.view = changed_view change d.group view (subst AreImageTopics (sym begun.view) stored) (view_for-AreImageTopics image d.group.records are) in
+    let good : AreImageTopics changed.view = changed_view change d.group view (subst AreImageTopics (sym begun.view) stored) (retained-AreImageTopics image (is_subscribed d.group.records) are) in
     let taken = by_verdict (verdict_on_change change g.epoch) (Stages changed d q) g (λ so. stages changed d q good (changed_record change d.group view d.id begun.recorded)) in
     record { answer = taken.answer; new = taken.new; step = record { change = change; is_change = is; step = taken.step } }
 

@@ -1,5 +1,5 @@
 -- There is a target, over the topics of an image.
-use Rattle.std.proofs.Common.{◌≡◌, ℕ, zero, suc, ◌<◌, ◌+◌, ℤ, pos, negsuc, Bool, true, false, cond, List, [], ◌∷◌, map, length, get_or, refl, sym, ap, subst, ◌∙◌, arith, inl, inr, Option, Some, None}
+use Rattle.std.proofs.Common.{◌≡◌, ℕ, zero, suc, ◌<◌, ◌+◌, ℤ, pos, negsuc, Bool, true, false, cond, List, [], ◌∷◌, map, length, get_or, refl, sym, ap, ◌∙◌, arith, inl, inr, Option, Some, None}
 use Rattle.std.specs.declared.cmp.Ordering.{Ordering}
 use Rattle.std.specs.declared.cmp.Ordering.TheVariants.{Less, Equal, Greater}
 use Rattle.std.specs.Cmp.{IsTotalOrder}
@@ -17,11 +17,12 @@ use Rattle.group_types.specs.Text.{Text}
 use Rattle.group_types.specs.Partition.{partition_cmp}
 use Rattle.group_types.specs.Topics.{Topic, Topics}
 use Rattle.group_types.specs.Assignors.{IdsAreApart, Subscriber, assignor_of, member_cmp, subscribers_of}
-use Rattle.group_types.specs.Owners.{IsIndex, IsRange, IsRangeOwner, Spread, range_place}
+use Rattle.group_types.specs.Owners.{IsRange, IsRangeOwner, Spread, range_place}
 use Rattle.group_types.specs.Uniform.{in_partition_order}
 use Rattle.group_types.specs.Group.{Records}
 use Rattle.group_types.specs.Renewal.{AreMembers, AreOwners, subscriber_of}
-use Rattle.topic_meta.specs.Facts.{AreImageTopics}
+use Rattle.group_types.proofs.Indexes.{index_below}
+use Rattle.group_types.specs.Images.{AreImageTopics}
 use Rattle.range_assign.proofs.Apart.{IdsAreApart-permutation}
 use Rattle.range_assign.proofs.MemberOrder.{member_cmp_total}
 use Rattle.uniform_assign.proofs.Apart.{AreApart-view}
@@ -106,9 +107,6 @@ module _ (view : Topics) (subs : List Subscriber) where
   abbrev dealt : Spread
   dealt = dealt_by owner_under_range (in_partition_order view)
 
-  index_within : (z : ℤ) (i count : ℕ) → z ≡ pos i → i < count → IsIndex z count
-  index_within z i count is low = subst (λ z. IsIndex z count) (sym is) low
-
   from_dealt : (p : Partition) (id : Text) → IsDealt owner_under_range (in_partition_order view) p id → IsRangeOwner view subs p id
   from_dealt p id is =
       let of : IsOfTopic view is.part = part_from view is.place is.part is.is_part in
@@ -129,7 +127,7 @@ module _ (view : Topics) (subs : List Subscriber) where
 
   to_dealt : AreImageTopics view → (p : Partition) (id : Text) → IsRangeOwner view subs p id → finite.get dealt p ≡ Some id
   to_dealt image p id is =
-      let (k, there) = part_at view is.name p is.topic is.of_view is.same_id (index_within p.index is.index is.topic.count is.is_index is.below) in
+      let (k, there) = part_at view is.name p is.topic is.of_view is.same_id (index_below p.index is.index is.topic.count is.is_index is.below) in
       let owned : owner_of_index is.name (finite.get view is.name) p.index ≡ Some id =
       (λ i. owner_of_index is.name (is.of_view i) (is.is_index i)) ∙ ap (option_map (λ (m : Subscriber). m.id)) is.place ∙ ap Some is.same_owner in
       dealt_to owner_under_range (in_partition_order view) (AreApart-view view image) k (is.name, p) p id there refl owned

@@ -1,13 +1,14 @@
 -- The checks on the request alone come first, and what they let through meets the others.
-use Rattle.std.proofs.Common.{◌≡◌, ◌≢◌, ℕ, zero, suc, is_none, Err, subst, true≢false, Option, Some, None, sym, ℤ, pos, negsuc, Bool, true, false, cond, ◌&&◌, ◌||◌, List, [], ◌∷◌, refl, ap, ◌∙◌, int_le}
+use Rattle.std.proofs.Common.{◌≡◌, ℕ, zero, suc, is_none, Err, subst, true≢false, Option, Some, None, sym, ℤ, pos, negsuc, Bool, true, false, cond, ◌&&◌, ◌||◌, [], ◌∷◌, refl, ap, ◌∙◌, int_le}
 use Rattle.std.specs.FinMap as finite
 use Rattle.group_types.specs.declared.code.Code.{Code}
 use Rattle.group_types.specs.declared.code.Code.TheVariants as codes
 use Rattle.group_types.specs.declared.stamp.Stamp.{Stamp}
-use Rattle.group_types.specs.Request.{Heartbeat, Kind, Joins, Beats, Leaves, GoesAway, MeansNothing, kind_of, is_empty, is_invalid, is_invalid_as, is_unknown, is_unsupported}
+use Rattle.group_types.specs.Request.{Heartbeat, Joins, Beats, Leaves, GoesAway, kind_of, is_empty, is_invalid, is_invalid_as, is_unknown, is_unsupported}
 use Rattle.group_types.specs.Group.{Group, Record}
-use Rattle.group_types.specs.Checks.{Check, Member, Verdict, Accepted, Refused, Overtaken, Sender, are_granted, checks_of, first_of, is_fenced, is_of_past, is_overtaken, is_too_many, is_unreleased, verdict_on}
+use Rattle.group_types.specs.Checks.{Member, Verdict, Accepted, Refused, Overtaken, Sender, are_granted, first_of, is_fenced, is_of_past, is_overtaken, is_too_many, is_unreleased, verdict_on}
 use Rattle.group_types.specs.Members.{members_of}
+use Rattle.group_types.proofs.Checked.{overtaken_not, passed, refused_not}
 use Rattle.group_epochs.specs.declared.refusal.Refusal.{Refusal}
 use Rattle.group_epochs.specs.declared.refusal.Refusal.TheVariants as refusals
 use Rattle.group_epochs.specs.Checks.{verdict_of, verdict_on_join, verdict_on_member, verdict_on_own}
@@ -52,9 +53,10 @@ refused_by_request (negsuc (suc (suc n))) q at code is sender g stamp =
 -- ---- a request that is let through meets the other checks
 
 passes : (a b : Bool) → first_of ((a, Refused codes.InvalidRequest) ∷ (b, Refused codes.UnsupportedAssignor) ∷ []) ≡ Accepted → (a ≡ false) × (b ≡ false)
-passes true b is = absurd (cc)
-passes false true is = absurd (cc)
-passes false false is = (refl, refl)
+passes a b is =
+    let valid = passed Accepted _ _ _ (refused_not codes.InvalidRequest) is in
+    let supported = passed Accepted _ _ _ (refused_not codes.UnsupportedAssignor) valid.1 in
+    (valid.0, supported.0)
 
 and_accepted : (v : Verdict) → v ≡ and_then v Accepted
 and_accepted Accepted = refl
@@ -107,74 +109,24 @@ stops refusals.Overtaken v later is = subst (λ x. Overtaken ≡ and_then x late
 
 -- ---- an accepted beat
 
-unknown_stops : (a b : Bool) (rest : Verdict) → cond a (Refused codes.InvalidRequest) (cond b (Refused codes.UnsupportedAssignor) (cond true (Refused codes.UnknownMemberId) rest)) ≡ Accepted → ⊥
-unknown_stops true b rest is = cc
-unknown_stops false true rest is = cc
-unknown_stops false false rest is = cc
-
 -- its member has a record
 pub beats_accepted : (n : ℕ) (own : Option Record) (other : Option Member) (g : Group) (q : Heartbeat) (stamp : Stamp)
     → verdict_on (Beats n) (record { own = own; other = other }) g q stamp ≡ Accepted → (r : Record) × (own ≡ Some r)
-beats_accepted n None other g q stamp is = absurd (unknown_stops (is_invalid q) (is_unsupported q) Accepted is)
+beats_accepted n None other g q stamp is =
+    let valid = passed Accepted _ _ _ (refused_not codes.InvalidRequest) is in
+    let supported = passed Accepted _ _ _ (refused_not codes.UnsupportedAssignor) valid.1 in
+    absurd (refused_not codes.UnknownMemberId supported.1)
 beats_accepted n (Some r) other g q stamp is = (r, refl)
 
 -- ---- an accepted join
-
-accepted_of : (a b c d e : Bool)
-    → first_of ((a, Refused codes.InvalidRequest) ∷ (b, Refused codes.UnsupportedAssignor) ∷ (c, Overtaken) ∷ (d, Refused codes.UnreleasedInstanceId) ∷ (e, Refused codes.GroupMaxSizeReached) ∷ []) ≡ Accepted
-    → (d ≡ false) × (e ≡ false)
-accepted_of true b c d e is = absurd (cc)
-accepted_of false true c d e is = absurd (cc)
-accepted_of false false true d e is = absurd (cc)
-accepted_of false false false true e is = absurd (cc)
-accepted_of false false false false true is = absurd (cc)
-accepted_of false false false false false is = (refl, refl)
 
 -- its instance is released, and the group takes its member
 pub joins_accepted : (sender : Sender) (g : Group) (q : Heartbeat) (stamp : Stamp) → verdict_on Joins sender g q stamp ≡ Accepted
     → (is_unreleased sender.own sender.other ≡ false) × (is_too_many sender.own sender.other (finite.len g.records) ≡ false)
 joins_accepted sender g q stamp is =
-    accepted_of (is_invalid q) (is_unsupported q) (is_overtaken stamp sender.own || is_of_past g.past q.member stamp) (is_unreleased sender.own sender.other) (is_too_many sender.own sender.other (finite.len g.records)) is
-
--- ---- a refusal has the code of an error
-
-abbrev pub IsRefusal : Verdict → Type 0
-IsRefusal Accepted = Unit {0}
-IsRefusal (Refused code) = code ≢ codes.NoError
-IsRefusal Overtaken = Unit {0}
-
-abbrev AllRefuse : List Check → Type 0
-AllRefuse [] = Unit {0}
-AllRefuse (check ∷ checks) = IsRefusal check.1 × AllRefuse checks
-
-first_refuses : (checks : List Check) → AllRefuse checks → IsRefusal (first_of checks)
-first_refuses [] all = tt
-first_refuses (check ∷ checks) all =
-    elim check.0 as (λ b. IsRefusal (cond b check.1 (first_of checks))) [ true ↦ all.0 | false ↦ first_refuses checks all.1 ]
-
-invalid_is : IsRefusal (Refused codes.InvalidRequest)
-invalid_is is = cc
-
-unsupported_is : IsRefusal (Refused codes.UnsupportedAssignor)
-unsupported_is is = cc
-
-unknown_is : IsRefusal (Refused codes.UnknownMemberId)
-unknown_is is = cc
-
-unreleased_is : IsRefusal (Refused codes.UnreleasedInstanceId)
-unreleased_is is = cc
-
-full_is : IsRefusal (Refused codes.GroupMaxSizeReached)
-full_is is = cc
-
-fenced_is : IsRefusal (Refused codes.FencedMemberEpoch)
-fenced_is is = cc
-
-pub refusals_differ : (kind : Kind) (sender : Sender) (g : Group) (q : Heartbeat) (stamp : Stamp) → IsRefusal (verdict_on kind sender g q stamp)
-refusals_differ Joins sender g q stamp =
-    first_refuses (checks_of Joins sender g q stamp) (invalid_is, (unsupported_is, (tt, (unreleased_is, (full_is, tt)))))
-refusals_differ (Beats n) sender g q stamp =
-    first_refuses (checks_of (Beats n) sender g q stamp) (invalid_is, (unsupported_is, (unknown_is, (tt, (fenced_is, tt)))))
-refusals_differ Leaves sender g q stamp = first_refuses (checks_of Leaves sender g q stamp) (invalid_is, (unknown_is, (tt, tt)))
-refusals_differ GoesAway sender g q stamp = first_refuses (checks_of GoesAway sender g q stamp) (invalid_is, (unknown_is, (tt, tt)))
-refusals_differ MeansNothing sender g q stamp = invalid_is
+    let valid = passed Accepted _ _ _ (refused_not codes.InvalidRequest) is in
+    let supported = passed Accepted _ _ _ (refused_not codes.UnsupportedAssignor) valid.1 in
+    let in_time = passed Accepted _ _ _ overtaken_not supported.1 in
+    let released = passed Accepted _ _ _ (refused_not codes.UnreleasedInstanceId) in_time.1 in
+    let room = passed Accepted _ _ _ (refused_not codes.GroupMaxSizeReached) released.1 in
+    (released.0, room.0)

@@ -3,7 +3,7 @@ use Rattle.group_types.specs.Topics.{Topics}
 use Rattle.group_types.specs.Group.{Group, Target, Records}
 use Rattle.group_types.specs.Renewal.{IsTarget}
 use Rattle.group_types.specs.HeartbeatStep.{Answer, Arrival, HeartbeatStep}
-use Rattle.topic_meta.specs.Facts.{AreImageTopics}
+use Rattle.group_types.specs.Images.{AreImageTopics}
 
 -- KIP-848, "Target Assignment": whatever the members and the former owners, there is a target over the topics of an image.
 -- Where two topics had one id a partition could have two owners under range.

@@ -1,4 +1,4 @@
--- How a group's state is stored.
+-- A group as callers see it, and how that is stored.
 use Rattle.std.specs.Prelude.{ℕ, refl}
 use Rattle.std.specs.Coded.{Coded, code_by, coded×, coded_ℕ}
 use Rattle.std.specs.FinMap as finite
@@ -10,6 +10,12 @@ use Rattle.topic_meta.specs.Stored.{topics_code}
 use Rattle.range_assign.specs.Shares.{owners_code}
 use Rattle.group_epochs.specs.Stored.{text_code, record_code, past_code}
 use Rattle.offset_guard.specs.Stored.{offsets_code}
+use Rattle.group_reconcile.specs.Holders.{Holders, holders_code}
+
+-- its state, and who holds which partition since which target
+pub record GroupValue : Type 0 where
+  pub state : Group
+  pub holders : Holders
 
 abbrev grants_code : Coded Grants
 grants_code = set.code (coded× text_code partition_code)
@@ -46,3 +52,7 @@ group_fields_code =
 
 abbrev pub group_code : Coded Group
 group_code = code_by GroupFields group_fields_code group_fields group_of_fields (λ _. refl)
+
+abbrev pub group_value_code : Coded GroupValue
+group_value_code =
+    code_by (Group × Holders) (coded× group_code holders_code) (λ g. (g.state, g.holders)) (λ p. record { state = p.0; holders = p.1 }) (λ _. refl)

@@ -5,6 +5,8 @@ use Rattle.group_types.specs.Sound.{IsSound}
 use Rattle.group_reconcile.specs.Holders.{pairs}
 use Rattle.group_core.specs.declared.state.State.{State}
 use Rattle.group_core.specs.declared.group.Group.TheInside.{Inside}
+use Rattle.group_core.specs.Group.{GroupValue}
+use Rattle.group_core.specs.Since.{KeepsSinceOr}
 use Rattle.group_core.specs.Steady.{AreMarked}
 
 abbrev pub group_of : State → Group
@@ -23,8 +25,8 @@ group_of s =
       past = s.records.past;
     }
 
-abbrev pub group_view : Inside → Group
-group_view a = group_of a.state
+abbrev pub group_view : Inside → GroupValue
+group_view a = record { state = group_of a.state; holders = a.state.grants }
 
 -- what holds of every group
 pub record IsGroup (s : State) : Type 0 where
@@ -36,3 +38,8 @@ pub record Keeps {X E : Type 0} (result : Result X E) (old new : State) (before 
   pub out : after ≡ before
   pub marks : AreMarked (group_of new) new.records.marks
   pub err : OnErr result (group_of new ≡ group_of old)
+
+-- and of the holders: since when each partition is held, and all of it where memory is short
+pub record KeepsHolders {X E : Type 0} (result : Result X E) (old new : State) : Type 0 where
+  pub since : KeepsSinceOr old.grants new.grants new.target.epoch
+  pub err : OnErr result (new.grants ≡ old.grants)

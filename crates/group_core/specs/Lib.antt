@@ -1,5 +1,4 @@
 pub mod Listing
-pub mod Growth
 pub mod Checks
 pub mod ReplyText
 pub mod Outcome
@@ -11,4 +10,5 @@ pub mod CodeOrder
 pub mod Laws
 pub mod Stages
 pub mod Steady
+pub mod Since
 pub mod Existence

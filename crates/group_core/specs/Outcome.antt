@@ -1,5 +1,5 @@
 -- What the code answers, as the machine's answer.
-use Rattle.std.specs.Prelude.{◌≡◌, ℕ, ◌≤◌, ◌+◌, ◌*◌, pos, ◌≤ℤ◌, length, Some, IfSome}
+use Rattle.std.specs.Prelude.{◌≡◌, ℕ, ◌≤◌, ◌+◌, ◌*◌, pos, ◌≤ℤ◌, length, Option, Some, IfSome}
 use Rattle.std.specs.Option.{option_map_or}
 use Rattle.group_types.specs.declared.code.Code.TheVariants.{NoError}
 use Rattle.group_types.specs.Limits.{HEARTBEAT_INTERVAL, MOST_PARTITIONS}
@@ -29,15 +29,29 @@ abbrev pub HasFewPartitions : machine.Answer → Type 0
 HasFewPartitions (machine.Replied r) = IfSome r.assignment (λ set. size set ≤ MOST_PARTITIONS)
 HasFewPartitions machine.Closes = Unit {0}
 
--- The bytes that are reserved for the frame of a reply (ours): what is always there, the id, and for each partition its index and
--- its topic's entry.
+-- ---- the bytes that are reserved for the frame of a reply (ours); a law of the node says that no frame takes more
+
+-- what a reply takes at most but for its member id and its partitions: the size, the header and the other fields, the text of an
+-- error among them
+abbrev pub FIXED_ROOM : ℕ
+FIXED_ROOM = 100
+
+-- what a partition takes at most: its index, and the entry of its topic
+abbrev pub PARTITION_ROOM : ℕ
+PARTITION_ROOM = 30
+
+abbrev pub room_for : Option Text → Option Partitions → ℕ
+room_for member assignment = FIXED_ROOM + option_map_or length member 0 + PARTITION_ROOM * option_map_or size assignment 0
+
 abbrev pub reply_room : machine.Reply → ℕ
-reply_room r = 100 + option_map_or length r.member 0 + 30 * option_map_or size r.assignment 0
+reply_room r = room_for r.member r.assignment
 
 -- so many bytes more are enough for the frame of the answer
 abbrev pub HasRoomFor : machine.Answer → ℕ → Type 0
 HasRoomFor (machine.Replied r) room = reply_room r ≤ room
 HasRoomFor machine.Closes room = Unit {0}
+
+-- ---- an accepted heartbeat
 
 -- KIP-848, "ConsumerGroupHeartbeat API": a member's heartbeat is accepted at its member epoch, and it may read the set
 abbrev pub accepted : Text → ℕ → Partitions → machine.Reply

@@ -6,6 +6,7 @@ ghost use Rattle.group_reconcile.specs.Holders.{pairs};
 ghost use Rattle.group_epochs.specs.Records.{KeepsMarks};
 ghost use Rattle.group_core.specs.GroupView.{group_of};
 ghost use Rattle.group_core.specs.Outcome.{reply_of};
+ghost use Rattle.group_core.specs.Since.{HasSameSince};
 ghost use Rattle.group_core.specs.Stages.{HasNothing, IsFit, IsSuccessor, carried, heir_id, heir_in, record_after, stored_in, target_then};
 
 use crate::change::Renewal;
@@ -32,6 +33,7 @@ pub fn carry_out<'a>(
     ensures reply { reply_of result ≡ acceptance plan.entry.id (record_after state.old draft renewal moves now) plan.entry.assignment }
     ensures group { group_of state.new ≡ stored_in (carried state.old draft now renewal) draft.member.id
         (sent_after (record_after state.old draft renewal moves now) plan.entry.sent) (heir_in state.old draft) }
+    ensures since { HasSameSince state.old.grants state.new.grants }
     ensures marks { KeepsMarks state.old.records state.new.records draft.member.id }
 {
     let Plan {
@@ -72,6 +74,7 @@ fn store_draft(
     ensures epoch { result ≡ (settled_record moves draft.member.record state.old.target.epoch now).epoch }
     ensures group { group_of state.new ≡ stored_in (record (group_of state.old) { clock = now; serial = suc draft.ids_made }) draft.member.id
         (sent_after (settled_record moves draft.member.record state.old.target.epoch now) sent) (heir_in state.old draft) }
+    ensures since { HasSameSince state.old.grants state.new.grants }
     ensures marks { KeepsMarks state.old.records state.new.records draft.member.id }
 {
     let Draft {

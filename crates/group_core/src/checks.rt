@@ -52,10 +52,7 @@ fn is_invalid(request: &HeartbeatRequest<'_>) -> bool
 fn is_invalid_join(request: &HeartbeatRequest<'_>) -> bool
     ensures { result ≡ is_invalid_join (heartbeat_of (heartbeat_request_value request.now)) }
 {
-    let has_empty_instance = match request.instance_id {
-        Some(instance) => instance.is_empty(),
-        None => false,
-    };
+    let has_empty_instance = request.instance_id.is_some_and(|id| id.is_empty());
     let owns = match &request.topic_partitions {
         Some(list) => names_partition(list),
         None => false,
@@ -84,9 +81,8 @@ fn has_index(entries: &[TopicPartitions<'_>]) -> bool
 fn is_unsupported(request: &HeartbeatRequest<'_>) -> bool
     ensures { result ≡ is_unsupported (heartbeat_of (heartbeat_request_value request.now)) }
 {
-    let is_unknown = match request.server_assignor {
-        Some(name) => AssignorName::of(name).is_none(),
-        None => false,
-    };
-    request.member_epoch >= 0 && is_unknown
+    request.member_epoch >= 0
+        && request
+            .server_assignor
+            .is_some_and(|name| AssignorName::of(name).is_none())
 }

@@ -9,7 +9,7 @@ ghost use Rattle.group_reconcile.specs.Holders.{pairs};
 
 use crate::outcome::Outcome;
 use crate::state::State;
-use crate::{commit, heartbeat, tick};
+use crate::{heartbeat, tick};
 use group_epochs::Records;
 use group_reconcile::Grants;
 use group_target::Target;
@@ -27,12 +27,11 @@ pub struct Group {
 }
 
 impl Model for Group {
-    ghost use Rattle.group_types.specs.Group.{Group as State};
-    ghost use Rattle.group_core.specs.Group.{group_code};
+    ghost use Rattle.group_core.specs.Group.{GroupValue, group_value_code};
 
-    ghost Value = { State };
+    ghost Value = { GroupValue };
 
-    ghost coded = { group_code };
+    ghost coded = { group_value_code };
 
     ghost use Rattle.group_core.specs.GroupView.{group_view, IsGroup};
 
@@ -51,17 +50,21 @@ impl Group {
     ghost use Rattle.group_epochs.specs.Request.{commit_of};
     ghost use Rattle.group_core.specs.Commits.{Commits};
     ghost use Rattle.group_core.specs.Outcome.{answer_of, IsCurrent, IsResponse};
+    ghost use Rattle.group_core.specs.Since.{KeepsSinceOr};
+    ghost use Rattle.group_reconcile.specs.Offers.{KeepsSince};
 
     /// A new group: epoch 0, and no members. The salt is the first half of the ids that it makes. Takes no memory.
     pub fn new(alloc: Global, salt: u64, hasher: RandomState) -> Group
-        ensures { result ≡ new_group salt }
+        ensures state { result.state ≡ new_group salt }
+        ensures holders { result.holders ≡ finite.empty }
     {
         Group::starting_at(alloc, salt, hasher, EpochNumber::zero())
     }
 
     /// A group that nobody has joined, whose epoch and target epoch are this one. Takes no memory.
     pub fn starting_at(alloc: Global, salt: u64, hasher: RandomState, epoch: EpochNumber) -> Group
-        ensures { result ≡ starting_group salt epoch }
+        ensures state { result.state ≡ starting_group salt epoch }
+        ensures holders { result.holders ≡ finite.empty }
     {
         // so that the epoch is known to be at most the greatest
         let _ = epoch.as_u32();
@@ -72,44 +75,45 @@ impl Group {
 
     /// The group epoch.
     pub fn epoch(&self) -> EpochNumber
-        ensures value { result ≡ self.now.epoch }
-        ensures sound { IsSound self.now }
+        ensures value { result ≡ self.now.state.epoch }
+        ensures sound { IsSound self.now.state }
     {
         self.state.epoch
     }
 
     /// How many members the group has.
     pub fn members(&self) -> usize
-        ensures { result ≡ finite.len self.now.records }
+        ensures { result ≡ finite.len self.now.state.records }
     {
         self.state.records.len()
     }
 
     /// The target assignment: who is to own which partition, and since which epoch.
     pub fn target(&self) -> &Target
-        ensures owners { result.now.owners ≡ self.now.target }
-        ensures epoch { result.now.epoch ≡ self.now.target_epoch }
+        ensures owners { result.now.owners ≡ self.now.state.target }
+        ensures epoch { result.now.epoch ≡ self.now.state.target_epoch }
     {
         &self.state.target
     }
 
     /// Who may read which partition, and since which target.
     pub fn grants(&self) -> &Grants
-        ensures { pairs result.now ≡ self.now.grants }
+        ensures pairs { pairs result.now ≡ self.now.state.grants }
+        ensures holders { result.now ≡ self.now.holders }
     {
         &self.state.grants
     }
 
     /// The partitions that a member may read: none, or the empty set, where that is nothing.
     pub fn granted(&self, member: &str) -> Option<&PartSet>
-        ensures { unwrap_or (option_copied result) nothing ≡ held self.now.grants member.now }
+        ensures { unwrap_or (option_copied result) nothing ≡ held self.now.state.grants member.now }
     {
         self.state.grants.held(member)
     }
 
     /// The member epoch of a member, and the one before it; none where the group has no such member. Takes no memory.
     pub fn epochs(&self, member: &str) -> Option<(Epoch, EpochNumber)>
-        ensures { result ≡ option_map (λ r. (r.epoch, r.previous_epoch)) (finite.get self.now.records member.now) }
+        ensures { result ≡ option_map (λ r. (r.epoch, r.previous_epoch)) (finite.get self.now.state.records member.now) }
     {
         let record = self.state.records.get(member)?;
         Some((record.epoch(), record.previous_epoch()))
@@ -117,13 +121,14 @@ impl Group {
 
     /// Whether the id has a record, or had one and is still remembered (ours). Takes no memory.
     pub fn remembers(&self, member: &str) -> bool
-        ensures { result ≡ is_remembered (members_of self.now) member.now }
+        ensures { result ≡ is_remembered (members_of self.now.state) member.now }
     {
         self.state.records.remembers(member)
     }
 
     /// One heartbeat of KIP-848 with its stamp, at a moment, over the node's image. Its member id is one that the wire
-    /// takes. A refusal and an overtaken heartbeat change nothing. Where it replies there is room for the reply's frame behind the bytes of `out`, which stay. Fails
+    /// takes. A refusal and an overtaken heartbeat change nothing. A partition that somebody held stays granted under the target
+    /// epoch under which it was. Where it replies there is room for the reply's frame behind the bytes of `out`, which stay. Fails
     /// where memory is short, and then nothing has changed.
     pub fn heartbeat<'a>(
         &mut self,
@@ -134,9 +139,10 @@ impl Group {
         out: &mut Vec<u8>,
     ) -> Result<Outcome<'a>, AllocError>
         requires id { length request.now.member_id.now ≤ LONGEST_STRING }
-        ensures step { IfOk result (λ outcome. HeartbeatStep self.old
-            (arrival_of (heartbeat_request_value request.now) stamp now image.now) (answer_of outcome) self.new) }
-        ensures response { IfOk result (λ outcome. IsResponse (answer_of outcome) self.new image.now (vec_capacity out.new - length out.new.items)) }
+        ensures step { IfOk result (λ outcome. HeartbeatStep self.old.state
+            (arrival_of (heartbeat_request_value request.now) stamp now image.now) (answer_of outcome) self.new.state) }
+        ensures response { IfOk result (λ outcome. IsResponse (answer_of outcome) self.new.state image.now (vec_capacity out.new - length out.new.items)) }
+        ensures since { KeepsSinceOr self.old.holders self.new.holders self.new.state.target_epoch }
         ensures out { out.new.items ≡ out.old.items }
         ensures err { OnErr result (self.new ≡ self.old) }
     {
@@ -155,13 +161,16 @@ impl Group {
         out: &mut Vec<u8>,
     ) -> Result<Outcome<'a>, AllocError>
         requires id { length request.now.member_id.now ≤ LONGEST_STRING }
-        requires current { is_current ≡ true → IsCurrent self.old image.now }
-        ensures step { IfOk result (λ outcome. HeartbeatStep self.old
-            (arrival_of (heartbeat_request_value request.now) stamp now image.now) (answer_of outcome) self.new) }
-        ensures response { IfOk result (λ outcome. IsResponse (answer_of outcome) self.new image.now (vec_capacity out.new - length out.new.items)) }
+        requires current { is_current ≡ true → IsCurrent self.old.state image.now }
+        ensures step { IfOk result (λ outcome. HeartbeatStep self.old.state
+            (arrival_of (heartbeat_request_value request.now) stamp now image.now) (answer_of outcome) self.new.state) }
+        ensures response { IfOk result (λ outcome. IsResponse (answer_of outcome) self.new.state image.now (vec_capacity out.new - length out.new.items)) }
+        ensures since { KeepsSinceOr self.old.holders self.new.holders self.new.state.target_epoch }
         ensures out { out.new.items ≡ out.old.items }
         ensures err { OnErr result (self.new ≡ self.old) }
     {
+        // so that its topics are known to be an image's
+        let _ = image.len();
         heartbeat::respond(&mut self.state, request, stamp, now, image, is_current, out)
     }
 
@@ -172,17 +181,21 @@ impl Group {
         request: &CommitRequest<'a>,
         image: &Image,
     ) -> Result<CommitReply<'a>, AllocError>
-        ensures step { IfOk result (λ reply. Commits self.old (commit_of (commit_request_value request.now)) image.now (commit_reply_value reply) self.new) }
+        ensures step { IfOk result (λ reply. Commits self.old.state (commit_of (commit_request_value request.now)) image.now (commit_reply_value reply) self.new.state) }
+        ensures holders { self.new.holders ≡ self.old.holders }
         ensures err { OnErr result (self.new ≡ self.old) }
     {
-        commit::commit(&mut self.state, request, image)
+        self.state
+            .offsets
+            .commit(&self.state.records, request, image)
     }
 
     /// Removes the members whose session or release deadline has come (KIP-848, "Session Management", "Rebalance Timeout"), and says
     /// how many. The target is not renewed. Takes no memory.
     pub fn tick(&mut self, now: Moment) -> usize
-        ensures ticked { self.new ≡ ticked self.old now }
-        ensures removed { result ≡ removed_by_tick self.old now }
+        ensures ticked { self.new.state ≡ ticked self.old.state now }
+        ensures removed { result ≡ removed_by_tick self.old.state now }
+        ensures since { KeepsSince self.old.holders self.new.holders }
     {
         tick::tick(&mut self.state, now)
     }

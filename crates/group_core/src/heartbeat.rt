@@ -7,19 +7,17 @@ ghost use Rattle.group_types.specs.Checks.{Accepted, sender_of, verdict_on};
 ghost use Rattle.group_types.specs.HeartbeatStep.{HeartbeatStep, StepOf};
 ghost use Rattle.kip_msgs.specs.Views.{heartbeat_request_value};
 ghost use Rattle.group_epochs.specs.Request.{arrival_of, heartbeat_of};
-ghost use Rattle.group_core.specs.GroupView.{IsGroup, Keeps, group_of};
+ghost use Rattle.group_core.specs.GroupView.{IsGroup, Keeps, KeepsHolders, group_of};
 ghost use Rattle.group_core.specs.Outcome.{answer_of, IsCurrent, IsResponse};
 ghost use Rattle.group_core.specs.Steady.{AreMarked};
 
-use crate::away::go_away;
-use crate::enter::enter;
 use crate::judge::judge;
-use crate::leave::leave;
+use crate::leave::{go_away, leave};
 use crate::mark::mark_replied;
 use crate::outcome::Outcome;
 use crate::state::State;
 use crate::steady::{beat_steadily, is_steady_beat};
-use crate::taking::refuse;
+use crate::taking::{enter, refuse};
 use group_epochs::Refusal;
 use group_types::{Moment, Stamp};
 use kip_msgs::HeartbeatRequest;
@@ -44,6 +42,7 @@ pub fn respond<'a>(
         (arrival_of (heartbeat_request_value request.now) stamp moment image.now) (answer_of outcome) (group_of state.new)) }
     ensures response { IfOk result (λ outcome. IsResponse (answer_of outcome) (group_of state.new) image.now (vec_capacity out.new - length out.new.items)) }
     ensures keeps { Keeps result state.old state.new out.old.items out.new.items }
+    ensures holders { KeepsHolders result state.old state.new }
 {
     if is_current && is_steady_beat(state, request) {
         if let Some(outcome) = beat_steadily(state, request, stamp, moment, out)? {
@@ -70,6 +69,7 @@ fn answer<'a>(
         (arrival_of (heartbeat_request_value request.now) stamp moment image.now) (answer_of outcome) (group_of state.new)) }
     ensures response { IfOk result (λ outcome. IsResponse (answer_of outcome) (group_of state.new) image.now (vec_capacity out.new - length out.new.items)) }
     ensures keeps { Keeps result state.old state.new out.old.items out.new.items }
+    ensures holders { KeepsHolders result state.old state.new }
 {
     match judge(state, request, stamp) {
         Ok(()) => accept(state, request, stamp, moment, image, out),
@@ -96,6 +96,7 @@ fn accept<'a>(
         (group_of state.old) a (answer_of outcome) (group_of state.new)) }
     ensures response { IfOk result (λ outcome. IsResponse (answer_of outcome) (group_of state.new) image.now (vec_capacity out.new - length out.new.items)) }
     ensures keeps { Keeps result state.old state.new out.old.items out.new.items }
+    ensures holders { KeepsHolders result state.old state.new }
 {
     match request.member_epoch {
         0.. => enter(state, request, stamp, moment, image, out),

@@ -10,13 +10,10 @@
 //! `mark`). Start from [`Group::new`].
 #![tactic(auto)]
 
-mod away;
 mod carry;
 mod change;
 mod checks;
-mod commit;
 mod draft;
-mod enter;
 mod group;
 mod heartbeat;
 mod judge;

@@ -1,13 +1,11 @@
 //! A set of partitions as an assignment has it.
-ghost use Rattle.std.specs.Prelude.{◌≡◌, IfOk, OnOk};
+ghost use Rattle.std.specs.Prelude.{◌≡◌, IfOk};
 ghost use Rattle.group_types.specs.Sets.{in_order};
-ghost use Rattle.kip_msgs.specs.Topics.{topic_partitions_value, topic_partitions_values};
-ghost use Rattle.group_core.specs.Listing.{alone, listed};
-ghost use Rattle.group_core.specs.Growth.{behind};
+ghost use Rattle.kip_msgs.specs.Topics.{topic_partitions_values};
+ghost use Rattle.group_core.specs.Listing.{listed};
 
-use flex_wire::TaggedFields;
-use group_types::{PartSet, Partition};
-use kip_msgs::{Array, TopicPartitions};
+use group_types::PartSet;
+use kip_msgs::{Array, TopicPartitions, list_partition};
 use std::alloc::{AllocError, Global};
 
 /// The topics of a set by their ids' bytes, each with its indexes rising. Fails where memory is short.
@@ -19,40 +17,7 @@ pub(crate) fn topics_of<'a>(
 {
     let mut topics = Vec::new(alloc);
     for partition in set.iter() {
-        add(alloc, &mut topics, partition)?;
+        list_partition(alloc, &mut topics, &partition.topic, partition.index)?;
     }
     Ok(Array::of_vec(topics))
-}
-
-/// Adds a partition behind those that are listed: to the last entry where that is of its topic.
-fn add<'a>(
-    alloc: Global,
-    topics: &mut Vec<TopicPartitions<'a>>,
-    partition: &Partition,
-) -> Result<(), AllocError>
-    ensures { OnOk result
-        (topic_partitions_values topics.new.items ≡ behind (topic_partitions_values topics.old.items) partition.now) }
-{
-    if let Some(last) = topics.last_mut() {
-        if last.topic_id == partition.topic {
-            last.partitions.push(partition.index)?;
-            return Ok(());
-        }
-    }
-    let entry = entry_of(alloc, partition)?;
-    topics.push(entry)?;
-    Ok(())
-}
-
-/// The entry of one partition alone.
-fn entry_of<'a>(alloc: Global, partition: &Partition) -> Result<TopicPartitions<'a>, AllocError>
-    ensures { IfOk result (λ entry. topic_partitions_value entry ≡ alone partition.now) }
-{
-    let mut partitions = Array::new(alloc);
-    partitions.push(partition.index)?;
-    Ok(TopicPartitions {
-        topic_id: partition.topic,
-        partitions,
-        tags: TaggedFields::new(alloc),
-    })
 }

@@ -1,6 +1,5 @@
 //! Marks members that have nothing to be told.
-ghost use Rattle.std.specs.Prelude.{◌≡◌, IsTrue, unwrap_or};
-ghost use Rattle.std.specs.Option.{option_copied};
+ghost use Rattle.std.specs.Prelude.{◌≡◌, IsTrue};
 ghost use Rattle.group_core.specs.GroupView.{group_of};
 ghost use Rattle.group_core.specs.Steady.{AreMarked, IsSettledAt, IsSteady};
 
@@ -13,23 +12,17 @@ use group_types::{Epoch, EpochNumber, PartSet};
 pub fn mark_replied(state: &mut State, outcome: &Outcome<'_>)
     requires { AreMarked (group_of state.old) state.old.records.marks }
     ensures group { group_of state.new ≡ group_of state.old }
+    ensures target { state.new.target ≡ state.old.target }
+    ensures holders { state.new.grants ≡ state.old.grants }
     ensures marks { AreMarked (group_of state.new) state.new.records.marks }
 {
     if let Outcome::Replied(reply) = outcome {
         if let Some(id) = &reply.member {
-            mark_if_steady(state, id.as_str());
+            let id = id.as_str();
+            if is_steady(state, id) {
+                state.records.mark(id, state.target.epoch());
+            }
         }
-    }
-}
-
-/// Marks the member where it has nothing to be told. Takes no memory.
-fn mark_if_steady(state: &mut State, member: &str)
-    requires { AreMarked (group_of state.old) state.old.records.marks }
-    ensures group { group_of state.new ≡ group_of state.old }
-    ensures marks { AreMarked (group_of state.new) state.new.records.marks }
-{
-    if is_steady(state, member) {
-        state.records.mark(member, state.target.epoch());
     }
 }
 
@@ -39,8 +32,8 @@ fn is_steady(state: &State, member: &str) -> bool
 {
     let nothing = PartSet::new(state.alloc);
     let target = state.target.of(member);
-    let wanted = set_or(target.set(), &nothing);
-    let held = set_or(state.grants.held(member), &nothing);
+    let wanted = target.set().unwrap_or(&nothing);
+    let held = state.grants.held(member).unwrap_or(&nothing);
     let Some(record) = state.records.get(member) else {
         return false;
     };
@@ -48,16 +41,6 @@ fn is_steady(state: &State, member: &str) -> bool
         return false;
     }
     is_settled_at(record, state.target.epoch())
-}
-
-/// The set, or the other one where there is none.
-fn set_or<'a>(set: Option<&'a PartSet>, other: &'a PartSet) -> &'a PartSet
-    ensures { result.now ≡ unwrap_or (option_copied set.entry) other.now }
-{
-    match set {
-        Some(set) => set,
-        None => other,
-    }
 }
 
 /// Whether the member is at the epoch, and is asked nothing.

@@ -37,6 +37,7 @@ pub fn draft_of(
     ensures room { IfOk result (λ draft. IfSome draft (λ d. CanStore state.new.records d.member.id d.member.record d.member.place)) }
     ensures group { group_of state.new ≡ group_of state.old }
     ensures marks { state.new.records.marks ≡ state.old.records.marks }
+    ensures holders { state.new.grants ≡ state.old.grants }
 {
     let Some(name) = name_for(state, request.member_id)? else {
         return Ok(None);

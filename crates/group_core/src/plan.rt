@@ -1,6 +1,5 @@
 //! What a member is to be told, and all that its reply needs of memory.
-ghost use Rattle.std.specs.Prelude.{◌≡◌, ◌≤ℤ◌, pos, ◌||◌, unwrap_or, ◌≤◌, ◌+◌, ◌-◌, ◌*◌, IfOk, IfSome, OnOk, length, vec_capacity};
-ghost use Rattle.std.specs.Option.{option_map_or};
+ghost use Rattle.std.specs.Prelude.{◌≡◌, ◌≤ℤ◌, pos, ◌||◌, unwrap_or, ◌≤◌, ◌-◌, IfOk, IfSome, None, OnOk, Some, length, vec_capacity};
 ghost use Rattle.group_types.specs.Limits as limits;
 ghost use Rattle.group_types.specs.Request.{is_full, reported};
 ghost use Rattle.group_types.specs.HeartbeatStep.{assignment_of, is_news};
@@ -8,6 +7,7 @@ ghost use Rattle.group_types.specs.Sets.{size};
 ghost use Rattle.kip_msgs.specs.Views.{heartbeat_request_value};
 ghost use Rattle.group_epochs.specs.Drafts.{placed_heir};
 ghost use Rattle.group_epochs.specs.Request.{heartbeat_of};
+ghost use Rattle.group_core.specs.Outcome.{room_for};
 ghost use Rattle.group_core.specs.Stages.{AreOfView, IsPlan, IsSuccessor, shown_then, target_then};
 
 use crate::change::Renewal;
@@ -22,6 +22,12 @@ use group_target::Target;
 use group_types::{MemberId, PartSet};
 use kip_msgs::HeartbeatRequest;
 use std::alloc::{AllocError, Global};
+
+/// How many bytes the frame of a reply takes at most but for its member id and its partitions.
+const FIXED_ROOM: usize = 100;
+
+/// How many bytes a partition takes at most in the frame of a reply: its index, and the entry of its topic.
+const PARTITION_ROOM: usize = 30;
 
 /// What is made for a draft that was renewed, before anything is stored.
 #[derive(Drop)]
@@ -46,8 +52,7 @@ pub fn plan_of<'a>(
     requires epoch { pos 0 ≤ℤ request.now.member_epoch }
     requires owned { AreOfView (target_then state.now renewal.now).owners renewal.now.view }
     ensures plan { let q = heartbeat_of (heartbeat_request_value request.now) in IfOk result (IsPlan state.now draft.now renewal.now q) }
-    ensures room { IfOk result (λ plan. 100 + length plan.id + 30 * option_map_or size plan.assignment 0
-        ≤ vec_capacity out.new - length out.new.items) }
+    ensures room { IfOk result (λ plan. room_for (Some plan.id) plan.assignment ≤ vec_capacity out.new - length out.new.items) }
     ensures out { out.new.items ≡ out.old.items }
 {
     // so that the view is known to have no more partitions than an image
@@ -69,7 +74,8 @@ pub fn plan_of<'a>(
     })
 }
 
-/// The id in a reply, and room in `out` for a reply with it and this assignment. Fails where memory is short.
+/// The id in a reply, which is the request's own where that is the member's, and room in `out` for a reply with it and this
+/// assignment. Fails where memory is short.
 fn id_with_room<'a>(
     alloc: Global,
     id: &MemberId,
@@ -79,10 +85,14 @@ fn id_with_room<'a>(
 ) -> Result<ReplyId<'a>, AllocError>
     requires { IfSome assignment.now (λ set. size set ≤ limits.MOST_PARTITIONS) }
     ensures id { IfOk result (λ r. r ≡ id.now) }
-    ensures room { IfOk result (λ r. 100 + length r + 30 * option_map_or size assignment.now 0 ≤ vec_capacity out.new - length out.new.items) }
+    ensures room { IfOk result (λ r. room_for (Some r) assignment.now ≤ vec_capacity out.new - length out.new.items) }
     ensures out { out.new.items ≡ out.old.items }
 {
-    let id = reply_id(alloc, id, named)?;
+    let id = if id.is(named) {
+        ReplyId::named(named)
+    } else {
+        ReplyId::made(id.copy(alloc)?)
+    };
     make_room(out, id.as_str(), assignment)?;
     Ok(id)
 }
@@ -160,25 +170,6 @@ fn is_full(request: &HeartbeatRequest<'_>) -> bool
             && request.topic_partitions.is_some())
 }
 
-/// The id in a reply: the request's own where that is the member's, and else a copy. Fails where memory is short.
-fn reply_id<'a>(alloc: Global, id: &MemberId, named: &'a str) -> Result<ReplyId<'a>, AllocError>
-    ensures { IfOk result (λ r. r ≡ id.now) }
-{
-    if id.is(named) {
-        return Ok(ReplyId::named(named));
-    }
-    let id = id.copy(alloc)?;
-    Ok(ReplyId::made(id))
-}
-
-/// Makes room in `out` for a reply that says an error and nothing else.
-pub fn make_room_for_refusal(out: &mut Vec<u8>) -> Result<(), AllocError>
-    ensures room { OnOk result (100 ≤ vec_capacity out.new - length out.new.items) }
-    ensures out { out.new.items ≡ out.old.items }
-{
-    out.reserve(100)
-}
-
 /// Makes room in `out` for a reply with this id and assignment.
 pub fn make_room(
     out: &mut Vec<u8>,
@@ -186,12 +177,9 @@ pub fn make_room(
     assignment: &Option<Shown<'_>>,
 ) -> Result<(), AllocError>
     requires { IfSome assignment.now (λ set. size set ≤ limits.MOST_PARTITIONS) }
-    ensures room { OnOk result (100 + length id.now + 30 * option_map_or size assignment.now 0 ≤ vec_capacity out.new - length out.new.items) }
+    ensures room { OnOk result (room_for (Some id.now) assignment.now ≤ vec_capacity out.new - length out.new.items) }
     ensures out { out.new.items ≡ out.old.items }
 {
-    let partitions = match assignment {
-        Some(shown) => shown.set().len(),
-        None => 0,
-    };
-    out.reserve(100 + id.len() + 30 * partitions)
+    let partitions = assignment.as_ref().map_or(0, |shown| shown.set().len());
+    out.reserve(FIXED_ROOM + id.len() + PARTITION_ROOM * partitions)
 }

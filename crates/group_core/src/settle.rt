@@ -8,11 +8,11 @@ ghost use Rattle.kip_msgs.specs.Views.{heartbeat_request_value};
 ghost use Rattle.group_epochs.specs.Request.{heartbeat_of};
 ghost use Rattle.group_types.specs.Sound.{IsSound};
 ghost use Rattle.group_reconcile.specs.Holders.{pairs};
-ghost use Rattle.group_reconcile.specs.Offers.{AreIndexed};
+ghost use Rattle.group_reconcile.specs.Offers.{AreIndexed, IsSince};
 ghost use Rattle.group_types.specs.Group.{Group, wanted};
 ghost use Rattle.group_types.specs.Settle.{grants_after, may_settle};
 ghost use Rattle.group_epochs.specs.Records.{KeepsMarks};
-ghost use Rattle.group_core.specs.GroupView.{group_of};
+ghost use Rattle.group_core.specs.GroupView.{KeepsHolders, group_of};
 ghost use Rattle.group_core.specs.Outcome.{answer_of, HasFewPartitions, HasRoomFor, IsCurrent};
 ghost use Rattle.group_core.specs.Stages.{AreOfView, HasNothing, IsFit, draft_in, group_then, heir_id, renewed_by, target_then};
 ghost use Rattle.group_types.specs.Partition.{Partitions};
@@ -55,6 +55,7 @@ pub fn settle<'a>(
     ensures marks { OnOk result (KeepsMarks state.old.records state.new.records draft.member.id) }
     ensures err { OnErr result (group_of state.new ≡ group_of state.old) }
     ensures same { OnErr result (state.new.records.marks ≡ state.old.records.marks) }
+    ensures holders { KeepsHolders result state.old state.new }
 {
     let plan = plan_of(state, &draft, &renewal, request, out)?;
     let target = target_of(&renewal.target, &state.target);
@@ -74,10 +75,9 @@ fn offered(
     ensures moves { IfOk result (λ moves. moves ≡ may_settle (pairs grants.old) id.now (wanted target.now.owners id.now) owned.now) }
     ensures grants { OnOk result (pairs grants.new
         ≡ grants_after (may_settle (pairs grants.old) id.now (wanted target.now.owners id.now) owned.now) (pairs grants.old) id.now (wanted target.now.owners id.now)) }
+    ensures since { OnOk result (IsSince grants.old grants.new id.now target.now.epoch) }
     ensures err { OnErr result (grants.new ≡ grants.old) }
 {
-    match grants.offer(id, &target.of(id.as_str()), owned.as_ref())? {
-        Verdict::Moves => Ok(true),
-        Verdict::StillHolds => Ok(false),
-    }
+    let verdict = grants.offer(id, &target.of(id.as_str()), owned.as_ref())?;
+    Ok(matches!(verdict, Verdict::Moves))
 }

@@ -37,6 +37,7 @@ impl State {
     pub fn starting_at(alloc: Global, salt: u64, hasher: RandomState, epoch: EpochNumber) -> State
         ensures group { group_of result ≡ starting_group salt epoch }
         ensures marks { result.records.marks ≡ finite.empty }
+        ensures holders { result.grants ≡ finite.empty }
     {
         State {
             alloc,

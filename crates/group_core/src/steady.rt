@@ -6,7 +6,7 @@ ghost use Rattle.group_types.specs.HeartbeatStep.{HeartbeatStep};
 ghost use Rattle.kip_msgs.specs.Views.{heartbeat_request_value};
 ghost use Rattle.group_epochs.specs.Records.{GivesNothing, IsMarkedBeat};
 ghost use Rattle.group_epochs.specs.Request.{arrival_of, heartbeat_of};
-ghost use Rattle.group_core.specs.GroupView.{IsGroup, Keeps, group_of};
+ghost use Rattle.group_core.specs.GroupView.{IsGroup, Keeps, KeepsHolders, group_of};
 ghost use Rattle.group_core.specs.Outcome.{answer_of, IsCurrent, IsResponse};
 ghost use Rattle.group_core.specs.Steady.{AreMarked, IsSteadyBeat};
 
@@ -61,6 +61,7 @@ pub fn beat_steadily<'a>(
     ensures some { IsMarkedBeat state.old.records request.now.member_id.now state.old.target.epoch stamp → IfOk result (λ answer. IsSome answer) }
     ensures none { IfOk result (λ answer. IfNone answer (state.new ≡ state.old)) }
     ensures keeps { Keeps result state.old state.new out.old.items out.new.items }
+    ensures holders { KeepsHolders result state.old state.new }
 {
     make_room(out, request.member_id, &None)?;
     let now = state.clock.later(moment);

@@ -6,6 +6,7 @@ ghost use Rattle.group_types.specs.Leave.{without_member};
 ghost use Rattle.group_types.specs.Sound.{IsSound};
 ghost use Rattle.group_types.specs.Tick.{due, removed_by_tick, ticked, without_members};
 ghost use Rattle.group_epochs.specs.Table.{member_at};
+ghost use Rattle.group_reconcile.specs.Offers.{KeepsSince};
 ghost use Rattle.group_core.specs.GroupView.{group_of};
 ghost use Rattle.group_core.specs.Steady.{AreMarked};
 
@@ -19,6 +20,7 @@ pub fn tick(state: &mut State, moment: Moment) -> usize
     requires marks { AreMarked (group_of state.old) state.old.records.marks }
     ensures ticked { group_of state.new ≡ ticked (group_of state.old) moment }
     ensures removed { result ≡ removed_by_tick (group_of state.old) moment }
+    ensures since { KeepsSince state.old.grants state.new.grants }
     ensures marks { AreMarked (group_of state.new) state.new.records.marks }
 {
     state.clock = state.clock.later(moment);
@@ -36,6 +38,7 @@ fn remove_due(state: &mut State) -> usize
     requires marks { AreMarked (group_of state.old) state.old.records.marks }
     ensures group { group_of state.new ≡ without_members (group_of state.old) (due (group_of state.old)) }
     ensures removed { result ≡ length (due (group_of state.old)) }
+    ensures since { KeepsSince state.old.grants state.new.grants }
     ensures marks { AreMarked (group_of state.new) state.new.records.marks }
 {
     let mut removed = 0;
@@ -54,6 +57,7 @@ fn remove_at(state: &mut State, rank: usize)
     requires marks { AreMarked (group_of state.old) state.old.records.marks }
     ensures group { (m : Text) (r : Record) → member_at state.old.records.records rank ≡ Some (m, r)
         → group_of state.new ≡ without_member (group_of state.old) m r.stamp }
+    ensures since { KeepsSince state.old.grants state.new.grants }
     ensures marks { AreMarked (group_of state.new) state.new.records.marks }
 {
     let Some(id) = state.records.id_at(rank) else {

@@ -1,10 +1,10 @@
 use Rattle.std.proofs.Common.{sym, subst}
 use Rattle.group_types.specs.Request.{kind_of}
 use Rattle.group_types.specs.Checks.{sender_of}
+use Rattle.group_types.proofs.Checked.{IsRefusal, refusals_differ}
 use Rattle.kip_msgs.specs.Views.{heartbeat_request_value}
 use Rattle.group_epochs.specs.Request.{heartbeat_of}
 use Rattle.group_core.specs.GroupView.{group_of}
-use Rattle.group_core.proofs.Verdicts.{IsRefusal, refusals_differ}
 use Rattle.group_core.proofs.heartbeat.answer.Goals as goal
 
 pub refuse-requires : goal.refuse-requires

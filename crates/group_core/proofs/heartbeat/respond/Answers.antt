@@ -5,6 +5,10 @@ use Rattle.kip_msgs.specs.Views.{heartbeat_request_value}
 use Rattle.group_epochs.specs.Request.{arrival_of}
 use Rattle.group_core.specs.GroupView.{IsGroup, group_of}
 use Rattle.group_core.specs.Outcome.{answer_of, IsResponse}
+use Rattle.group_reconcile.specs.Holders.{Holders}
+use Rattle.group_core.specs.Since.{KeepsSinceOr}
+use Rattle.group_core.specs.declared.state.State.{State}
+use Rattle.group_target.specs.TargetState.{TargetState}
 use Rattle.group_core.proofs.heartbeat.respond.Goals as goal
 use Rattle.group_core.proofs.heartbeat.respond.Goals.{then-is_current+then-is_steady_beat+in_ok-outcome+in_default, else-is_current}
 
@@ -41,3 +45,17 @@ returns-clause-step c =
 pub returns-clause-response : goal.returns-clause-response
 returns-clause-response c =
     subst (λ (g : Group). IsResponse (answer_of c.in_ok-outcome-2.outcome) g c.args.image.now (vec_capacity c.answer.new.out - length c.answer.new.out.items)) (sym c.mark_replied.ensures.group) c.in_ok-outcome-2.ensures.response
+
+pub returns-clause-holders : goal.returns-clause-holders
+returns-clause-holders c =
+    let s = c.args.state.now in
+    let before : c.if-is_current.state.grants ≡ s.grants = elim c.if-is_current.branch [
+      | then-is_current+then-is_steady_beat+in_ok-outcome+in_default w ↦ ap (λ (x : State). x.grants) (w.state-is ∙ subst (λ o. IfNone o (w.beat_steadily.new.state ≡ s)) w.in_default.is w.in_ok-outcome.ensures.none)
+      | else-is_current w ↦ ap (λ (x : State). x.grants) w.state-is
+    ] in
+    let since = subst (λ (h : Holders). KeepsSinceOr h c.answer.new.state.grants c.answer.new.state.target.epoch) before c.answer.ensures.holders.since in
+    record {
+      since = subst (λ (t : TargetState). KeepsSinceOr s.grants c.mark_replied.new.state.grants t.epoch) (sym c.mark_replied.ensures.target)
+          (subst (λ (h : Holders). KeepsSinceOr s.grants h c.answer.new.state.target.epoch) (sym c.mark_replied.ensures.holders) since);
+      err = tt;
+    }

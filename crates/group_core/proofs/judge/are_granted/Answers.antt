@@ -1,10 +1,9 @@
-use Rattle.std.proofs.Common.{◌≡◌, List, sym, ap, ◌∙◌, unwrap_or}
+use Rattle.std.proofs.Common.{List, sym, ap, ◌∙◌}
 use Rattle.std.specs.List.{flat_map, list_all}
-use Rattle.std.specs.Option.{option_copied, option_map}
+use Rattle.std.specs.Option.{option_map}
 use Rattle.group_types.specs.Checks.{are_granted}
-use Rattle.group_types.specs.Group.{held}
 use Rattle.group_types.specs.Partition.{Partitions}
-use Rattle.group_types.specs.Sets.{has, nothing}
+use Rattle.group_types.specs.Sets.{has}
 use Rattle.group_reconcile.specs.Holders.{pairs}
 use Rattle.kip_msgs.specs.declared.heartbeat.TopicPartitions.{TopicPartitions}
 use Rattle.kip_msgs.specs.Topics.{topic_partitions_values}

@@ -8,6 +8,7 @@ use Rattle.group_core.specs.GroupView.{group_of}
 use Rattle.group_core.specs.Steady.{AreMarked}
 use Rattle.group_core.proofs.Responses.{of_farewell}
 use Rattle.group_core.proofs.Marking.{marked_left}
+use Rattle.group_core.proofs.Sinces.{let_go_since}
 use Rattle.group_core.proofs.leave.leave.Goals as goal
 
 pub returns-clause-keeps : goal.returns-clause-keeps
@@ -39,3 +40,7 @@ returns-clause-keeps c =
 
 pub returns-clause-response : goal.returns-clause-response
 returns-clause-response c = λ image. of_farewell _ _ image _ (search rules) c.args.member.now 0 (search rules)
+
+pub returns-clause-holders : goal.returns-clause-holders
+returns-clause-holders c =
+    record { since = let_go_since c.args.state.now.grants c.drop_member-2.new.self _ c.drop_member-2.ensures.since; err = tt }

@@ -11,7 +11,7 @@ use Rattle.group_types.specs.Request.{is_full, reported}
 use Rattle.group_types.specs.HeartbeatStep.{assignment_of, is_news}
 use Rattle.kip_msgs.specs.Views.{heartbeat_request_value}
 use Rattle.group_epochs.specs.Request.{heartbeat_of}
-use Rattle.topic_meta.specs.Facts.{AreImageTopics}
+use Rattle.group_types.specs.Images.{AreImageTopics}
 use Rattle.group_core.specs.Stages.{AreOfView, grants_then, shown_then, target_then}
 use Rattle.group_core.proofs.FewPartitions.{few_shown}
 use Rattle.group_core.proofs.plan.plan_of.Goals as goal

@@ -24,6 +24,7 @@ use Rattle.group_core.proofs.TakenIn.{heir_in_room}
 use Rattle.group_core.proofs.HandOvers.{heir_is_absent, old_is_not_past, told}
 use Rattle.group_core.proofs.Idle.{nothing_after}
 use Rattle.group_core.proofs.Settling.{current_then, stages}
+use Rattle.group_core.proofs.Sinces.{offered_since, stored_epoch, then_same_since}
 use Rattle.group_core.proofs.settle.settle.Goals as goal
 
 -- what an offer of the target that a renewal leaves comes to
@@ -103,3 +104,15 @@ returns-clause-current c = λ image is.
 
 pub returns-clause-group : goal.returns-clause-group
 returns-clause-group c = (c.in_ok-plan.plan.owned, c.in_ok-plan.plan.sent, stored_then c)
+
+pub returns-clause-holders : goal.returns-clause-holders
+returns-clause-holders c =
+    let s = c.args.state.now in
+    let d = c.args.draft in
+    let r = c.args.renewal in
+    let t : TargetState = target_then s r in
+    let since = offered_since s.grants c.offered.new.grants d.member.id c.target_of-target.result.now.epoch c.in_ok-moves.ensures.since in
+    let epoch = ap (λ (g : Group). g.target_epoch) (stored_then c)
+    ∙ stored_epoch _ d.member.id _ (heir_in s d)
+    ∙ ap (λ (t : TargetState). t.epoch) (sym c.target_of-target.ensures) in
+    record { since = then_same_since s.grants c.offered.new.grants c.carry_out-reply.new.state.grants _ _ since c.carry_out-reply.ensures.since epoch; err = tt }

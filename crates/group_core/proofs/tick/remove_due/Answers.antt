@@ -65,6 +65,7 @@ loop-rank-preserved c =
       rest = same_end s c.due.new.self c.due.ensures.same c.in-Some.rank first (group_of c.remove_at.new.state) c.remove_at.ensures.group ∙ c.loop-rank.invariant.rest;
       count = omega (arith, ap length dues, count);
       marks = c.remove_at.ensures.marks;
+      since = λ p d is. c.loop-rank.invariant.since p d (c.remove_at.ensures.since p d is);
     }
 
 pub returns-clause-group : goal.returns-clause-group

@@ -3,7 +3,7 @@ use Rattle.kip_msgs.specs.Views.{heartbeat_request_value}
 use Rattle.group_types.specs.HeartbeatStep.{Arrival}
 use Rattle.group_epochs.specs.Request.{arrival_of}
 use Rattle.group_core.specs.Outcome.{answer_of}
-use Rattle.coord_node.proofs.KeptLemmas.{IsKept-heartbeat, current_if_same}
+use Rattle.coord_node.proofs.KeptLemmas.{HasRightNumber-heartbeat, current_if_same}
 use Rattle.coord_node.proofs.ShortIds.{HasShortId-step}
 use Rattle.coord_node.proofs.kept.Kept.heartbeat.Goals as goal
 
@@ -15,7 +15,7 @@ pub returns-clause-sendable : goal.returns-clause-sendable
 returns-clause-sendable c =
     let h : Arrival = arrival_of (heartbeat_request_value c.args.request.now) c.args.stamp c.args.now c.args.image.now in
     record {
-      id = HasShortId-step c.args.self.now.group h (answer_of c.in_ok-outcome.outcome) c.heartbeat_over.new.self c.requires.id c.in_ok-outcome.ensures.step;
+      id = HasShortId-step c.args.self.now.group.state h (answer_of c.in_ok-outcome.outcome) c.heartbeat_over.new.self.state c.requires.id c.in_ok-outcome.ensures.step;
       few = c.in_ok-outcome.ensures.response.few;
       room = c.in_ok-outcome.ensures.response.room;
     }
@@ -23,5 +23,5 @@ returns-clause-sendable c =
 pub returns-clause-kept : goal.returns-clause-kept
 returns-clause-kept c =
     let h : Arrival = arrival_of (heartbeat_request_value c.args.request.now) c.args.stamp c.args.now c.args.image.now in
-    IsKept-heartbeat c.args.generation c.args.image.now c.args.self.now _ c.requires.kept h (answer_of c.in_ok-outcome.outcome)
+    HasRightNumber-heartbeat c.args.generation c.args.image.now c.args.self.now _ c.requires.kept h (answer_of c.in_ok-outcome.outcome)
     c.in_ok-outcome.ensures.step c.in_ok-outcome.ensures.response.current c.known_after-self.ensures

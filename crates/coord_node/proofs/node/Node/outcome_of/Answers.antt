@@ -11,24 +11,21 @@ use Rattle.group_core.specs.Outcome.{answer_of}
 use Rattle.group_epochs.proofs.Found.{set_value_at-itself}
 use Rattle.coord_node.specs.declared.kept.Kept.{Kept}
 use Rattle.coord_node.specs.Coordinator.{Coordinator, Groups}
-use Rattle.coord_node.specs.Kept.{IsKept}
+use Rattle.coord_node.specs.Kept.{HasRightNumber, group_in}
 use Rattle.coord_node.specs.NodeView.{groups_of}
 use Rattle.coord_node.specs.Steps.{with_group}
 use Rattle.coord_node.proofs.AnswerLemmas.{at_present}
 use Rattle.coord_node.proofs.GroupLemmas.{as_map-set, get-as_map, OfEach-at, OfEach-set, length-set_value_at, absent_entry}
 use Rattle.coord_node.proofs.node.Node.outcome_of.Goals as goal
 
-abbrev group_in : Kept → Group
-group_in k = k.group
-
 pub heartbeat-requires-clause-kept : goal.heartbeat-requires-clause-kept
 heartbeat-requires-clause-kept c =
-    OfEach-at (IsKept c.self.inside.generation c.self.inside.image) c.self.inside.groups.entries c.in-Some.place c.index_mut-kept.result.now c.self.invariant.kept c.index_mut-kept.ensures.value
+    OfEach-at (HasRightNumber c.self.inside.generation c.self.inside.image) c.self.inside.groups.entries c.in-Some.place c.index_mut-kept.result.now c.self.invariant.kept c.index_mut-kept.ensures.value
 
 pub invariant_of-self : goal.invariant_of-self
 invariant_of-self c =
     record {
-      kept = OfEach-set (IsKept c.self.inside.generation c.self.inside.image) c.self.inside.groups.entries c.in-Some.place c.heartbeat.new.self c.self.invariant.kept c.heartbeat.ensures.kept;
+      kept = OfEach-set (HasRightNumber c.self.inside.generation c.self.inside.image) c.self.inside.groups.entries c.in-Some.place c.heartbeat.new.self c.self.invariant.kept c.heartbeat.ensures.kept;
       few = omega (arith, length-set_value_at c.self.inside.groups.entries c.in-Some.place c.heartbeat.new.self, c.self.invariant.few);
     }
 
@@ -48,17 +45,17 @@ returns-in-Some-clause-step c =
     let h : Arrival = arrival_of v c.args.stamp c.args.now n.image in
     let old = c.index_mut-kept.result.now in
     let new = c.heartbeat.new.self in
-    let there : finite.get n.groups name ≡ Some old.group =
+    let there : finite.get n.groups name ≡ Some old.group.state =
     ap (λ (n : Coordinator). finite.get n.groups name) (sym c.self.view_is)
     ∙ get-as_map group_in entries name ∙ ap (option_map group_in) (sym c.in-Some.ensures.value ∙ c.index_mut-kept.ensures.value) in
     let after : Groups = groups_of (set_value_at entries c.in-Some.place new) in
-    let is : (record { salt = c.self.inside.salt; groups = after; image = c.self.inside.image }) ≡ with_group n name new.group =
+    let is : (record { salt = c.self.inside.salt; groups = after; image = c.self.inside.image }) ≡ with_group n name new.group.state =
     ap (λ (m : Groups). let x : Coordinator = record { salt = c.self.inside.salt; groups = m; image = c.self.inside.image } in x)
     (as_map-set group_in entries name c.in-Some.place new (sym c.in-Some.ensures.index))
-    ∙ ap (λ (x : Coordinator). with_group x name new.group) c.self.view_is in
+    ∙ ap (λ (x : Coordinator). with_group x name new.group.state) c.self.view_is in
     IfOk-weaker c.heartbeat.result _ _
-    (λ outcome step. at_present n h old.group new.group there (answer_of outcome) _
-    (subst (λ (image : Topics). HeartbeatStep old.group (arrival_of v c.args.stamp c.args.now image) (answer_of outcome) new.group) (ap (λ (x : Coordinator). x.image) c.self.view_is) step) is)
+    (λ outcome step. at_present n h old.group.state new.group.state there (answer_of outcome) _
+    (subst (λ (image : Topics). HeartbeatStep old.group.state (arrival_of v c.args.stamp c.args.now image) (answer_of outcome) new.group.state) (ap (λ (x : Coordinator). x.image) c.self.view_is) step) is)
     c.heartbeat.ensures.step
 
 pub returns-in-Some-clause-err : goal.returns-in-Some-clause-err

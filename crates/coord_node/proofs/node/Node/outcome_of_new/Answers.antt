@@ -10,7 +10,7 @@ use Rattle.group_epochs.specs.Request.{arrival_of}
 use Rattle.group_core.specs.Outcome.{answer_of}
 use Rattle.coord_node.specs.declared.kept.Kept.{Kept}
 use Rattle.coord_node.specs.Coordinator.{Coordinator}
-use Rattle.coord_node.specs.Kept.{IsKept}
+use Rattle.coord_node.specs.Kept.{HasRightNumber}
 use Rattle.coord_node.specs.NodeView.{Entries, IsAdmitted, fails, kept, full, groups_of}
 use Rattle.coord_node.specs.Steps.{HeartbeatAt}
 use Rattle.coord_node.proofs.AnswerLemmas.{at_admission}
@@ -29,7 +29,7 @@ still_of_each P old entries name k given answer_in (Err e) each here admitted er
 pub invariant_of-self : goal.invariant_of-self
 invariant_of-self c =
     record {
-      kept = still_of_each (IsKept c.self.inside.generation c.self.inside.image) c.self.inside.groups.entries c.admit.new.groups.entries c.args.request.now.group_id.now
+      kept = still_of_each (HasRightNumber c.self.inside.generation c.self.inside.image) c.self.inside.groups.entries c.admit.new.groups.entries c.args.request.now.group_id.now
           c.heartbeat.new.self (answer_of c.in_ok-outcome.outcome) answer_of c.admit.result c.self.invariant.kept c.in_ok-outcome.ensures.kept c.admit.ensures.admitted c.admit.ensures.err;
       few = c.admit.ensures.few c.self.invariant.few;
     }
@@ -42,13 +42,13 @@ returns-clause-step c =
     let given = answer_of c.in_ok-outcome.outcome in
     let new = c.heartbeat.new.self in
     let entries = c.admit.new.groups.entries in
-    let step : HeartbeatStep c.new-kept.result.group h given new.group =
-    subst (λ (image : Topics). HeartbeatStep c.new-kept.result.group (arrival_of v c.args.stamp c.args.now image) given new.group) (ap (λ (x : Coordinator). x.image) c.self.view_is) c.in_ok-outcome.ensures.step in
+    let step : HeartbeatStep c.new-kept.result.group.state h given new.group.state =
+    subst (λ (image : Topics). HeartbeatStep c.new-kept.result.group.state (arrival_of v c.args.stamp c.args.now image) given new.group.state) (ap (λ (x : Coordinator). x.image) c.self.view_is) c.in_ok-outcome.ensures.step in
     let is : (record n { groups = groups_of entries }) ≡ (record { salt = c.self.inside.salt; groups = groups_of entries; image = c.self.inside.image }) =
     ap (λ (x : Coordinator). record x { groups = groups_of entries }) (sym c.self.view_is) in
     IfOk-weaker c.admit.result _ _
     (λ outcome admitted. subst (λ (x : Coordinator). HeartbeatAt (finite.get n.groups h.heartbeat.group) n h (answer_of outcome) x) is
-    (at_admission n h c.requires.absent c.new-kept.result.group new given (answer_of outcome) c.self.inside.groups.entries entries
+    (at_admission n h c.requires.absent c.new-kept.result.group.state new given (answer_of outcome) c.self.inside.groups.entries entries
     (c.new-kept.ensures.group ∙ ap (λ (x : Coordinator). new_group x.salt) c.self.view_is) step
     (ap (λ (x : Coordinator). x.groups) c.self.view_is) admitted))
     c.admit.ensures.admitted

@@ -10,19 +10,16 @@ use Rattle.group_core.specs.Commits.{Commits}
 use Rattle.group_epochs.proofs.Found.{set_value_at-itself}
 use Rattle.coord_node.specs.declared.kept.Kept.{Kept}
 use Rattle.coord_node.specs.Coordinator.{Coordinator, Groups}
-use Rattle.coord_node.specs.Kept.{IsKept}
+use Rattle.coord_node.specs.Kept.{HasRightNumber, group_in}
 use Rattle.coord_node.specs.NodeView.{groups_of}
 use Rattle.coord_node.specs.Steps.{with_group}
 use Rattle.coord_node.proofs.CommitLemmas.{commits_at_absent, commits_at_present}
 use Rattle.coord_node.proofs.GroupLemmas.{as_map-set, get-as_map, OfEach-at, OfEach-set, length-set_value_at, absent_entry}
 use Rattle.coord_node.proofs.node.Node.reply_of_commit.Goals as goal
 
-abbrev group_in : Kept → Group
-group_in k = k.group
-
 pub invariant_of-self : goal.invariant_of-self
 invariant_of-self c =
-    let P = IsKept c.self.inside.generation c.self.inside.image in
+    let P = HasRightNumber c.self.inside.generation c.self.inside.image in
     let entries = c.self.inside.groups.entries in
     let before : P c.index_mut-group.result.now = OfEach-at P entries c.in-Some.place c.index_mut-group.result.now c.self.invariant.kept c.index_mut-group.ensures.value in
     record {
@@ -38,17 +35,17 @@ returns-in-Some-clause-step c =
     let name = c.args.request.now.group_id.now in
     let old = c.index_mut-group.result.now in
     let new = c.commit.new.self in
-    let there : finite.get n.groups name ≡ Some old.group =
+    let there : finite.get n.groups name ≡ Some old.group.state =
     ap (λ (n : Coordinator). finite.get n.groups name) (sym c.self.view_is)
     ∙ get-as_map group_in entries name ∙ ap (option_map group_in) (sym c.in-Some.ensures.value ∙ c.index_mut-group.ensures.value) in
     let after : Groups = groups_of (set_value_at entries c.in-Some.place new) in
-    let is : (record { salt = c.self.inside.salt; groups = after; image = c.self.inside.image }) ≡ with_group n name new.group =
+    let is : (record { salt = c.self.inside.salt; groups = after; image = c.self.inside.image }) ≡ with_group n name new.group.state =
     ap (λ (m : Groups). let x : Coordinator = record { salt = c.self.inside.salt; groups = m; image = c.self.inside.image } in x)
     (as_map-set group_in entries name c.in-Some.place new (sym c.in-Some.ensures.index))
-    ∙ ap (λ (x : Coordinator). with_group x name new.group) c.self.view_is in
+    ∙ ap (λ (x : Coordinator). with_group x name new.group.state) c.self.view_is in
     IfOk-weaker c.commit.result _ _
-    (λ reply commits. commits_at_present n _ v (commit_reply_value reply) old.group new.group there
-    (subst (λ (image : Topics). Commits old.group (commit_of v) image (commit_reply_value reply) new.group) (ap (λ (x : Coordinator). x.image) c.self.view_is) commits) is)
+    (λ reply commits. commits_at_present n _ v (commit_reply_value reply) old.group.state new.group.state there
+    (subst (λ (image : Topics). Commits old.group.state (commit_of v) image (commit_reply_value reply) new.group.state) (ap (λ (x : Coordinator). x.image) c.self.view_is) commits) is)
     c.commit.ensures.step
 
 pub returns-in-Some-clause-err : goal.returns-in-Some-clause-err

@@ -30,7 +30,7 @@ loop-event-preserved c =
     subst (λ (items : List NodeEvent). Runs c.args.self.now c.args.events.now.items c.loop-event.self items c.args.out.now.items c.loop-event.out.items) front c.loop-event.invariant in
     Runs-step c.args.self.now c.loop-event.self c.set_image.new.self c.args.events.now.items c.pop_front-in-Image.new.self.items
     (events.Image image) (Done 0) c.args.out.now.items c.loop-event.out.items c.loop-event.out.items
-    runs (refl, c.set_image.ensures) (sym (append-nil c.loop-event.out.items))
+    runs (refl, c.set_image.ensures.value, c.set_image.ensures.sound) (sym (append-nil c.loop-event.out.items))
 
 pub loop-event-preserved-in-Tick-3 : goal.loop-event-preserved-in-Tick-3
 loop-event-preserved-in-Tick-3 c =

@@ -1,6 +1,6 @@
 use Rattle.std.proofs.Common.{sym, subst}
 use Rattle.group_types.specs.Sound.{IsSound}
-use Rattle.group_types.proofs.Soundness.{ticked_is_sound}
+use Rattle.group_types.proofs.Runs.{ticked_is_sound}
 use Rattle.group_core.specs.GroupView.{group_of}
 use Rattle.group_core.proofs.group.Group.tick.Goals as goal
 

@@ -8,7 +8,7 @@ use Rattle.group_core.specs.Steady.{AreMarked}
 use Rattle.group_core.proofs.Responses.{of_farewell}
 use Rattle.group_core.proofs.Marking.{marked_away}
 use Rattle.group_epochs.proofs.Senders.{there_is}
-use Rattle.group_core.proofs.away.go_away.Goals as goal
+use Rattle.group_core.proofs.leave.go_away.Goals as goal
 
 pub returns-clause-group : goal.returns-clause-group
 returns-clause-group c =

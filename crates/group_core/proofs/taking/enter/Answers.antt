@@ -18,7 +18,8 @@ use Rattle.group_core.specs.Steady.{AreMarked}
 use Rattle.group_types.specs.Sound.{IsSound}
 use Rattle.group_core.proofs.Results.{on_err}
 use Rattle.group_core.proofs.TakenIn.{entered, free}
-use Rattle.group_core.proofs.enter.enter.Goals as goal
+use Rattle.group_core.proofs.taking.enter.Goals as goal
+use Rattle.group_core.proofs.Sinces.{holders_from, unchanged_holders}
 
 pub take_in-requires-clause-group : goal.take_in-requires-clause-group
 take_in-requires-clause-group c =
@@ -82,3 +83,13 @@ returns-in_err-draft-clause-keeps c =
           (subst (λ (g : Group). AreMarked g c.args.state.now.records.marks) same c.requires.group.marked);
       err = on_err c.from_residual.result _ c.draft_of.ensures.group;
     }
+
+pub returns-in-Some-clause-holders : goal.returns-in-Some-clause-holders
+returns-in-Some-clause-holders c =
+    holders_from c.take_in.result c.args.state.now c.draft_of.new.state c.take_in.new.state c.in_ok-draft.ensures.holders c.take_in.ensures.holders
+
+pub returns-in-None-clause-holders : goal.returns-in-None-clause-holders
+returns-in-None-clause-holders c = unchanged_holders c.refuse.result c.args.state.now c.draft_of.new.state c.in_ok-draft.ensures.holders
+
+pub returns-in_err-draft-clause-holders : goal.returns-in_err-draft-clause-holders
+returns-in_err-draft-clause-holders c = unchanged_holders c.from_residual.result c.args.state.now c.draft_of.new.state c.draft_of.ensures.holders

@@ -6,7 +6,7 @@ use Rattle.group_types.proofs.Lookups.{Found, this, another, found}
 use Rattle.group_epochs.specs.Records.{Marks}
 use Rattle.group_core.specs.GroupView.{group_of}
 use Rattle.group_core.specs.Steady.{AreMarked, IsSteady}
-use Rattle.group_core.proofs.mark.mark_if_steady.Goals as goal
+use Rattle.group_core.proofs.mark.mark_replied.Goals as goal
 
 -- one steady member more is marked
 marked_more : (g : Group) (marks : Marks) → AreMarked g marks → (m : Text) → IsSteady g m → (epoch : ℕ) → epoch ≡ g.target_epoch → AreMarked g (finite.insert marks m epoch)
@@ -23,5 +23,5 @@ returns-then-is_steady-clause-marks c =
     let new : Group = record g { records = c.mark.new.self.records; past = c.mark.new.self.past } in
     let same : g ≡ new = λ i. record g { records = (sym c.mark.ensures.members i).records; past = (sym c.mark.ensures.members i).past } in
     subst (λ (ms : Marks). AreMarked new ms) (sym c.mark.ensures.marks)
-    (subst (λ (x : Group). AreMarked x (finite.insert s.records.marks c.args.member.now c.epoch.result)) same
-    (marked_more g s.records.marks c.requires c.args.member.now (c.is_steady.ensures c.if-is_steady.true) c.epoch.result c.epoch.ensures))
+    (subst (λ (x : Group). AreMarked x (finite.insert s.records.marks c.as_str-id.result.now c.epoch.result)) same
+    (marked_more g s.records.marks c.requires c.as_str-id.result.now (c.is_steady.ensures c.if-is_steady.true) c.epoch.result c.epoch.ensures))
