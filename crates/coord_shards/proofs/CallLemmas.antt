@@ -3,7 +3,7 @@ use Rattle.std.proofs.Common.{◌≡◌, ℕ, ◌+◌, Result, Ok, Err, IfOk, On
 use Rattle.std.specs.List.{All}
 use Rattle.std.specs.declared.alloc.AllocError.{AllocError}
 use Rattle.coord_node.specs.Coordinator as node
-use Rattle.coord_shards.specs.declared.entry.Entry.{Entry}
+use Rattle.coord_shards.specs.declared.shard.Entry.{Entry}
 use Rattle.coord_shards.specs.declared.incoming.Outcome.{Outcome}
 use Rattle.coord_shards.specs.Home.{IsHome}
 use Rattle.coord_shards.specs.declared.event.Event.{Event}

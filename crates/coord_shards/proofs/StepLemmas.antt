@@ -8,7 +8,7 @@ use Rattle.std.proofs.lemmas.List.Sums.{sum_by-append, sum_by-set}
 use Rattle.std.proofs.lemmas.Bool.Decides.{Decides-eqb, nat_tests}
 use Rattle.coord_node.specs.Coordinator.{Coordinator, Event, Answer}
 use Rattle.coord_node.specs.Steps.{EventRelation, RunBy, Step}
-use Rattle.coord_shards.specs.declared.entry.Entry.{Entry}
+use Rattle.coord_shards.specs.declared.shard.Entry.{Entry}
 use Rattle.coord_shards.specs.Limits.{MOST_SEATS}
 use Rattle.coord_shards.specs.Events.{node_event}
 use Rattle.coord_shards.specs.Home.{IsHome}

@@ -5,7 +5,7 @@ use Rattle.coord_node.specs.Coordinator.{Coordinator, bytes_of}
 use Rattle.coord_node.specs.Coordinator as node
 use Rattle.coord_node.specs.Answers.{IsAnswered}
 use Rattle.coord_node.specs.Steps.{Step}
-use Rattle.coord_shards.specs.declared.entry.Entry.{Entry}
+use Rattle.coord_shards.specs.declared.shard.Entry.{Entry}
 use Rattle.coord_shards.specs.declared.event.Event.{Event}
 use Rattle.coord_shards.specs.declared.event.Answer.{Answer}
 use Rattle.coord_shards.specs.Events.{node_event, node_answer}

@@ -1,8 +1,8 @@
 -- What the shards and the seats come to at the end.
 use Rattle.std.specs.Prelude.{◌≡◌, ◌==◌, ◌<◌, ℕ, List, All, map, sum, slice_index}
 use Rattle.std.specs.List.{filter}
-use Rattle.coord_shards.specs.declared.entry.Entry.{Entry}
-use Rattle.coord_shards.specs.declared.sent.Sent.{Sent}
+use Rattle.coord_shards.specs.declared.shard.Entry.{Entry}
+use Rattle.coord_shards.specs.declared.seat.Sent.{Sent}
 use Rattle.coord_shards.specs.declared.event.Event.{Event}
 use Rattle.coord_shards.specs.Shard.{ShardState}
 use Rattle.coord_shards.specs.Seat.{SeatState}

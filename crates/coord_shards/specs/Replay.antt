@@ -2,7 +2,7 @@
 use Rattle.std.specs.Prelude.{◌≡◌, ℕ, ◌+◌, ◌<◌, ◌≤◌, ◌==◌, List, [], All, if◌then◌else◌, map, length, count_by, slice_index, sum, MatchOption}
 use Rattle.coord_node.specs.Coordinator.{Coordinator, Answer, opening}
 use Rattle.coord_node.specs.Steps.{Run, Step}
-use Rattle.coord_shards.specs.declared.entry.Entry.{Entry}
+use Rattle.coord_shards.specs.declared.shard.Entry.{Entry}
 use Rattle.coord_shards.specs.declared.event.Answer as shards
 use Rattle.coord_shards.specs.declared.shard.Shard.TheInside.{Inside}
 use Rattle.coord_shards.specs.Limits.{MOST_SEATS}

@@ -1,6 +1,6 @@
 -- What contracts see of a seat.
 use Rattle.std.specs.Prelude.{◌≡◌, ℕ, ◌*◌, ◌-◌, ◌^◌, List, [], sum, slice_index}
-use Rattle.coord_shards.specs.declared.sent.Sent.{Sent}
+use Rattle.coord_shards.specs.declared.seat.Sent.{Sent}
 use Rattle.coord_shards.specs.Limits.{MOST_SEATS}
 
 -- its number, how many of its calls each shard took, and what was sent by these calls, where journals keep entries

@@ -1,7 +1,7 @@
 -- What contracts see of a shard.
 use Rattle.std.specs.Prelude.{ℕ, List, ◌==◌, ◌+◌, [], ◌∷◌, ◌++◌, if◌then◌else◌, slice_index, slice_set}
 use Rattle.coord_node.specs.Coordinator.{Coordinator}
-use Rattle.coord_shards.specs.declared.entry.Entry.{Entry}
+use Rattle.coord_shards.specs.declared.shard.Entry.{Entry}
 
 -- its number among so many shards, the salt of its ids, how many entries its journal may keep, the present state of its node,
 -- the entries that are kept, and how many entries each seat made

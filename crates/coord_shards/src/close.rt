@@ -1,5 +1,5 @@
 //! The end of shards.
-ghost use Rattle.std.specs.Prelude.{◌≡◌, ◌⊎◌, ◌≤◌, All, Some, IfOk, IfErr, IfSome, IfNone, sum_by, length, vec_len, vec_capacity};
+ghost use Rattle.std.specs.Prelude.{◌≡◌, ◌⊎◌, ◌≤◌, All, IfOk, IfErr, IsErrOf, OnOk, sum_by, length, vec_len, vec_capacity};
 ghost use Rattle.coord_shards.specs.Seat.{calls_of};
 ghost use Rattle.coord_shards.specs.Close.{AgreesWithAll, entries_of};
 
@@ -41,9 +41,7 @@ impl<A: Ledger, C: Ledger, G> Shards<A, C, G> {
         ensures faults { IfErr result (λ kept. (kept.fault ≡ ShardFault.NoSeat)
             ⊎ ((kept.fault ≡ ShardFault.NoMemory) ⊎ (kept.fault ≡ ShardFault.Unequal))) }
     {
-        let held = Vec::with_capacity(alloc, self.shards.len());
-        let closed = Vec::with_capacity(alloc, self.shards.len());
-        let (Ok(mut held), Ok(closed)) = (held, closed) else {
+        let Ok(mut held) = Vec::with_capacity(alloc, self.shards.len()) else {
             return Err(Unclosed {
                 shards: self,
                 seats,
@@ -52,68 +50,64 @@ impl<A: Ledger, C: Ledger, G> Shards<A, C, G> {
         };
         let mut locks = self.shards;
         let registry = self.registry.into_inner();
-        unlock_all(&mut locks, &mut held);
-        let Some(fault) = fault_of(registry.given, self.plan.cap, &held, &seats) else {
-            return Ok(settle(registry, &self.entries, &self.calls, held, seats, closed));
-        };
-        lock_all(held, &mut locks);
-        let shards = Shards {
-            shards: locks,
-            registry: Mutex::new(registry),
-            ..self
-        };
-        Err(Unclosed {
-            shards,
-            seats,
-            fault,
-        })
+        pour(&mut locks, &mut held, |lock| lock.into_inner());
+        match room_for(alloc, registry.given, self.plan.cap, &held, &seats) {
+            Ok(closed) => Ok(settle(registry, &self.entries, &self.calls, held, seats, closed)),
+            Err(fault) => {
+                pour(&mut held, &mut locks, |held| Mutex::new(held));
+                let shards = Shards {
+                    shards: locks,
+                    registry: Mutex::new(registry),
+                    ..self
+                };
+                Err(Unclosed {
+                    shards,
+                    seats,
+                    fault,
+                })
+            }
+        }
     }
 }
 
-/// Why shards can't be closed with these seats: one of those that were given out is missing, or one doesn't agree with a shard.
-fn fault_of<A: Ledger, C: Ledger>(
+/// An empty list with room for the shards, unless memory is short, one of the seats that were given out is missing, or one doesn't
+/// agree with a shard.
+fn room_for<A: Ledger, C: Ledger>(
+    alloc: Global,
     given: usize,
     cap: usize,
     held: &[Held<A, C>],
     seats: &[Seat<C>],
-) -> Option<ShardFault>
-    ensures none { IfNone result ((given ≡ length seats.now) × All (λ h. AgreesWithAll cap seats.now h.shard) held.now) }
-    ensures fault { IfSome result (λ fault. (fault ≡ ShardFault.NoSeat) ⊎ (fault ≡ ShardFault.Unequal)) }
-    ensures unequal { result ≡ Some ShardFault.Unequal → ¬ (All (λ h. AgreesWithAll cap seats.now h.shard) held.now) }
+) -> Result<Vec<Shard>, ShardFault>
+    ensures empty { IfOk result (λ closed. (vec_len closed ≡ 0) × (length held.now ≤ vec_capacity closed)) }
+    ensures agree { OnOk result ((given ≡ length seats.now) × All (λ h. AgreesWithAll cap seats.now h.shard) held.now) }
+    ensures faults { IfErr result (λ fault. (fault ≡ ShardFault.NoSeat)
+        ⊎ ((fault ≡ ShardFault.NoMemory) ⊎ (fault ≡ ShardFault.Unequal))) }
+    ensures unequal { IsErrOf result ShardFault.Unequal → ¬ (All (λ h. AgreesWithAll cap seats.now h.shard) held.now) }
 {
+    let Ok(closed) = Vec::with_capacity(alloc, held.len()) else {
+        return Err(ShardFault::NoMemory);
+    };
     if given != seats.len() {
-        return Some(ShardFault::NoSeat);
+        return Err(ShardFault::NoSeat);
     }
     if !all_agree(cap, held, seats) {
-        return Some(ShardFault::Unequal);
+        return Err(ShardFault::Unequal);
     }
-    None
+    Ok(closed)
 }
 
-/// Takes the shards out of their locks, last ones first, into a list that has room for them.
-fn unlock_all<A: Ledger, C: Ledger>(locks: &mut Vec<Mutex<Held<A, C>>>, held: &mut Vec<Held<A, C>>)
-    requires empty { vec_len held.old ≡ 0 }
-    requires room { vec_len locks.old ≤ vec_capacity held.old }
-    ensures number { vec_len held.new ≡ vec_len locks.old }
-    ensures no_locks { vec_len locks.new ≡ 0 }
-    ensures room { vec_len locks.old ≤ vec_capacity locks.new }
+/// Moves all elements, last ones first and each changed, to an empty list that has room for them.
+fn pour<T, U: Drop, F: Fn(T) -> U + Drop>(from: &mut Vec<T>, to: &mut Vec<U>, change: F)
+    requires callable { F.IsAlwaysCallable change }
+    requires empty { vec_len to.old ≡ 0 }
+    requires room { vec_len from.old ≤ vec_capacity to.old }
+    ensures number { vec_len to.new ≡ vec_len from.old }
+    ensures none_left { vec_len from.new ≡ 0 }
+    ensures kept { vec_len from.old ≤ vec_capacity from.new }
 {
-    while let Some(lock) = locks.pop() {
-        let Ok(()) = held.push(lock.into_inner()) else {
-            unreachable!();
-        };
-    }
-}
-
-/// Puts the shards behind locks, last ones first, in a list that has room for them.
-fn lock_all<A: Ledger, C: Ledger>(held: Vec<Held<A, C>>, locks: &mut Vec<Mutex<Held<A, C>>>)
-    requires empty { vec_len locks.old ≡ 0 }
-    requires room { vec_len held ≤ vec_capacity locks.old }
-    ensures { vec_len locks.new ≡ vec_len held }
-{
-    let mut held = held;
-    while let Some(shard) = held.pop() {
-        let Ok(()) = locks.push(Mutex::new(shard)) else {
+    while let Some(element) = from.pop() {
+        let Ok(()) = to.push(change(element)) else {
             unreachable!();
         };
     }

@@ -2,12 +2,10 @@
 ghost use Rattle.std.specs.Prelude.{◌≡◌, ◌↔◌, ◌<◌, [], ◌∷◌, All, IsTrue, IfSome, IfNone, length};
 ghost use Rattle.coord_shards.specs.Close.{events_from, events_to, Agrees, AgreesWithAll};
 
-use crate::entry::Entry;
 use crate::event::Event;
 use crate::held::Held;
-use crate::seat::Seat;
-use crate::sent::Sent;
-use crate::shard::Shard;
+use crate::seat::{Seat, Sent};
+use crate::shard::{Entry, Shard};
 use std::sync::ledger::Ledger;
 
 /// Whether all seats agree with all shards.
@@ -43,29 +41,16 @@ fn are_the_same(entries: &[Entry], seat: usize, sent: &[Sent], shard: usize) -> 
     ensures { IsTrue result ↔ (events_from seat entries.now ≡ events_to shard sent.now) }
 {
     let (mut entries, mut sent) = (entries, sent);
-    while let Some((came, behind)) = next_from(entries, seat) {
-        match next_to(sent, shard) {
-            Some((went, later)) if came.equals(went) => (entries, sent) = (behind, later),
-            _ => return false,
+    while let [entry, rest @ ..] = entries {
+        if entry.seat == seat {
+            match next_to(sent, shard) {
+                Some((went, later)) if entry.event.equals(went) => sent = later,
+                _ => return false,
+            }
         }
+        entries = rest;
     }
     next_to(sent, shard).is_none()
-}
-
-/// The first event that came from a seat, and the entries behind it.
-fn next_from(entries: &[Entry], seat: usize) -> Option<(&Event, &[Entry])>
-    ensures none { IfNone result (events_from seat entries.now ≡ []) }
-    ensures first { IfSome result (λ next. events_from seat entries.now ≡ next.0.now ∷ events_from seat next.1.now) }
-    ensures shorter { IfSome result (λ next. length next.1.now < length entries.now) }
-{
-    let mut left = entries;
-    while let [first, rest @ ..] = left {
-        if first.seat == seat {
-            return Some((&first.event, rest));
-        }
-        left = rest;
-    }
-    None
 }
 
 /// The first event that went to a shard, and what was sent behind it.

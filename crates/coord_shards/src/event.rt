@@ -43,18 +43,20 @@ pub enum Answer {
 }
 
 impl Answer {
-    ghost use Rattle.std.specs.Prelude.{◌≡◌, ◌↔◌, IsTrue, Some, []};
+    ghost use Rattle.std.specs.Prelude.{◌≡◌, ◌↔◌, IfOk, IsTrue, OnErr, Some, []};
     ghost use Rattle.coord_node.specs.Coordinator.{Answer as GivenAnswer};
     ghost use Rattle.coord_shards.specs.Events.{node_answer, IsGiven};
 
-    /// The answer by what became of the event, with the bytes of its reply.
-    pub(crate) fn of(outcome: Outcome, bytes: Vec<u8>) -> Answer
-        ensures { (given : GivenAnswer) → IsGiven outcome [] bytes.items given → node_answer result ≡ Some given }
+    /// The answer by what became of the event, with the bytes of its reply; refused where memory was short.
+    pub(crate) fn of(taken: Result<Outcome, AllocError>, bytes: Vec<u8>) -> Answer
+        ensures given { IfOk taken (λ outcome. (given : GivenAnswer) → IsGiven outcome [] bytes.items given → node_answer result ≡ Some given) }
+        ensures refused { OnErr taken (result ≡ Answer.Refused) }
     {
-        match outcome {
-            Outcome::Answered(Answered::Replied) => Answer::Replied(Octets::of(bytes)),
-            Outcome::Answered(Answered::Closes) => Answer::Closes,
-            Outcome::Done(removed) => Answer::Done(removed),
+        match taken {
+            Ok(Outcome::Answered(Answered::Replied)) => Answer::Replied(Octets::of(bytes)),
+            Ok(Outcome::Answered(Answered::Closes)) => Answer::Closes,
+            Ok(Outcome::Done(removed)) => Answer::Done(removed),
+            Err(_) => Answer::Refused,
         }
     }
 

@@ -5,12 +5,19 @@ ghost use Rattle.coord_shards.specs.Shard.{kept_with, one_more};
 ghost use Rattle.coord_shards.specs.Seat.{IsNewSeat, calls_of, most_calls};
 
 use crate::counts::no_counts;
+use crate::event::Event;
 use crate::incoming::Incoming;
 use crate::limits::{MOST_SEATS, MOST_SHARDS};
-use crate::sent::Sent;
 use std::alloc::{AllocError, Global};
 use std::marker::Model;
 use std::sync::ledger::{Ledger, Share};
+
+/// An event, and the number of the shard that took it: what a seat keeps.
+#[derive(Drop)]
+pub struct Sent {
+    pub shard: usize,
+    pub event: Event,
+}
 
 /// The right to call shards, for one thread at a time. It is of the shards that gave it out, and of no others.
 #[derive(Drop)]

@@ -20,7 +20,7 @@ pub(crate) fn settle<A: Ledger, C: Ledger>(
     calls: &Total<C>,
     held: Vec<Held<A, C>>,
     seats: Vec<Seat<C>>,
-    closed: Vec<Shard>,
+    mut closed: Vec<Shard>,
 ) -> Vec<Shard>
     requires entries { (entries.now.parts ≡ 2 * vec_len held) × (entries.now.amount ≡ vec_len held * most_entries) }
     requires calls { (calls.now.parts ≡ MOST_SEATS + vec_len held) × (calls.now.amount ≡ most_entries) }
@@ -31,7 +31,6 @@ pub(crate) fn settle<A: Ledger, C: Ledger>(
     ensures total { sum_by entries_of result.items ≡ sum_by calls_of seats.items }
 {
     let (mut all_entries, mut all_calls) = (registry.entries, registry.seats);
-    let mut closed = closed;
     take_shards(held, &mut closed, &mut all_entries, &mut all_calls);
     take_seats(seats, &mut all_calls);
     entries.audit(&mut all_entries);
@@ -41,7 +40,7 @@ pub(crate) fn settle<A: Ledger, C: Ledger>(
 
 /// Moves the shards, last ones first, to a list that has room for them, and their shares to one share of each ledger.
 fn take_shards<A: Ledger, C: Ledger>(
-    held: Vec<Held<A, C>>,
+    mut held: Vec<Held<A, C>>,
     closed: &mut Vec<Shard>,
     entries: &mut Share<A>,
     calls: &mut Share<C>,
@@ -54,7 +53,6 @@ fn take_shards<A: Ledger, C: Ledger>(
     ensures amounts { entries.new.amount + calls.new.amount
         ≡ entries.old.amount + calls.old.amount + vec_len held * most_entries + sum_by entries_of closed.new.items }
 {
-    let mut held = held;
     while let Some(it) = held.pop() {
         entries.merge(it.left);
         entries.merge(it.entered);
@@ -66,11 +64,10 @@ fn take_shards<A: Ledger, C: Ledger>(
 }
 
 /// Moves the shares of seats to one share.
-fn take_seats<C: Ledger>(seats: Vec<Seat<C>>, calls: &mut Share<C>)
+fn take_seats<C: Ledger>(mut seats: Vec<Seat<C>>, calls: &mut Share<C>)
     ensures parts { calls.new.parts ≡ calls.old.parts + vec_len seats }
     ensures amount { calls.new.amount + sum_by calls_of seats.items ≡ calls.old.amount + vec_len seats * most_calls }
 {
-    let mut seats = seats;
     while let Some(seat) = seats.pop() {
         calls.merge(seat.into_share());
     }

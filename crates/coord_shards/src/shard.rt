@@ -7,14 +7,29 @@ ghost use Rattle.coord_shards.specs.Shard.{kept_with};
 ghost use Rattle.coord_shards.specs.Replay.{Replay, IsFull, GoesOn, ShardStep};
 
 use crate::counts::no_counts;
-use crate::entry::Entry;
 use crate::event::{Answer, Event};
 use crate::incoming::{Incoming, Outcome};
 use crate::limits::MOST_SEATS;
-use crate::plan::Plan;
 use coord_node::Node;
 use std::alloc::{AllocError, Global};
+use std::collections::hash_map::RandomState;
 use std::marker::Model;
+
+/// An event, and the number of the seat that it came from: what a journal keeps.
+#[derive(Drop)]
+pub struct Entry {
+    pub seat: usize,
+    pub event: Event,
+}
+
+/// What all shards have in common: the salt of the ids that they make, how many entries their journals keep, and how their
+/// nodes look groups up.
+#[derive(Clone, Copy)]
+pub(crate) struct Plan {
+    pub(crate) salt: u64,
+    pub(crate) cap: usize,
+    pub(crate) hasher: RandomState,
+}
 
 /// One coordinator of several: a node, the entries that were made in it, and how many of them each seat made.
 ///
@@ -127,10 +142,8 @@ impl Shard {
         let Ok(event) = Incoming::of(self.alloc, &event) else {
             return Answer::Refused;
         };
-        match self.take(seat, &event, &mut out) {
-            Ok(outcome) => Answer::of(outcome, out),
-            Err(_) => Answer::Refused,
-        }
+        let taken = self.take(seat, &event, &mut out);
+        Answer::of(taken, out)
     }
 
     /// Takes an event of this shard from a seat, as [`Shard::step`], and appends the bytes of the answer. The event is copied only

@@ -12,10 +12,9 @@ use crate::gate::Gate;
 use crate::held::Held;
 use crate::incoming::{Incoming, Outcome};
 use crate::limits::{MOST_KEPT, MOST_SEATS, MOST_SHARDS};
-use crate::plan::Plan;
 use crate::registry::{Registry, fill};
 use crate::seat::Seat;
-use crate::shard::Shard;
+use crate::shard::{Plan, Shard};
 use coord_node::{Answered, Moment, ParsedBody, Stamp};
 use std::alloc::{AllocError, Global};
 use std::collections::hash_map::RandomState;
@@ -145,10 +144,8 @@ impl<A: Ledger, C: Ledger, G> Shards<A, C, G> {
         let Ok(event) = Incoming::of(alloc, &event) else {
             return Answer::Refused;
         };
-        match self.take(rt, alloc, seat, &event, &mut out) {
-            Ok(outcome) => Answer::of(outcome, out),
-            Err(_) => Answer::Refused,
-        }
+        let taken = self.take(rt, alloc, seat, event, &mut out);
+        Answer::of(taken, out)
     }
 
     /// Answers the body of a frame from a seat, as [`Shards::call`] answers the event that it is: appends the one frame of the reply,
@@ -175,7 +172,7 @@ impl<A: Ledger, C: Ledger, G> Shards<A, C, G> {
     {
         let body = ParsedBody::of(alloc, body)?;
         let event = Incoming::Frame(body, stamp, moment);
-        match self.take(rt, alloc, seat, &event, out)? {
+        match self.take(rt, alloc, seat, event, out)? {
             Outcome::Answered(answered) => Ok(answered),
             Outcome::Done(_) => unreachable!(),
         }
@@ -184,6 +181,25 @@ impl<A: Ledger, C: Ledger, G> Shards<A, C, G> {
     /// The shard that is an event's home takes it from a seat, and appends the bytes of the answer. Where that fails nothing has
     /// changed.
     fn take<R: Wait>(
+        &self,
+        rt: &R,
+        alloc: Global,
+        seat: &mut Seat<C>,
+        event: Incoming<'_>,
+        out: &mut Vec<u8>,
+    ) -> Result<Outcome, AllocError>
+    where
+        G: Gate,
+        ensures taken { IfOk result (λ outcome. (given : GivenAnswer)
+            × IsGiven outcome out.old.items out.new.items given
+            × IsTaken self.now seat.old (event_of event.entry) given seat.new) }
+        ensures err { OnErr result ((seat.new ≡ seat.old) × (out.new.items ≡ out.old.items)) }
+    {
+        self.send(rt, alloc, seat, &event, out)
+    }
+
+    /// Sends an event that is lent: its seat notes it, and the shard that is its home takes it, as [`Shards::take`] says.
+    fn send<R: Wait>(
         &self,
         rt: &R,
         alloc: Global,

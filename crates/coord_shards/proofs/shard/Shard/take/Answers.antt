@@ -1,6 +1,6 @@
 use Rattle.std.proofs.Common.{◌≡◌, take, length, sym, subst, arith, ◌∙◌}
 use Rattle.coord_node.specs.Coordinator.{Answer}
-use Rattle.coord_shards.specs.declared.entry.Entry.{Entry}
+use Rattle.coord_shards.specs.declared.shard.Entry.{Entry}
 use Rattle.coord_shards.specs.Events.{event_of, IsGiven}
 use Rattle.coord_shards.specs.Home.{IsHome}
 use Rattle.coord_shards.specs.Shard.{ShardState, one_more}

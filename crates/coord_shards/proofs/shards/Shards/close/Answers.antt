@@ -7,13 +7,13 @@ use Rattle.coord_shards.specs.Close.{AgreesWithAll}
 use Rattle.coord_shards.proofs.CloseLemmas.{All-reverse}
 use Rattle.coord_shards.proofs.shards.Shards.close.Goals as goal
 
-pub returns-in_default-fault_of-clause-agree : goal.returns-in_default-fault_of-clause-agree
-returns-in_default-fault_of-clause-agree g c =
+pub returns-in-Ok-room_for-clause-agree : goal.returns-in-Ok-room_for-clause-agree
+returns-in-Ok-room_for-clause-agree g c =
     let items = c.settle.result.items in
     let P : ShardState → Type 0 = AgreesWithAll c.self.inside.plan.cap c.deref-2.result.now in
     let same : items ≡ reverse (map (λ h. h.shard) c.deref.result.now) =
     c.settle.ensures.shards ∙ ap (λ hs. reverse (map (λ h. h.shard) hs)) (sym c.deref.ensures.value) in
     let all : All P items =
-    All-same P _ _ same (All-reverse P _ (All-map P (λ h. h.shard) c.deref.result.now c.in_default-fault_of.ensures.none.1)) in
+    All-same P _ _ same (All-reverse P _ (All-map P (λ h. h.shard) c.deref.result.now c.in-Ok-room_for.ensures.agree.1)) in
     subst (λ (n : ℕ). All (AgreesWithAll n c.args.seats.items) items) (ap (λ (s : Shape). s.cap) c.self.view_is)
     (subst (λ (seats : List SeatState). All (AgreesWithAll c.self.inside.plan.cap seats) items) c.deref-2.ensures.value all)

@@ -5,7 +5,7 @@ use Rattle.coord_shards.specs.Calls.{Shape}
 use Rattle.coord_shards.specs.Seat.{SeatState}
 use Rattle.coord_shards.specs.Shard.{kept_with}
 use Rattle.coord_shards.proofs.CallLemmas.{IsTaken-rises}
-use Rattle.coord_shards.proofs.shards.Shards.take.Goals as goal
+use Rattle.coord_shards.proofs.shards.Shards.send.Goals as goal
 
 pub take_at-taken-requires-clause-home : goal.take_at-taken-requires-clause-home
 take_at-taken-requires-clause-home g c =
