@@ -11,6 +11,8 @@ use Rattle.coord_node.specs.Coordinator.{Answer, Replied, Closes, Done, bytes_of
 use Rattle.coord_node.specs.Answers.{IsAnswered}
 use Rattle.coord_node.specs.declared.event.Answered.{Answered}
 use Rattle.coord_node.specs.declared.event.Answered.TheVariants as answered
+use Rattle.coord_node.specs.contracts.event.Answered.{the_type}
+use denote.Enum.Bare.{sameb}
 use Rattle.link_futures.specs.declared.end.End.{End}
 use Rattle.link_futures.specs.declared.end.End.TheVariants.{Finished, CutShort, Closed, ReadFault, WriteFault, NoMemory}
 use Rattle.link_futures.specs.declared.limits.TheConstants.{MOST_REPLIES, MOST_BYTES}
@@ -22,6 +24,11 @@ use Rattle.link_futures.specs.Desks.{Answering, Exchange, Place, next_stamp, clo
 use Rattle.link_futures.specs.Buffers.{Waiting, bytes_of_all}
 use Rattle.link_futures.specs.Stream.{unanswered, unsent, HasRoom, WantsBytes, LineNeeds, place_of, frames_of, replies_of, Talks, Turns, EndsAs, MetNoFault, LeavesDesk}
 use Rattle.link_futures.specs.Steps.{ReadsOn, AnswersOn, WritesOn}
+
+-- that an answer of this kind is a closing one, as code compares it
+pub closes_same : (kind : Answered) → sameb the_type kind answered.Closes ≡ closes_by kind
+closes_same answered.Replied = refl
+closes_same answered.Closes = refl
 
 closes_is : (kind : Answered) (answer : Answer) → IsAnswered kind answer → closes_by kind ≡ closes answer
 closes_is answered.Replied (Replied bytes) is = refl

@@ -1,11 +1,11 @@
 //! The future of one request of a member.
-ghost use Rattle.std.specs.Prelude.{◌≡◌, ◌≤◌, length, IsSomeAnd, OnOk};
+ghost use Rattle.std.specs.Prelude.{IsSomeAnd};
 ghost use Rattle.futures.specs.Task.{Covers, Keeps};
 ghost use Rattle.futures.specs.Poll.{IfReady, OnPending};
 
 use crate::call::Call;
 use crate::end::End;
-use crate::heard::SIZE_BYTES;
+use crate::limits::SIZE_BYTES;
 use crate::reader::ReadPart;
 use crate::writer::WriteParts;
 use bytes::BytesMut;
@@ -34,7 +34,7 @@ pub struct AfterBeat<R, W, S: Idle> {
 }
 
 impl<R: ReadPart, W: WriteParts, S: Idle> Beat<R, W, S> {
-    ghost use Rattle.link_futures.specs.Beats.{IsRequestOf, IsUnderWay, IsNewCall, Finishes, CallGives, BeatComesTo};
+    ghost use Rattle.link_futures.specs.Beats.{IsRequestOf, IsUnderWay, IsNewCall, CallGives, BeatComesTo};
     ghost use Rattle.link_futures.specs.declared.beat.AfterBeat.{AfterBeat};
 
     /// A beat of a member that waits for the reply to its request, whose frame this is. Takes no memory.
@@ -62,19 +62,6 @@ impl<R: ReadPart, W: WriteParts, S: Idle> Beat<R, W, S> {
                 missing: SIZE_BYTES,
             }),
         }
-    }
-
-    /// Gives what the call comes to that ends so.
-    fn give(&mut self, end: Result<(), End>) -> AfterBeat<R, W, S>
-        requires { IsSomeAnd self.old.call (λ call. OnOk end (4 ≤ length call.reply.items)) }
-        ensures reader { IsSomeAnd self.old.call (λ call. result.reader ≡ call.reader) }
-        ensures writer { IsSomeAnd self.old.call (λ call. result.writer ≡ call.writer) }
-        ensures member { IsSomeAnd self.old.call (λ call. Finishes end call.member call.reply.items result.member) }
-    {
-        let Some(call) = self.call.take() else {
-            unreachable!()
-        };
-        call.finish(end)
     }
 }
 
@@ -106,12 +93,15 @@ impl<R: ReadPart, W: WriteParts, S: Idle> Future for Beat<R, W, S> {
         ensures registered { OnPending result (Covers cx.new (λ source. IsSomeAnd self.new.call (λ call. CallNeeds R.needs W.needs call source))) }
         ensures kept { Keeps cx.old cx.new }
     {
-        let Some(call) = &mut self.call else {
+        let Some(mut call) = self.call.take() else {
             unreachable!()
         };
         match call.poll(cx) {
-            Poll::Ready(end) => Poll::Ready(self.give(end)),
-            Poll::Pending => Poll::Pending,
+            Poll::Ready(end) => Poll::Ready(call.finish(end)),
+            Poll::Pending => {
+                self.call = Some(call);
+                Poll::Pending
+            }
         }
     }
 }

@@ -9,15 +9,15 @@ ghost use Rattle.link_futures.specs.Beats.{Finishes};
 
 use crate::beat::AfterBeat;
 use crate::end::End;
-use crate::heard::{Heard, SIZE_BYTES, heard_of};
+use crate::heard::{Heard, heard_of};
 use crate::inbox::read_into;
-use crate::limits::LARGEST_READ;
+use crate::limits::{LARGEST_READ, SIZE_BYTES};
 use crate::part::Part;
 use crate::reader::ReadPart;
 use crate::writer::WriteParts;
 use bytes::BytesMut;
 use futures::task::{Context, Poll};
-use member_core::{Idle, Member, Next, Sent};
+use member_core::{Idle, Member, Sent};
 use std::io::IoSlice;
 
 /// A member's request that is under way: what is left to be written of it, and what was read of its reply.
@@ -33,7 +33,7 @@ pub(crate) struct Call<R, W, S: Idle> {
 }
 
 impl<R: ReadPart, W: WriteParts, S: Idle> Call<R, W, S> {
-    ghost use Rattle.link_futures.specs.Beats.{IsUnderWay, CallNeeds, Polls, CallMetNoFault, FailsAs, EndsCall};
+    ghost use Rattle.link_futures.specs.Beats.{IsUnderWay, CallNeeds, Polls, CallMetNoFault, EndsCall};
 
     /// Writes once, or, once the request is written, reads once. It is ready once the reply is there, or where it fails.
     pub(crate) fn poll(&mut self, cx: &mut Context<'_>) -> Poll<Result<(), End>>
@@ -45,47 +45,13 @@ impl<R: ReadPart, W: WriteParts, S: Idle> Call<R, W, S> {
         ensures registered { OnPending result (Covers cx.new (CallNeeds R.needs W.needs self.new)) }
         ensures kept { Keeps cx.old cx.new }
     {
-        if self.request.is_empty() {
-            self.receive(cx)
-        } else {
-            self.send(cx)
+        if !self.request.is_empty() {
+            return match write_once(&mut self.request, &mut self.writer, cx) {
+                Part::Waits => Poll::Pending,
+                Part::Fault | Part::Moved(0) => Poll::Ready(Err(End::WriteFault)),
+                Part::Moved(_) => cx.yield_now(),
+            };
         }
-    }
-
-    /// Writes once.
-    fn send(&mut self, cx: &mut Context<'_>) -> Poll<Result<(), End>>
-        requires under_way { IsUnderWay self.old }
-        requires some { 0 < length self.old.request.items }
-        ensures polls { Polls R.reads W.writes self.old self.new }
-        ensures ends { IfReady result (λ end. EndsCall R.faults W.faults W.stalls R.is_at_end end self.old self.new) }
-        ensures goes_on { OnPending result (CallMetNoFault R.faults W.faults W.stalls self.old self.new) }
-        ensures again { OnPending result (IsUnderWay self.new) }
-        ensures registered { OnPending result (Covers cx.new (CallNeeds R.needs W.needs self.new)) }
-        ensures kept { Keeps cx.old cx.new }
-    {
-        match write_once(&mut self.request, &mut self.writer, cx) {
-            Part::Waits => Poll::Pending,
-            Part::Fault => Poll::Ready(Err(End::WriteFault)),
-            Part::Moved(count) => {
-                if count == 0 {
-                    return Poll::Ready(Err(End::WriteFault));
-                }
-                cx.yield_now()
-            }
-        }
-    }
-
-    /// Reads once.
-    fn receive(&mut self, cx: &mut Context<'_>) -> Poll<Result<(), End>>
-        requires under_way { IsUnderWay self.old }
-        requires written { length self.old.request.items ≡ 0 }
-        ensures polls { Polls R.reads W.writes self.old self.new }
-        ensures ends { IfReady result (λ end. EndsCall R.faults W.faults W.stalls R.is_at_end end self.old self.new) }
-        ensures goes_on { OnPending result (CallMetNoFault R.faults W.faults W.stalls self.old self.new) }
-        ensures again { OnPending result (IsUnderWay self.new) }
-        ensures registered { OnPending result (Covers cx.new (CallNeeds R.needs W.needs self.new)) }
-        ensures kept { Keeps cx.old cx.new }
-    {
         let room = self.missing.min(LARGEST_READ);
         let Ok(part) = read_into(&mut self.reply, room, &mut self.reader, cx) else {
             return Poll::Ready(Err(End::NoMemory));
@@ -93,26 +59,10 @@ impl<R: ReadPart, W: WriteParts, S: Idle> Call<R, W, S> {
         match part {
             Part::Waits => Poll::Pending,
             Part::Fault => Poll::Ready(Err(End::ReadFault)),
-            Part::Moved(count) => {
-                if count == 0 {
-                    return Poll::Ready(Err(self.end_of_reader()));
-                }
-                self.weigh(cx)
-            }
+            Part::Moved(0) if self.reply.is_empty() => Poll::Ready(Err(End::Finished)),
+            Part::Moved(0) => Poll::Ready(Err(End::CutShort)),
+            Part::Moved(_) => self.weigh(cx),
         }
-    }
-
-    /// Why the call fails where the reader has ended.
-    fn end_of_reader(&self) -> End
-        requires at_end { R.is_at_end self.now.reader }
-        requires written { length self.now.request.items ≡ 0 }
-        requires lacks { LacksOfReply 1 self.now.reply.items }
-        ensures { FailsAs R.faults W.faults W.stalls R.is_at_end result self.now self.now }
-    {
-        if self.reply.is_empty() {
-            return End::Finished;
-        }
-        End::CutShort
     }
 
     /// Looks whether the reply is whole, and asks for another poll where it isn't.
@@ -142,26 +92,15 @@ impl<R: ReadPart, W: WriteParts, S: Idle> Call<R, W, S> {
         ensures writer { result.writer ≡ self.writer }
         ensures member { Finishes end self.member self.reply.items result.member }
     {
+        let member = match end {
+            Ok(()) => Ok(self.member.take(&self.reply.as_slice()[SIZE_BYTES..])),
+            Err(end) => Err((self.member.give_up(), end)),
+        };
         AfterBeat {
             reader: self.reader,
             writer: self.writer,
-            member: leave(self.member, self.reply.as_slice(), end),
+            member,
         }
-    }
-}
-
-/// What becomes of a member: it takes the reply, or gives up.
-fn leave<S: Idle>(
-    member: Member<Sent<S>>,
-    reply: &[u8],
-    end: Result<(), End>,
-) -> Result<Next<S>, (Member<S>, End)>
-    requires { OnOk end (4 ≤ length reply.now) }
-    ensures { Finishes end member reply.now result }
-{
-    match end {
-        Ok(()) => Ok(member.take(&reply[SIZE_BYTES..])),
-        Err(end) => Err((member.give_up(), end)),
     }
 }
 

@@ -1,6 +1,7 @@
 //! How far the reply to a request has come.
 ghost use Rattle.link_futures.specs.Replies.{LacksOfReply, IsHeard};
 
+use crate::limits::SIZE_BYTES;
 use flex_wire::take_i32;
 
 /// The least bytes of a reply's body.
@@ -8,9 +9,6 @@ const SMALLEST_REPLY: i32 = 1;
 
 /// The most bytes of a reply's body.
 const LARGEST_REPLY: i32 = 16_777_216;
-
-/// The bytes of a reply's size.
-pub(crate) const SIZE_BYTES: usize = 4;
 
 /// How far a reply has come.
 pub(crate) enum Heard {

@@ -7,7 +7,7 @@ ghost use Rattle.link_futures.specs.Next.{IsNext};
 ghost use Rattle.link_futures.specs.declared.limits.TheConstants.{LARGEST_READ};
 ghost use Rattle.link_futures.specs.declared.part.Part.TheVariants.{Moved};
 
-use crate::limits::LARGEST_READ;
+use crate::limits::{LARGEST_READ, SIZE_BYTES};
 use crate::part::Part;
 use crate::reader::ReadPart;
 use bytes::BytesMut;
@@ -26,9 +26,6 @@ const KEPT: usize = 3_328;
 
 /// After so many reads in a row that found nothing, a line is quiet.
 const QUIET_READS: u8 = 200;
-
-/// The bytes of a frame's size.
-const SIZE_BYTES: usize = 4;
 
 /// What the bytes begin with.
 #[derive(Clone, Copy)]
@@ -117,7 +114,7 @@ impl Inbox {
         self.next = next_of(self.buffer.as_slice());
     }
 
-    /// Reads once, and keeps the bytes. Where memory is short nothing is read.
+    /// Reads once, and keeps the bytes. Where memory is short nothing is read. Where no bytes are there, the next come to the front.
     pub(crate) fn read<R: ReadPart>(
         &mut self,
         reader: &mut R,
@@ -131,24 +128,16 @@ impl Inbox {
         ensures err { OnErr result ((self.new ≡ self.old) × (reader.new ≡ reader.old)) }
         ensures kept { Keeps cx.old cx.new }
     {
-        self.make_room()?;
-        let part = read_into(&mut self.buffer, self.room, reader, cx)?;
-        self.next = next_of(self.buffer.as_slice());
-        self.settle(part);
-        Ok(part)
-    }
-
-    /// Makes the room of the next read, and a little more, where there is none. Where no bytes are there, the next come to the front.
-    fn make_room(&mut self) -> Result<(), AllocError>
-        ensures { self.new ≡ self.old }
-    {
         if self.buffer.is_empty() {
             self.buffer.clear();
         }
         if self.buffer.capacity() == 0 {
             self.buffer.reserve(self.room.max(KEPT))?;
         }
-        Ok(())
+        let part = read_into(&mut self.buffer, self.room, reader, cx)?;
+        self.next = next_of(self.buffer.as_slice());
+        self.settle(part);
+        Ok(part)
     }
 
     /// After a read: what it took tells how much the next may take, and a line with nothing to read gives back what is more than it
@@ -170,22 +159,11 @@ impl Inbox {
                 if self.is_quiet() {
                     self.room = SMALL_READ;
                 }
-                self.give_room_back();
+                if self.buffer.is_empty() && KEPT < self.buffer.capacity() {
+                    self.buffer = BytesMut::new(self.alloc);
+                }
             }
             Part::Fault => {}
-        }
-    }
-
-    /// A line that waits, and has no bytes, keeps little room.
-    fn give_room_back(&mut self)
-        ensures { self.new ≡ self.old }
-    {
-        if !self.buffer.is_empty() {
-            return;
-        }
-        self.buffer.clear();
-        if KEPT < self.buffer.capacity() {
-            self.buffer = BytesMut::new(self.alloc);
         }
     }
 }

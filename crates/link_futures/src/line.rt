@@ -2,8 +2,6 @@
 ghost use Rattle.std.specs.Prelude.{◌≡◌, ◌⊎◌, ◌<◌, true, false, length, Ok, IfErr, IfSome, OnOk, OnErr};
 ghost use Rattle.futures.specs.Task.{Covers, Keeps};
 ghost use Rattle.futures.specs.Poll.{IfReady, OnPending};
-ghost use Rattle.link_futures.specs.Desks.{closes_by};
-ghost use Rattle.link_futures.specs.Next.{IsNext};
 
 use crate::desk::Desk;
 use crate::end::End;
@@ -132,9 +130,7 @@ impl<R: ReadPart, W: WriteParts> Line<R, W> {
             Part::Waits => Ok(true),
             Part::Fault => Err(End::ReadFault),
             Part::Moved(count) => {
-                if count == 0 {
-                    self.is_over = true;
-                }
+                self.is_over = count == 0;
                 Ok(false)
             }
         }
@@ -155,16 +151,12 @@ impl<R: ReadPart, W: WriteParts> Line<R, W> {
         let answered = self.outbox.answer(desk, self.inbox.body(len), stamp)?;
         self.inbox.drop_frame(len);
         self.answered += 1;
-        self.is_closed = closes(answered);
+        self.is_closed = answered == Answered::Closes;
         Ok(())
     }
 
-    /// Whether replies wait for that to a frame that is there already, so that one write takes them all. A further turn answers it.
-    fn gathers(&self) -> bool {
-        self.outbox.has_room_in_a_write() && self.has_frame()
-    }
-
-    /// Writes once, where a reply may be sent by now and none is to come first. Says whether the writer waits.
+    /// Writes once, where a reply may be sent by now. Replies wait for that to a frame that is there already, so that one write takes
+    /// them all. Says whether the writer waits.
     fn write<D: Desk>(&mut self, cx: &mut Context<'_>, desk: &D) -> Result<bool, End>
         ensures writes { WritesOn W.writes self.old self.new }
         ensures ends { IfErr result (λ end. EndsAs R.closes R.faults W.faults W.stalls end self.old self.new) }
@@ -173,22 +165,17 @@ impl<R: ReadPart, W: WriteParts> Line<R, W> {
         ensures armed { result ≡ Ok true → Covers cx.new (W.needs self.new.writer) }
         ensures kept { Keeps cx.old cx.new }
     {
-        if self.gathers() {
+        if self.outbox.has_room_in_a_write() && self.has_frame() {
             return Ok(false);
         }
-        let count = self.outbox.sendable(desk, self.connection);
-        if count == 0 {
+        let most = self.outbox.sendable(desk, self.connection);
+        if most == 0 {
             return Ok(false);
         }
-        match self.outbox.write(count, &mut self.writer, cx) {
+        match self.outbox.write(most, &mut self.writer, cx) {
             Part::Waits => Ok(true),
-            Part::Fault => Err(End::WriteFault),
-            Part::Moved(count) => {
-                if count == 0 {
-                    return Err(End::WriteFault);
-                }
-                Ok(false)
-            }
+            Part::Fault | Part::Moved(0) => Err(End::WriteFault),
+            Part::Moved(_) => Ok(false),
         }
     }
 
@@ -205,26 +192,11 @@ impl<R: ReadPart, W: WriteParts> Line<R, W> {
         match self.inbox.next() {
             Next::Refused => Some(End::Closed),
             Next::Whole(_) => None,
-            Next::Partial => self.end_of_reader(),
+            Next::Partial if !self.is_over => None,
+            Next::Partial if self.reader.is_closing() => Some(End::Closed),
+            Next::Partial if self.inbox.is_empty() => Some(End::Finished),
+            Next::Partial => Some(End::CutShort),
         }
-    }
-
-    /// How the line ends, where the reader has ended and there is no whole frame.
-    fn end_of_reader(&self) -> Option<End>
-        requires partial { IsNext Next.Partial self.now.inbox }
-        requires empty { length self.now.outbox ≡ 0 }
-        ensures { IfSome result (λ end. EndsQuietly R.closes end self.now) }
-    {
-        if !self.is_over {
-            return None;
-        }
-        if self.reader.is_closing() {
-            return Some(End::Closed);
-        }
-        if self.inbox.is_empty() {
-            return Some(End::Finished);
-        }
-        Some(End::CutShort)
     }
 
     /// Waits for the reader and the writer, or asks for another turn where there is more to do than they would wake for.
@@ -235,25 +207,13 @@ impl<R: ReadPart, W: WriteParts> Line<R, W> {
         ensures armed { Covers cx.new (LineNeeds R.needs W.needs self.now) }
         ensures kept { Keeps cx.old cx.new }
     {
-        if self.is_idle(reader_waits, writer_waits) {
-            return Poll::Pending;
+        if (!reader_waits && self.wants_bytes()) || (!writer_waits && !self.outbox.is_empty()) {
+            return cx.yield_now();
         }
-        cx.yield_now()
-    }
-
-    /// Whether there is nothing to do until the reader or the writer wakes the line.
-    fn is_idle(&self, reader_waits: bool, writer_waits: bool) -> bool
-        ensures reader { result ≡ true → (reader_waits ≡ true) ⊎ (¬ WantsBytes self.now) }
-        ensures writer { result ≡ true → (writer_waits ≡ true) ⊎ (length self.now.outbox ≡ 0) }
-        ensures either { result ≡ true → (reader_waits ≡ true) ⊎ (writer_waits ≡ true) }
-    {
-        if !reader_waits && self.wants_bytes() {
-            return false;
+        if (!reader_waits && !writer_waits) || self.has_frame() {
+            return cx.yield_now();
         }
-        if !writer_waits && !self.outbox.is_empty() {
-            return false;
-        }
-        (reader_waits || writer_waits) && !self.has_frame()
+        Poll::Pending
     }
 
     /// Whether more bytes are wanted: the reader hasn't ended, the desk answers on, and no frame and no refused size is there.
@@ -261,13 +221,7 @@ impl<R: ReadPart, W: WriteParts> Line<R, W> {
         ensures yes { result ≡ true → WantsBytes self.now }
         ensures no { result ≡ false → ¬ WantsBytes self.now }
     {
-        if self.is_over || self.is_done() {
-            return false;
-        }
-        match self.inbox.next() {
-            Next::Partial => true,
-            Next::Whole(_) | Next::Refused => false,
-        }
+        !self.is_over && !self.is_done() && matches!(self.inbox.next(), Next::Partial)
     }
 
     /// The length of the body at the front, where it may be answered: it is whole, the desk answers on, and there is room
@@ -290,15 +244,5 @@ impl<R: ReadPart, W: WriteParts> Line<R, W> {
         ensures answers_on { result ≡ false → (self.now.is_closed ≡ false) × (self.now.answered < u64.MAX) }
     {
         self.is_closed || self.answered == u64::MAX
-    }
-}
-
-/// Whether an answer closes the connection.
-fn closes(answered: Answered) -> bool
-    ensures { result ≡ closes_by answered }
-{
-    match answered {
-        Answered::Closes => true,
-        Answered::Replied => false,
     }
 }

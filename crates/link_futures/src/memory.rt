@@ -1,11 +1,8 @@
 //! A reader and a writer over memory that follow a list of what each poll does.
-ghost use Rattle.std.specs.Prelude.{◌≡◌, ◌<◌, ◌≤◌, [], ◌++◌, length, take, IfOk, refl, vec_capacity};
+ghost use Rattle.std.specs.Prelude.{◌≡◌, ◌≤◌, [], ◌++◌, length, take, IfOk, refl, vec_capacity};
 ghost use Rattle.std.proofs.Common.{rules};
 ghost use Rattle.std.proofs.lemmas.Grind.{common_steps};
 ghost use Rattle.std.specs.Io.Slices.{io_slices_bytes};
-ghost use Rattle.futures.specs.Task.{Covers, Keeps};
-ghost use Rattle.futures.specs.Poll.{OnPending};
-ghost use Rattle.tokio.specs.Io.Moved.{count_moved, bytes_moved};
 
 use bytes::BytesMut;
 use futures::task::{Context, Poll};
@@ -44,18 +41,6 @@ impl Feed {
             acts,
         }
     }
-
-    /// Gives so many bytes at most, but one where there is one: no byte would mean the end.
-    fn give(&mut self, most: usize, buf: &mut [u8]) -> usize
-        ensures bound { result ≤ length buf.new }
-        ensures bytes { self.old.rest.items ≡ take result buf.new ++ self.new.rest.items }
-        ensures end { result ≡ 0 → 0 < length buf.old → self.new.rest.items ≡ [] }
-    {
-        let count = most.max(1).min(self.rest.len()).min(buf.len());
-        buf[..count].copy_from_slice(&self.rest.as_slice()[..count]);
-        self.rest.advance(count);
-        count
-    }
 }
 
 impl AsyncRead for Feed {
@@ -67,15 +52,20 @@ impl AsyncRead for Feed {
 
     ghost reads_in_order = { λ a xs b ys c p q. Prim.search (rules, common_steps) };
 
+    /// Gives one byte at least where there is one: no byte would mean the end.
     fn poll_read(&mut self, cx: &mut Context<'_>, buf: &mut [u8]) -> Poll<io::Result<usize>> {
-        match self.acts.pop_front() {
-            Some(PollAct::Bytes(most)) => Poll::Ready(Ok(self.give(most, buf))),
-            Some(PollAct::Pending) => cx.yield_now(),
+        let most = match self.acts.pop_front() {
+            Some(PollAct::Bytes(most)) => most.max(1),
+            Some(PollAct::Pending) => return cx.yield_now(),
             Some(PollAct::Fault) => {
-                Poll::Ready(Err(io::Error::from(io::ErrorKind::ConnectionReset)))
+                return Poll::Ready(Err(io::Error::from(io::ErrorKind::ConnectionReset)));
             }
-            None => Poll::Ready(Ok(self.give(usize::MAX, buf))),
-        }
+            None => usize::MAX,
+        };
+        let count = most.min(self.rest.len()).min(buf.len());
+        buf[..count].copy_from_slice(&self.rest.as_slice()[..count]);
+        self.rest.advance(count);
+        Poll::Ready(Ok(count))
     }
 }
 
@@ -104,24 +94,6 @@ impl Drain {
     {
         self.taken.as_slice()
     }
-
-    /// One write of the buffers joined in order.
-    fn poll_take(&mut self, cx: &mut Context<'_>, bufs: &[IoSlice<'_>]) -> Poll<io::Result<usize>>
-        ensures bound { count_moved result ≤ length (io_slices_bytes bufs.now) }
-        ensures bytes { self.new.taken.items ≡ self.old.taken.items ++ bytes_moved result (io_slices_bytes bufs.now) }
-        ensures registered { OnPending result (Covers cx.new (λ _. ⊥)) }
-        ensures kept { Keeps cx.old cx.new }
-    {
-        let room = self.taken.capacity() - self.taken.len();
-        match self.acts.pop_front() {
-            Some(PollAct::Bytes(most)) => {
-                Poll::Ready(Ok(take_parts(&mut self.taken, bufs, most.min(room))))
-            }
-            Some(PollAct::Pending) => cx.yield_now(),
-            Some(PollAct::Fault) => Poll::Ready(Err(io::Error::from(io::ErrorKind::BrokenPipe))),
-            None => Poll::Ready(Ok(take_parts(&mut self.taken, bufs, room))),
-        }
-    }
 }
 
 impl AsyncWrite for Drain {
@@ -132,7 +104,7 @@ impl AsyncWrite for Drain {
     ghost writes_in_order = { λ a xs b ys c p q. Prim.search (rules, common_steps) };
 
     fn poll_write(&mut self, cx: &mut Context<'_>, buf: &[u8]) -> Poll<io::Result<usize>> {
-        self.poll_take(cx, &[IoSlice::new(buf)])
+        self.poll_write_vectored(cx, &[IoSlice::new(buf)])
     }
 
     fn poll_write_vectored(
@@ -140,7 +112,15 @@ impl AsyncWrite for Drain {
         cx: &mut Context<'_>,
         bufs: &[IoSlice<'_>],
     ) -> Poll<io::Result<usize>> {
-        self.poll_take(cx, bufs)
+        let room = self.taken.capacity() - self.taken.len();
+        match self.acts.pop_front() {
+            Some(PollAct::Bytes(most)) => {
+                Poll::Ready(Ok(take_parts(&mut self.taken, bufs, most.min(room))))
+            }
+            Some(PollAct::Pending) => cx.yield_now(),
+            Some(PollAct::Fault) => Poll::Ready(Err(io::Error::from(io::ErrorKind::BrokenPipe))),
+            None => Poll::Ready(Ok(take_parts(&mut self.taken, bufs, room))),
+        }
     }
 
     fn is_write_vectored(&self) -> bool {

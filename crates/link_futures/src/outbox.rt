@@ -100,7 +100,8 @@ impl Outbox {
     }
 
     /// Lets the desk answer a frame's body, and keeps its reply behind the others. Where memory is short nothing is kept. The room
-    /// in the queues is made first, and the desk appends to the tail: once it has answered, no memory is needed.
+    /// in the queues is made first, and the desk appends to the tail: once it has answered, no memory is needed. Where one reply
+    /// waits, and so more frames are under way, the room of a whole write is made at once, if it is to be had.
     pub(crate) fn answer<D: Desk>(
         &mut self,
         desk: &mut D,
@@ -112,7 +113,8 @@ impl Outbox {
     {
         self.replies.reserve(1)?;
         self.buffers.reserve(1)?;
-        widen(&self.replies, &mut self.tail);
+        let room = if self.replies.len() == 1 { GATHERED } else { 0 };
+        let _ = self.tail.reserve(room);
         let before = self.tail.len();
         let answered = desk.answer(body, stamp, &mut self.tail)?;
         let unsent = self.tail.len() - before;
@@ -129,29 +131,28 @@ impl Outbox {
         self.unsent < GATHERED
     }
 
-    /// How many of the first replies may be written by now, on a connection.
-    #[tactic(auto, using(crate::proofs::QueueLemmas::waiting_length))]
+    /// How many bytes may be written by now, on a connection: those of the first replies, up to one that is to wait.
     pub(crate) fn sendable<D: Desk>(&self, desk: &D, connection: u64) -> usize
-        ensures { result ≤ length self.now }
+        ensures { result ≤ length (bytes_of_all self.now) }
     {
-        let most = self.replies.len();
-        for place in 0..most {
+        let mut rest = self.unsent;
+        for place in 0..self.replies.len() {
             let frame = self.replies[place].frame;
             if !desk.may_send(Stamp { connection, frame }) {
-                return place;
+                return self.unsent - rest;
             }
+            rest -= self.replies[place].unsent;
         }
-        most
+        self.unsent
     }
 
-    /// Writes once, from so many of the first replies, and drops what was written.
+    /// Writes once, at most so many bytes, and drops what was written.
     pub(crate) fn write<W: WriteParts>(
         &mut self,
-        count: usize,
+        most: usize,
         writer: &mut W,
         cx: &mut Context<'_>,
     ) -> Part
-        requires { count ≤ length self.old }
         ensures bytes { TakesWritten W.writes writer.old writer.new (bytes_of_all self.old) (bytes_of_all self.new) }
         ensures counted { W.faults writer.new ≡ W.faults writer.old + faults_of result }
         ensures stalled { W.stalls writer.new ≡ W.stalls writer.old + stalls_of result }
@@ -159,7 +160,6 @@ impl Outbox {
         ensures kept { Keeps cx.old cx.new }
     {
         self.end_tail();
-        let most = unsent_by(&self.replies, count);
         let part = write_front(&self.buffers, most, writer, cx);
         let written = part.count();
         drop_replies(&mut self.replies, written);
@@ -194,28 +194,6 @@ impl Outbox {
             self.buffers = VecDeque::new(self.alloc);
         }
     }
-}
-
-/// Where one reply waits, and so more frames are under way, makes the room of a whole write at once, if it is to be had.
-fn widen(replies: &VecDeque<Reply>, tail: &mut Vec<u8>)
-    ensures { tail.new.items ≡ tail.old.items }
-{
-    if replies.len() == 1 {
-        let _ = tail.reserve(GATHERED);
-    }
-}
-
-/// How many bytes of so many of the first replies aren't written.
-fn unsent_by(replies: &VecDeque<Reply>, count: usize) -> usize
-    requires there { count ≤ length replies.now.items }
-    requires fits { unsent_of replies.now.items < 2 ^ 64 }
-    ensures { result ≡ unsent_of (take count replies.now.items) }
-{
-    let mut unsent = 0;
-    for place in 0..count {
-        unsent += replies[place].unsent;
-    }
-    unsent
 }
 
 /// Writes once, at most so many bytes of the first buffers.

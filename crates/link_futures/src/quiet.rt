@@ -1,5 +1,5 @@
 //! A line that waits for its reader alone.
-ghost use Rattle.std.specs.Prelude.{◌≡◌, Some, IsSomeAnd};
+ghost use Rattle.std.specs.Prelude.{IsSomeAnd};
 
 use crate::end::End;
 use crate::line::Line;
@@ -13,23 +13,7 @@ use futures::task::{Context, Poll};
 #[derive(Drop)]
 pub struct Quiet<L> {
     /// None once it was given back.
-    line: Option<L>,
-}
-
-impl<L> Quiet<L> {
-    /// A line that waits.
-    pub(crate) fn new(line: L) -> Quiet<L>
-        ensures { result.line ≡ Some line }
-    {
-        Quiet { line: Some(line) }
-    }
-
-    /// The line, where it wasn't given back.
-    pub(crate) fn into_line(self) -> Option<L>
-        ensures { result ≡ self.line }
-    {
-        self.line
-    }
+    pub(crate) line: Option<L>,
 }
 
 impl<R: ReadPart, W: WriteParts> Future for Quiet<Line<R, W>> {

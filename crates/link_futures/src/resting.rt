@@ -67,8 +67,8 @@ impl<R: ReadPart, W: WriteParts> Resting<Line<R, W>> {
         let Some(lines) = &mut self.lines else {
             return Err(line);
         };
-        if let Err(failed) = lines.push(Quiet::new(line)) {
-            let Some(line) = failed.value.into_line() else {
+        if let Err(failed) = lines.push(Quiet { line: Some(line) }) {
+            let Some(line) = failed.value.line else {
                 unreachable!()
             };
             return Err(line);

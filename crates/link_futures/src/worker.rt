@@ -1,6 +1,5 @@
 //! Many lines over one desk.
-ghost use Rattle.std.specs.Prelude.{◌≡◌, ◌⊎◌, ◌<◌, ◌^◌, ℕ, true, false, [], length, All};
-ghost use Rattle.futures.specs.Poll.{OnPending};
+ghost use Rattle.std.specs.Prelude.{◌≡◌, ◌<◌, ◌^◌, ℕ, false, [], All};
 ghost use Rattle.futures.specs.Task.{Covers, Keeps};
 ghost use Rattle.futures.specs.Runs.{EndsIf};
 ghost use Rattle.link_futures.specs.Stream.{LineNeeds};
@@ -81,52 +80,31 @@ impl<R: ReadPart, W: WriteParts, A: Stream<Item = Line<R, W>>, D: Desk> Worker<A
         }
     }
 
-    /// Gives turns to the lines that have rested and were woken. Says whether there was such a line, or may be.
+    /// Gives turns to the lines that have rested and were woken. Says whether there was such a line, or may be: where memory is short
+    /// for one, it stays where it rests, and is woken still.
     fn wake(&mut self, cx: &mut Context<'_>) -> bool
         ensures arrivals { (self.new.arrivals ≡ self.old.arrivals) × (self.new.is_closed ≡ self.old.is_closed) }
         ensures gives { (n : ℕ) → ⟦<Worker<A, D> as Future>⟧.gives self.new n → ⟦<Worker<A, D> as Future>⟧.gives self.old n }
         ensures waits { result ≡ false → 0 < self.new.resting.count → Covers cx.new (RestingNeed self.new.resting.lines) }
         ensures kept { Keeps cx.old cx.new }
     {
-        if self.resting.len() == 0 {
-            return false;
-        }
-        let mut has_woken = false;
-        for _ in 0..self.resting.len() {
-            match self.wake_one(cx) {
-                Poll::Ready(()) => has_woken = true,
-                Poll::Pending => return has_woken,
+        let resting = self.resting.len();
+        for place in 0..resting {
+            if self.lines.reserve(1).is_err() {
+                continue;
+            }
+            let Poll::Ready(woken) = self.resting.poll_woken(cx) else {
+                return 0 < place;
+            };
+            match woken {
+                Ok(line) => self.lines.push_reserved(line),
+                Err((line, end)) => {
+                    line.tell_end(&self.desk, end);
+                    self.ended = self.ended.saturating_add(1);
+                }
             }
         }
-        true
-    }
-
-    /// Gives turns to one line that has rested and was woken. It waits where no resting line was woken. Where memory is short for
-    /// the line, it stays where it rests, and is woken still.
-    fn wake_one(&mut self, cx: &mut Context<'_>) -> Poll<()>
-        ensures arrivals { (self.new.arrivals ≡ self.old.arrivals) × (self.new.is_closed ≡ self.old.is_closed) }
-        ensures gives { (n : ℕ) → ⟦<Worker<A, D> as Future>⟧.gives self.new n → ⟦<Worker<A, D> as Future>⟧.gives self.old n }
-        ensures waits { OnPending result (0 < self.new.resting.count → Covers cx.new (RestingNeed self.new.resting.lines)) }
-        ensures kept { Keeps cx.old cx.new }
-    {
-        if self.resting.len() == 0 {
-            return Poll::Pending;
-        }
-        if self.lines.reserve(1).is_err() {
-            return Poll::Ready(());
-        }
-        match self.resting.poll_woken(cx) {
-            Poll::Ready(Ok(line)) => {
-                self.lines.push_reserved(line);
-                Poll::Ready(())
-            }
-            Poll::Ready(Err((line, end))) => {
-                line.tell_end(&self.desk, end);
-                self.ended = self.ended.saturating_add(1);
-                Poll::Ready(())
-            }
-            Poll::Pending => Poll::Pending,
-        }
+        0 < resting
     }
 
     /// Gives each line a turn, one line behind the other, so that the replies of one go out while the next is answered. Those that
@@ -168,14 +146,17 @@ impl<R: ReadPart, W: WriteParts, A: Stream<Item = Line<R, W>>, D: Desk> Worker<A
         has_come || has_woken
     }
 
+    /// How many lines have ended.
+    fn ended_lines(&self) -> u64
+        ensures value { result ≡ self.now.ended }
+        ensures small { result < 2 ^ 64 }
+    {
+        self.ended
+    }
+
     /// Whether a line has a frame that may be answered.
     fn has_frame(&self) -> bool {
-        for line in &self.lines {
-            if line.has_frame() {
-                return true;
-            }
-        }
-        false
+        self.lines.iter().any(|line| line.has_frame())
     }
 
     /// Lets the lines rest that wait for their readers alone, until few are left that have turns. Says whether there was such a line.
@@ -198,22 +179,6 @@ impl<R: ReadPart, W: WriteParts, A: Stream<Item = Line<R, W>>, D: Desk> Worker<A
             has_rested = true;
         }
         has_rested
-    }
-
-    /// How many lines have ended.
-    fn ended_lines(&self) -> u64
-        ensures value { result ≡ self.now.ended }
-        ensures small { result < 2 ^ 64 }
-    {
-        self.ended
-    }
-
-    /// Whether arrivals have ended and no line is left.
-    fn is_done(&self) -> bool
-        ensures yes { result ≡ true → (self.now.is_closed ≡ true) × (self.now.lines.items ≡ []) × (self.now.resting.count ≡ 0) }
-        ensures no { result ≡ false → self.now.is_closed ≡ true → (0 < length self.now.lines.items) ⊎ (0 < self.now.resting.count) }
-    {
-        self.is_closed && self.lines.is_empty() && self.resting.len() == 0
     }
 }
 
@@ -244,7 +209,7 @@ impl<R: ReadPart, W: WriteParts, A: Stream<Item = Line<R, W>>, D: Desk> Future f
         if self.rest_all() {
             return cx.yield_now();
         }
-        if self.is_done() {
+        if self.is_closed && self.lines.is_empty() && self.resting.len() == 0 {
             return Poll::Ready(self.ended_lines());
         }
         Poll::Pending

@@ -1,13 +1,8 @@
-use Rattle.std.proofs.Common.{◌≡◌, ◌∙◌, length, take, drop, ap, sym, arith}
-use Rattle.link_futures.specs.Buffers.{bytes_of_all, bytes_in, joined}
+use Rattle.std.proofs.Common.{◌≡◌, ◌∙◌, take, drop, ap, sym, arith}
+use Rattle.link_futures.specs.Buffers.{bytes_of_all, bytes_in}
 use Rattle.link_futures.specs.Parts.{count_of}
-use Rattle.link_futures.proofs.QueueLemmas.{waiting_length, bytes_dropped, bytes_written}
+use Rattle.link_futures.proofs.QueueLemmas.{bytes_dropped, bytes_written}
 use Rattle.link_futures.proofs.outbox.Outbox.write.Goals as goal
-
-pub unsent_by-most-requires-clause-there : goal.unsent_by-most-requires-clause-there
-unsent_by-most-requires-clause-there g c =
-    let o = c.self.inside in
-    omega (arith, c.requires, ap length c.end_tail.ensures, ap length c.self.view_is, waiting_length o.replies.items (joined o.buffers.items o.tail.items))
 
 pub returns-clause-bytes : goal.returns-clause-bytes
 returns-clause-bytes g c =

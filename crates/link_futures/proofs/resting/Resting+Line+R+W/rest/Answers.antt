@@ -6,7 +6,7 @@ pub returns-clause-wakes : goal.returns-clause-wakes
 returns-clause-wakes g c = λ woken may.
     ⊎_elim
     (λ was. inl (gives_made _ c.args.self.now.lines c.make_set.new.lines c.in-Some-lines.lines c.in-Some-lines.is c.make_set.ensures.same woken was))
-    (λ is. inr (rw c.new.ensures at is))
+    (λ is. inr is)
     (c.push.ensures.gives woken may)
 
 pub returns-in-Err-clause-refused : goal.returns-in-Err-clause-refused
