@@ -79,7 +79,7 @@ class Subcommand:
         return " ".join(["Usage: coord", self.name, *options, *["[TOPIC]..."] * self.takes_topics])
 
 
-EXPLAIN = Option("explain", "Tells on standard error why lines come to nothing")
+EXPLAIN = Option("explain", "Says on standard error why lines are bad, refused or faulty")
 API_NAMES = ("heartbeat", "commit")
 SUBCOMMANDS = (
     Subcommand("reply", "Answers the request frames on standard input", (EXPLAIN,)),
@@ -94,10 +94,10 @@ SUBCOMMANDS = (
     Subcommand("run", "Plays the script on standard input", (EXPLAIN,)),
     Subcommand(
         "serve",
-        "Serves connections on 127.0.0.1 until so many have ended",
+        "Serves connections on 127.0.0.1",
         (
             Option("port", "The port, 1 to 65535 [default: 9092]", "P", 65_535),
-            Option("workers", "How many workers serve, 1 to 64 [default: the processors]", "W", 64),
+            Option("workers", "How many workers serve, 1 to 64 [default: as many as processors]", "W", 64),
             Option("shards", "How many shards have the groups, 1 to 64 [default: 8]", "S", 64),
             Option(
                 "connections",
@@ -117,7 +117,7 @@ SUBCOMMANDS = (
     ),
     Subcommand("help", "Print this message or the help of the given subcommand(s)"),
 )
-ABOUT = "The coordinator of consumer groups, on lines of text"
+ABOUT = "A coordinator of Kafka consumer groups (KIP-848)"
 HELP_USAGE = "Usage: coord help [COMMAND]..."
 BY_NAME: Dict[str, Subcommand] = {it.name: it for it in SUBCOMMANDS}
 

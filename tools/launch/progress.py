@@ -28,7 +28,7 @@ SECONDS: Dict[str, int] = {
 # What a crate is taken for that was never measured, in seconds a line of code and of definitions and proofs.
 LINE_SECONDS, ANTT_LINE_SECONDS = 0.09, 0.02
 # What part of that time a build takes where each crate gets the processors that no other one waits for.
-PACE = 0.7
+PACE = 0.5
 
 
 class Progress:

@@ -265,14 +265,14 @@ fn replies<'a>(alloc: Global) -> Arg<'a> {
 fn explain<'a>(alloc: Global) -> Arg<'a> {
     Arg::new(alloc, "explain")
         .long("explain")
-        .help("Tells on standard error why lines come to nothing")
+        .help("Says on standard error why lines are bad, refused or faulty")
         .action(ArgAction::SetTrue)
 }
 
 /// The command line with no subcommand yet.
 fn bare_command<'a>(alloc: Global) -> Result<Command<'a>, AllocError> {
     let coord = Command::new(alloc, "coord")
-        .about("The coordinator of consumer groups, on lines of text")
+        .about("A coordinator of Kafka consumer groups (KIP-848)")
         .version(VERSION)
         .bin_name("coord")?;
     Ok(coord.subcommand_required(true))

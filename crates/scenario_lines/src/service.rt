@@ -57,14 +57,14 @@ pub struct Service {
 
 /// The subcommand `serve`, with its words.
 pub fn command<'a>(alloc: Global) -> Result<Command<'a>, AllocError> {
-    let workers = "How many workers serve, 1 to 64 [default: the processors]";
+    let workers = "How many workers serve, 1 to 64 [default: as many as processors]";
     let shards = "How many shards have the groups, 1 to 64 [default: 8]";
     let connections =
         "After how many connections the server ends, 1 to 1000000 [default: without end]";
     let idle =
         "After how many seconds without a byte a connection is closed, 1 to 86400 [default: never]";
     Command::new(alloc, "serve")
-        .about("Serves connections on 127.0.0.1 until so many have ended")
+        .about("Serves connections on 127.0.0.1")
         .arg(number(alloc, "port", "P", "The port, 1 to 65535 [default: 9092]"))?
         .arg(number(alloc, "workers", "W", workers))?
         .arg(number(alloc, "shards", "S", shards))?

@@ -229,6 +229,7 @@ module _ (w : World) (keeps : Keeps w) (n : ℕ) (c new : Client) (there : numbe
   pub change_keeps : Keeps (with_client w n new)
   change_keeps =
       record {
+        image = keeps.image;
         groups = group_keeps;
         clients = client_keeps;
         requests = λ q there. request_keeps q (keeps.requests q there);

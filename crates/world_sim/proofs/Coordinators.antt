@@ -2,6 +2,7 @@
 use Rattle.std.proofs.Common.{◌≡◌, ◌⊎◌, ℕ, map, Option, Some, refl, sym, subst, ◌∙◌, inl, inr}
 use Rattle.std.specs.List.{Contains}
 use Rattle.group_types.specs.Text.{Text}
+use Rattle.group_types.specs.Images.{AreImageTopics}
 use Rattle.group_types.specs.Sets.{common}
 use Rattle.group_types.specs.Partition.{Partitions}
 use Rattle.group_types.specs.Request.{Heartbeat}
@@ -10,6 +11,7 @@ use Rattle.group_types.specs.HeartbeatStep.{Answer}
 use Rattle.group_types.specs.Sound.{IsSound}
 use Rattle.group_types.proofs.Lookups.{some_is}
 use Rattle.coord_node.specs.Coordinator.{Coordinator}
+use Rattle.coord_node.specs.Laws.{IsServing}
 use Rattle.member_core.specs.Client.{Client}
 use Rattle.member_core.specs.Taking.{Accepts, Tells}
 use Rattle.world_sim.specs.World.{World, Request, Reply, Commit, numbered, cut, with_coordinator, with_reply, with_request, with_commit}
@@ -17,7 +19,7 @@ use Rattle.world_sim.specs.Turn.{Pass, Turn}
 use Rattle.world_sim.specs.Invariant.{Clients, GroupKeeps, ClientKeeps, RequestKeeps, ReplyKeeps, CommitKeeps, Committed, Keeps, Says, clients_of, group_at}
 use Rattle.world_sim.proofs.Lists.{from_in, in_map, to_in}
 use Rattle.world_sim.proofs.Numbered.{one_more}
-use Rattle.world_sim.proofs.Groups.{granted_at}
+use Rattle.world_sim.proofs.Groups.{granted_at, sound_groups}
 use Rattle.world_sim.proofs.KeptByTurns as heart
 use Rattle.world_sim.proofs.KeptByTurns.{IsIn}
 use Rattle.world_sim.proofs.KeptByPasses as passing
@@ -48,6 +50,10 @@ module _ (g new : Group) (clients : Clients) (group : GroupKeeps g clients) (sou
   go_commit (Passing pass) k keeps = passing.commit_passes g new clients group pass sound k keeps
   go_commit (Turning n number q answer it turn) k keeps = heart.commit_keeps g new clients n number q answer it turn k keeps
 
+-- the coordinator serves
+pub serving : (w : World) → Keeps w → IsServing w.coordinator
+serving w keeps = record { groups = sound_groups w.coordinator (λ name. (keeps.groups name).sound); image = keeps.image }
+
 -- one client has a number
 pub one_client : (w : World) (name : Text) (k : ℕ) (c d : Client) → clients_of w.clients name k c → clients_of w.clients name k d → c ≡ d
 one_client w name k c d one other = some_is c d (sym one.0 ∙ other.0)
@@ -57,7 +63,7 @@ pub client_in : (w : World) → Keeps w → (name : Text) (k : ℕ) (c : Client)
 client_in w keeps name k c is =
     subst (λ (x : Text). ClientKeeps (group_at w.coordinator x) (clients_of w.clients x) k c) is.1 (keeps.clients k c is.0)
 
-module _ (w : World) (keeps : Keeps w) (c : Coordinator) (sound : (name : Text) → IsSound (group_at c name))
+module _ (w : World) (keeps : Keeps w) (c : Coordinator) (image : AreImageTopics c.image) (sound : (name : Text) → IsSound (group_at c name))
     (goes : (name : Text) → Goes (group_at w.coordinator name) (group_at c name) (clients_of w.clients name)) where
   request_goes : (q : Request) → Says w.coordinator w.clients q → Says c w.clients q
   request_goes q old =
@@ -86,6 +92,7 @@ module _ (w : World) (keeps : Keeps w) (c : Coordinator) (sound : (name : Text) 
   pub coordinator_keeps : Keeps (with_coordinator w c)
   coordinator_keeps =
       record {
+        image = image;
         groups = λ name. go_group (group_at w.coordinator name) (group_at c name) (clients_of w.clients name) (keeps.groups name) (sound name) (goes name);
         clients = λ n x is.
             let name = x.settings.group in
@@ -106,6 +113,7 @@ module _ (w : World) (keeps : Keeps w) (c : Coordinator) (sound : (name : Text) 
 pub with_request_keeps : (w : World) → Keeps w → (q : Request) → Says w.coordinator w.clients q → Keeps (with_request w q)
 with_request_keeps w keeps q says =
     record {
+      image = keeps.image;
       groups = keeps.groups;
       clients = keeps.clients;
       requests = λ x there. by x (one_more w.requests q x there);
@@ -121,6 +129,7 @@ with_request_keeps w keeps q says =
 pub with_commit_keeps : (w : World) → Keeps w → (k : Commit) → Committed w.coordinator w.clients k → Keeps (with_commit w k)
 with_commit_keeps w keeps k committed =
     record {
+      image = keeps.image;
       groups = keeps.groups;
       clients = keeps.clients;
       requests = keeps.requests;
@@ -143,6 +152,7 @@ pub record IsReplyIn (w : World) (r : Reply) : Type 0 where
 pub with_reply_keeps : (w : World) → Keeps w → (r : Reply) → IsReplyIn w r → Keeps (with_reply w r)
 with_reply_keeps w keeps r is_in =
     record {
+      image = keeps.image;
       groups = keeps.groups;
       clients = keeps.clients;
       requests = keeps.requests;

@@ -20,7 +20,7 @@ use Rattle.group_epochs.specs.Request.{arrival_of, commit_of, heartbeat_of}
 use Rattle.coord_node.specs.Coordinator.{Coordinator, Frame, Tick, Image, Answer, Replied, Closes, Done}
 use Rattle.coord_node.specs.Replies.{IsFrame, IsReplyFrame, reply_value}
 use Rattle.coord_node.specs.Steps.{Sends, message_of, RequestStep, FrameStepBy, Step}
-use Rattle.coord_node.specs.Laws.{StepsAreSound}
+use Rattle.coord_node.specs.Laws.{IsServing, StepsAreSound}
 use Rattle.member_core.specs.Client.{Client}
 use Rattle.member_core.specs.Asking.{header_of, heartbeat_value, request_value}
 use Rattle.member_core.specs.Taking.{Accepts, Tells, news_of}
@@ -30,9 +30,9 @@ use Rattle.world_sim.specs.Acts.{Outcome, Answers, BringStep, DeliversIf, Delive
 use Rattle.world_sim.specs.Turn.{Pass, Turn}
 use Rattle.world_sim.specs.Invariant.{ReplyKeeps, Committed, Keeps, Says, clients_of, group_at}
 use Rattle.world_sim.proofs.Messages.{heartbeat_in, heartbeat_reply_in, heartbeat_said, same_body, says_accepted}
-use Rattle.world_sim.proofs.Groups.{AllPass, HasTurned, all_sound, beaten_turns, committed_all, join_seen, same_all_pass, sound_groups, ticked_all}
+use Rattle.world_sim.proofs.Groups.{AllPass, HasTurned, all_sound, beaten_turns, committed_all, join_seen, same_all_pass, ticked_all}
 use Rattle.world_sim.proofs.KeptByTurns.{IsIn, reply_given}
-use Rattle.world_sim.proofs.Coordinators.{Goes, Passing, Turning, IsReplyIn, client_in, coordinator_keeps, one_client, with_reply_keeps}
+use Rattle.world_sim.proofs.Coordinators.{Goes, Passing, Turning, IsReplyIn, client_in, coordinator_keeps, one_client, serving, with_reply_keeps}
 
 -- what correlates a reply with its request
 abbrev correlation_in : ReplyValue → ℤ
@@ -55,14 +55,17 @@ module _ (one_request : OneRequestABody) (one_reply : OneReplyABody) (steps_soun
   new_is_sound salt = every salt 0 (omega arith) [] (new_group salt) refl
 
   module _ (w : World) (keeps : Keeps w) where
-    -- the groups are sound after a step
-    sound_after : (c : Coordinator) → (event : _) (answer : Answer) → Step w.coordinator event answer c → (name : Text) → IsSound (group_at c name)
-    sound_after c event answer step =
-        all_sound c (new_is_sound c.salt) (steps_sound w.coordinator event answer c step (sound_groups w.coordinator (λ name. (keeps.groups name).sound)))
+    -- the coordinator serves after a step
+    serving_after : (c : Coordinator) → (event : _) (answer : Answer) → Step w.coordinator event answer c → IsServing c
+    serving_after c event answer step = steps_sound w.coordinator event answer c step (serving w keeps)
+
+    each_sound : (c : Coordinator) → IsServing c → (name : Text) → IsSound (group_at c name)
+    each_sound c serving = all_sound c (new_is_sound c.salt) serving.groups
 
     -- a step in which all groups pass
     all_passing : (c : Coordinator) (event : _) (answer : Answer) → Step w.coordinator event answer c → AllPass w.coordinator c → Keeps (with_coordinator w c)
-    all_passing c event answer step passes = coordinator_keeps w keeps c (sound_after c event answer step) (λ name. Passing (passes name))
+    all_passing c event answer step passes =
+        let serving_then = serving_after c event answer step in coordinator_keeps w keeps c serving_then.image (each_sound c serving_then) (λ name. Passing (passes name))
 
     -- ---- a commit is brought
 
@@ -113,7 +116,7 @@ module _ (one_request : OneRequestABody) (one_reply : OneReplyABody) (steps_soun
           }
 
       -- the group has a turn, and what is sent is its answer
-      module _ (given : group.Answer) (answer : Answer) (c : Coordinator) (sound : (name : Text) → IsSound (group_at c name))
+      module _ (given : group.Answer) (answer : Answer) (c : Coordinator) (serving_then : IsServing c)
           (turned : HasTurned w.coordinator said q.stamp given c) (sends : Sends (message_of (pos q.stamp.frame) given) answer) where
         turn : Turn (group_at w.coordinator said.group) said (record { connection = q.sender; frame = q.stamp.frame }) given (group_at c said.group)
         turn = subst (λ (s : Stamp). Turn (group_at w.coordinator said.group) said s given (group_at c said.group)) same_stamp turned.turn
@@ -128,7 +131,7 @@ module _ (one_request : OneRequestABody) (one_reply : OneReplyABody) (steps_soun
                 Passing (subst (λ (x : Group). Pass (group_at w.coordinator name) x) (sym (turned.others name other)) (same_all_pass w.coordinator w.coordinator refl name))
 
         after : Keeps (with_coordinator w c)
-        after = coordinator_keeps w keeps c sound goes
+        after = coordinator_keeps w keeps c serving_then.image (each_sound c serving_then) goes
 
         module _ (body : List ℕ) (frame : List ℕ) (framed : IsFrame body frame) where
           -- what the pooled bytes tell is what the group replied
@@ -175,24 +178,24 @@ module _ (one_request : OneRequestABody) (one_reply : OneReplyABody) (steps_soun
           let comes = subst (λ (x : Answer). Pools (with_coordinator w c) q x outcome new) is pools in
           subst Keeps (sym comes.1) after
 
-      framed_keeps : (answer : Answer) (c : Coordinator) → ((name : Text) → IsSound (group_at c name)) → Step w.coordinator (Frame q.body q.stamp w.clock) answer c
+      framed_keeps : (answer : Answer) (c : Coordinator) → IsServing c → Step w.coordinator (Frame q.body q.stamp w.clock) answer c
           → FrameStepBy RequestStep w.coordinator q.body q.stamp w.clock answer c
           → (outcome : Outcome) (new : World) → Pools (with_coordinator w c) q answer outcome new → Keeps new
-      framed_keeps answer c sound step (inl (v, is, requests)) outcome new pools =
+      framed_keeps answer c serving_then step (inl (v, is, requests)) outcome new pools =
           let message : RequestValue = request_value q.stamp.frame said in
           let same : v ≡ message = one_request v message q.body is.spells says.spells in
           let beats : RequestStep w.coordinator message q.stamp w.clock answer c = subst (λ (x : RequestValue). RequestStep w.coordinator x q.stamp w.clock answer c) same requests in
           let turned : HasTurned w.coordinator (heartbeat_of (heartbeat_value said)) q.stamp beats.0 c =
           beaten_turns w.coordinator (arrival_of (heartbeat_value said) q.stamp w.clock w.coordinator.image) (keeps.groups said.group).sound
           (finite.get w.coordinator.groups said.group) refl beats.0 c beats.1 in
-          pooled beats.0 answer c sound (subst (λ (x : Heartbeat). HasTurned w.coordinator x q.stamp beats.0 c) (heartbeat_said said) turned) beats.2 answer refl outcome new pools
-      framed_keeps answer c sound step (inr is) outcome new pools =
+          pooled beats.0 answer c serving_then (subst (λ (x : Heartbeat). HasTurned w.coordinator x q.stamp beats.0 c) (heartbeat_said said) turned) beats.2 answer refl outcome new pools
+      framed_keeps answer c serving_then step (inr is) outcome new pools =
           closed c (all_passing c (Frame q.body q.stamp w.clock) answer step (same_all_pass w.coordinator c is.2)) answer is.1 outcome new pools
 
     delivers_if : (b : Bool) (q : Request) (says : Says w.coordinator w.clients q) → is_forgotten w.coordinator (heartbeat_value says.heartbeat) ≡ b → (outcome : Outcome) (new : World) → DeliversIf b w q outcome new → Keeps new
     delivers_if true q says is outcome new refused = subst Keeps (sym refused.1) keeps
     delivers_if false q says is outcome new (answer, c, step, pools) =
-        framed_keeps q says is answer c (sound_after c (Frame q.body q.stamp w.clock) answer step) step step outcome new pools
+        framed_keeps q says is answer c (serving_after c (Frame q.body q.stamp w.clock) answer step) step step outcome new pools
 
     pub delivers : (q : Request) → Contains w.requests q → (outcome : Outcome) (new : World) → DeliverStep (Some q) w outcome new → Keeps new
     delivers q there outcome new (header, v, spells, step) =
@@ -207,6 +210,7 @@ module _ (one_request : OneRequestABody) (one_reply : OneReplyABody) (steps_soun
   pub clocked : (w : World) → Keeps w → (moment : ℕ) → Keeps (record w { clock = moment })
   clocked w keeps moment =
       record {
+        image = keeps.image;
         groups = keeps.groups;
         clients = keeps.clients;
         requests = keeps.requests;

@@ -13,6 +13,7 @@ use Rattle.group_types.specs.Sets.{has}
 use Rattle.group_types.specs.Partition.{Partitions}
 use Rattle.group_types.specs.Group.{Group, Record, new_group}
 use Rattle.group_types.specs.Laws.{EveryGroupIsSound}
+use Rattle.group_types.proofs.Images.{empty-AreImageTopics}
 use Rattle.group_types.proofs.Orders.{partition_cmp_total}
 use Rattle.group_types.proofs.SetLemmas.{has-common}
 use Rattle.group_types.proofs.GrantLemmas.{has-held}
@@ -23,12 +24,13 @@ use Rattle.member_core.specs.Limits.{GREATEST_NUMBER}
 use Rattle.member_core.specs.Settings.{Settings}
 use Rattle.member_core.specs.Client.{Client, Place, Outside, Inside, Gone, new_client}
 use Rattle.member_core.specs.Asking as asking
-use Rattle.member_core.specs.Asking.{Ask, Join, Beat, Leave, GoAway, after_asking, after_giving_up, heartbeat_for, may_ask, may_ask_at, request_value}
+use Rattle.member_core.specs.Asking.{Ask, Join, Beat, Leave, GoAway, after_asking, after_giving_up, heartbeat_for, may_ask, may_ask_at, request_for, request_value}
 use Rattle.member_core.specs.Taking.{News, Accepts, Tells, TakesIf, after_news, meaning_of}
+use Rattle.member_core.specs.Refusing.{is_too_large}
 use Rattle.member_core.specs.Releasing.{after_release, may_release}
 use Rattle.member_core.specs.Committing.{may_commit_at, commit_for}
 use Rattle.world_sim.specs.World.{World, Request, Reply, Commit, cut, granted, numbered, new_world, with_client}
-use Rattle.world_sim.specs.Acts.{Act, Asks, GivesUp, Deliver, Take, Release, Commits, Bring, Clock, Passes, Sees, Outcome, ActStep, AsksIf, AsksStep, ChangesIf, GivesUpStep, ReleaseStep, DeliverStep, TakeBy, TakeStep, TakenAs, CommitsBy, CommitsIf, CommitsStep, BringStep, Run, SendsIf, commit_by, fits_frame, may_commit, stamp_of}
+use Rattle.world_sim.specs.Acts.{Act, Asks, GivesUp, Deliver, Take, Release, Commits, Bring, Clock, Passes, Sees, Outcome, IsSent, ActStep, AsksIf, AsksStep, ChangesIf, Comes, GivesUpStep, ReleaseStep, DeliverStep, TakeBy, TakeStep, TakenAs, CommitsBy, CommitsIf, CommitsStep, BringStep, Run, SendsIf, commit_by, fits_frame, may_commit, stamp_of, with_sent}
 use Rattle.world_sim.specs.Exclusivity.{Always}
 use Rattle.world_sim.specs.Turn.{Seen}
 use Rattle.world_sim.specs.Invariant.{GroupKeeps, ClientKeeps, RequestKeeps, CommitKeeps, SenderKeeps, Lags, IsMade, ReplyKeeps, Keeps, Says, clients_of, group_at}
@@ -110,15 +112,18 @@ module _ (w : World) (keeps : Keeps w) (n : ℕ) (c : Client) (there : numbered 
               (sym is_asked.group) (sym (asked_number c ask)) request_keeps;
         }
 
-    sends : (b : Bool) (outcome : Outcome) (after : World) → SendsIf b w n Asked body outcome after → Keeps after
-    sends true outcome after is = subst Keeps (sym is.1) (with_request_keeps After asked_world (record { sender = n; stamp = stamp_of n Asked; body = body }) says)
-    sends false outcome after is = subst Keeps (sym is.1) keeps
+    sends : (outcome : Outcome) (after : World) → Comes (IsSent (suc (length w.requests))) (with_sent w n Asked body) outcome after → Keeps after
+    sends outcome after is = subst Keeps (sym is.1) (with_request_keeps After asked_world (record { sender = n; stamp = stamp_of n Asked; body = body }) says)
 
   asks_if : (b : Bool) (ask : Ask) (outcome : Outcome) (after : World) → AsksIf b c w n ask outcome after → Keeps after
   asks_if false ask outcome after is = subst Keeps (sym is.1) keeps
-  asks_if true ask outcome after (body, new, asks, is) =
-      sends ask body (subst (λ (x : Client). asking.Asks c ask body x) asks.after asks) (fits_frame body) outcome after
-      (subst (λ (x : Client). SendsIf (fits_frame body) w n x body outcome after) asks.after is)
+  asks_if true ask outcome after is = by (is_too_large (request_for c ask)) is
+    where
+      by : (large : Bool) → SendsIf large c w n ask outcome after → Keeps after
+      by true is = subst Keeps (sym is.1) keeps
+      by false (body, new, asks, is) =
+          sends ask body (subst (λ (x : Client). asking.Asks c ask body x) asks.after asks) outcome after
+          (subst (λ (x : Client). Comes (IsSent (suc (length w.requests))) (with_sent w n x body) outcome after) asks.after is)
 
   -- ---- a client by itself
 
@@ -289,6 +294,7 @@ module _ (one_request : OneRequestABody) (one_reply : OneReplyABody) (steps_soun
     pub start_keeps : Keeps Start
     start_keeps =
         record {
+          image = empty-AreImageTopics;
           groups = λ name. subst (λ (g : Group). GroupKeeps g (clients_of Start.clients name)) (sym (fresh name)) (start_group name);
           clients = λ n c is.
               let was = numbered_map new_client settings n c is in

@@ -2,7 +2,6 @@
 use Rattle.std.proofs.Common.{◌≡◌, ◌≢◌, ℕ, zero, suc, ◌≤◌, ℤ, pos, negsuc, arith, Bool, true, false, not, zero-lt-suc, ◌&&◌, ◌||◌, if◌then◌else◌, List, [], ◌∷◌, ◌++◌, map, length, slice_get, Option, Some, unwrap_or, inl, inr, refl, sym, ap, subst, ◌∙◌, true≢false}
 use Rattle.std.specs.Ordering.{int_eq}
 use Rattle.std.specs.FinMap as finite
-use Rattle.std.proofs.lemmas.Bool.{leb-true}
 use Rattle.std.proofs.lemmas.Bool.Decides.{Decides-int_eq}
 use Rattle.flex_wire.specs.Spelling.{signed}
 use Rattle.kip_msgs.specs.Values.{RequestHeaderValue, HeartbeatRequestValue, HeartbeatReplyValue, RequestValue, heartbeat_request, heartbeat_reply}
@@ -29,12 +28,14 @@ use Rattle.coord_node.specs.Replies.{heartbeat_reply_value, reply_value}
 use Rattle.coord_node.specs.Steps.{FrameStepBy, HeartbeatAt, IsRequest, RequestStep, Sends, message_of, with_group}
 use Rattle.member_core.specs.Client.{Client, State, Inside, state_of, to_release}
 use Rattle.member_core.specs.Asking.{Beat, Full, after_sending, beat_of, fullness_of, header_of, heartbeat_for, heartbeat_value, request_for, request_value}
+use Rattle.member_core.specs.Refusing.{is_too_large}
 use Rattle.member_core.specs.Taking.{MeansSuccess, News, Accepts, Takes, Tells, after_news, meaning_of, news_by, news_of}
 use Rattle.world_sim.specs.World.{World, Request, Reply, numbered, with_client, with_coordinator, with_reply, with_request}
-use Rattle.world_sim.specs.Acts.{AsksIf, AsksStep, DeliversIf, DeliverStep, Outcome, IsSent, IsReplied, Is, Pools, SendsIf, TakeBy, TakenAs, TakeStep, Release, Run, fits_frame, is_forgotten, is_unremembered, stamp_of}
+use Rattle.world_sim.specs.Acts.{AsksIf, AsksStep, DeliversIf, DeliverStep, Outcome, IsSent, IsReplied, Is, Pools, SendsIf, TakeBy, TakenAs, TakeStep, Release, Run, is_forgotten, is_unremembered, stamp_of, with_sent}
 use Rattle.world_sim.specs.Rounds.{HasTurn}
 use Rattle.world_sim.proofs.FullBeats.{CanBeat, HasBeat, full_beat, has_beat}
 use Rattle.world_sim.proofs.Messages.{assignment_same, heartbeat_in, heartbeat_reply_in, heartbeat_said, same_body}
+use Rattle.world_sim.proofs.RequestSizes.{within_if_small}
 use Rattle.world_sim.proofs.Numbered.{numbered_itself, numbered_other}
 use Rattle.world_sim.proofs.Released.{HasReleased, releases}
 
@@ -117,20 +118,24 @@ module _ (one_request : OneRequestABody) (one_reply : OneReplyABody) (w : World)
 
   pub record IsSending (request : ℕ) (sent : World) : Type 0 where
     pub body : List ℕ
-    pub fits : fits_frame body ≡ true
+    pub fits : length body ≤ LARGEST_BODY
     pub spells : SpellsRequest (request_for c (Beat Full)) body
     pub is_request : request ≡ suc (length w.requests)
     pub is : sent ≡ with_request (with_client w n Asked) (record { sender = n; stamp = stamp_of n Asked; body = body })
 
-  sends_if : (b : Bool) (request : ℕ) (sent : World) (body : List ℕ) → fits_frame body ≡ b → SpellsRequest (request_for c (Beat Full)) body
-      → SendsIf b w n Asked body (IsSent request) sent → IsSending request sent
-  sends_if true request sent body fits spells is = record { body = body; fits = fits; spells = spells; is_request = ap number_of is.0; is = is.1 }
-  sends_if false request sent body fits spells is = absurd (true≢false (ap is_sent is.0))
+  sends_if : (large : Bool) (request : ℕ) (sent : World) → is_too_large (request_for c (Beat Full)) ≡ large → SendsIf large c w n (Beat Full) (IsSent request) sent → IsSending request sent
+  sends_if true request sent large is = absurd (true≢false (ap is_sent is.0))
+  sends_if false request sent small (body, after, asks, is) = record {
+    body = body;
+    fits = within_if_small (request_for c (Beat Full)) body asks.spells.bytes small;
+    spells = asks.spells;
+    is_request = ap number_of is.0;
+    is = subst (λ (x : Client). sent ≡ with_sent w n x body) asks.after is.1;
+  }
 
   asks_if : (b : Bool) (request : ℕ) (sent : World) → AsksIf b c w n (Beat Full) (IsSent request) sent → IsSending request sent
   asks_if false request sent is = absurd (true≢false (ap is_sent is.0))
-  asks_if true request sent (body, after, asks, is) =
-      sends_if (fits_frame body) request sent body refl asks.spells (subst (λ (x : Client). SendsIf (fits_frame body) w n x body (IsSent request) sent) asks.after is)
+  asks_if true request sent is = sends_if (is_too_large (request_for c (Beat Full))) request sent refl is
 
   pub sending : (request : ℕ) (sent : World) → AsksStep (numbered w.clients n) w n (Beat Full) (IsSent request) sent → IsSending request sent
   sending request sent is = asks_if _ request sent (subst (λ (o : Option Client). AsksStep o w n (Beat Full) (IsSent request) sent) there is)
@@ -189,7 +194,7 @@ module _ (one_request : OneRequestABody) (one_reply : OneReplyABody) (w : World)
           (subst (λ (x : group.Answer). Sends (message_of (pos (suc c.number)) x) answer) beat.answers sends) outcome
           (subst (λ (x : Coordinator). Pools (with_coordinator sent x) AnyRequest answer outcome heard) is pools)
 
-      stepped_anyway : fits_frame body ≡ true → (answer : Answer) (new : Coordinator) → FrameStepBy RequestStep w.coordinator body TheStamp w.clock answer new
+      stepped_anyway : length body ≤ LARGEST_BODY → (answer : Answer) (new : Coordinator) → FrameStepBy RequestStep w.coordinator body TheStamp w.clock answer new
           → (outcome : Outcome) → Pools (with_coordinator sent new) AnyRequest answer outcome heard → IsReply outcome
       stepped_anyway fits answer new (inl (v, is, step)) outcome pools =
           let same : v ≡ TheMessage = one_request v (request_for c (Beat Full)) body is.spells spells ∙ ap (request_value (suc c.number)) same_beat in
@@ -198,15 +203,15 @@ module _ (one_request : OneRequestABody) (one_reply : OneReplyABody) (w : World)
           (subst (λ (o : Option Group). HeartbeatAt o w.coordinator (arrival_of (heartbeat_value TheBeat) TheStamp w.clock w.coordinator.image) beats.0 new) of_group beats.1)
           beats.2 outcome pools
       stepped_anyway fits answer new (inr is) outcome pools =
-          absurd (is.0 (request_for c (Beat Full)) (heartbeat_is_request (header_of (suc c.number)) (heartbeat_value (heartbeat_for c (Beat Full))) body spells (leb-true (length body) LARGEST_BODY fits)))
+          absurd (is.0 (request_for c (Beat Full)) (heartbeat_is_request (header_of (suc c.number)) (heartbeat_value (heartbeat_for c (Beat Full))) body spells fits))
 
-      delivers_anyway : fits_frame body ≡ true → (b : Bool) → b ≡ false → (outcome : Outcome) → DeliversIf b sent AnyRequest outcome heard → IsReply outcome
+      delivers_anyway : length body ≤ LARGEST_BODY → (b : Bool) → b ≡ false → (outcome : Outcome) → DeliversIf b sent AnyRequest outcome heard → IsReply outcome
       delivers_anyway fits true known outcome is = absurd (true≢false known)
       delivers_anyway fits false known outcome (answer, new, step, pools) =
           stepped_anyway fits answer new
           (subst (λ (v : World). FrameStepBy RequestStep v.coordinator body TheStamp v.clock answer new) is_sent_w step) outcome pools
 
-      hears_anyway : fits_frame body ≡ true → (outcome : Outcome) → DeliverStep (Some AnyRequest) sent outcome heard → IsReply outcome
+      hears_anyway : length body ≤ LARGEST_BODY → (outcome : Outcome) → DeliverStep (Some AnyRequest) sent outcome heard → IsReply outcome
       hears_anyway fits outcome (header, v, spelled, is) =
           let same : heartbeat_request header v ≡ TheMessage = one_request (heartbeat_request header v) (request_for c (Beat Full)) body spelled spells ∙ ap (request_value (suc c.number)) same_beat in
           delivers_anyway fits (is_forgotten sent.coordinator v)

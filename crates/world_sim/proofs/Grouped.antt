@@ -17,8 +17,9 @@ use Rattle.group_epochs.specs.Request.{arrival_of, commit_of}
 use Rattle.coord_node.specs.Coordinator.{Coordinator, Answer, Replied, Closes, Done}
 use Rattle.coord_node.specs.Steps.{is_success, has_room, all_ticked, Makes, MakesBy, HeartbeatAt, CommitAt, with_group, RequestStep, FrameStepBy}
 use Rattle.member_core.specs.Client.{Client}
-use Rattle.member_core.specs.Asking.{Ask, Join, Beat, Leave, GoAway, after_asking, after_giving_up, header_of, heartbeat_value, may_ask, request_value}
+use Rattle.member_core.specs.Asking.{Ask, Join, Beat, Leave, GoAway, after_asking, after_giving_up, header_of, heartbeat_value, may_ask, request_for, request_value}
 use Rattle.member_core.specs.Taking.{News, Accepts, Fences, Retries, Ends, TakesIf, after_news}
+use Rattle.member_core.specs.Refusing.{is_too_large}
 use Rattle.member_core.specs.Releasing.{after_release, may_release, released_if}
 use Rattle.member_core.specs.Committing.{commit_value}
 use Rattle.world_sim.specs.World.{World, Request, Reply, Commit, new_world, numbered, renumbered, with_client, with_coordinator}
@@ -131,14 +132,14 @@ module _ (one_request : OneRequestABody) (w : World) (keeps : Keeps w) (grouped 
   same_grouped : new ≡ w → AreGrouped new
   same_grouped same = subst AreGrouped (sym same) grouped
 
-  sends_if : (b : Bool) (n : ℕ) (c after : Client) (body : List ℕ) → numbered w.clients n ≡ Some c → after.settings.group ≡ c.settings.group → SendsIf b w n after body outcome new → AreGrouped new
-  sends_if true n c after body there same is = subst AreGrouped (sym is.1) (changed w n c after there same grouped)
-  sends_if false n c after body there same is = same_grouped is.1
+  sends_if : (large : Bool) (n : ℕ) (ask : Ask) (c : Client) → numbered w.clients n ≡ Some c → SendsIf large c w n ask outcome new → AreGrouped new
+  sends_if true n ask c there is = same_grouped is.1
+  sends_if false n ask c there (body, after, asks, is) =
+      subst AreGrouped (sym is.1) (changed w n c after there (ap (λ (x : Client). x.settings.group) asks.after ∙ asked_group c ask) grouped)
 
   asks_if : (b : Bool) (n : ℕ) (ask : Ask) (c : Client) → numbered w.clients n ≡ Some c → AsksIf b c w n ask outcome new → AreGrouped new
   asks_if false n ask c there is = same_grouped is.1
-  asks_if true n ask c there (body, after, asks, is) =
-      sends_if (fits_frame body) n c after body there (ap (λ (x : Client). x.settings.group) asks.after ∙ asked_group c ask) is
+  asks_if true n ask c there is = sends_if (is_too_large (request_for c ask)) n ask c there is
 
   asks_step : (n : ℕ) (ask : Ask) (o : Option Client) → numbered w.clients n ≡ o → AsksStep o w n ask outcome new → AreGrouped new
   asks_step n ask None none is = same_grouped is.1

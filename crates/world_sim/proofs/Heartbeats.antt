@@ -9,7 +9,7 @@ use Rattle.group_types.specs.declared.code.Code.TheVariants as codes
 use Rattle.group_types.specs.declared.stamp.Stamp.{Stamp}
 use Rattle.group_types.specs.Text.{Text, text_cmp}
 use Rattle.group_types.specs.MemberId.{made_id}
-use Rattle.group_types.specs.Join.{IsNamed, IsSerial, Name, name_of_serial, record_of_join, returned}
+use Rattle.group_types.specs.Join.{IsNamed, IsSerial, Name, name_of_serial, record_of_join}
 use Rattle.group_types.proofs.Lookups.{not_none, some_is, text_ties}
 use Rattle.group_types.proofs.Senders.{named_fresh, named_own, other_is, own_is}
 use Rattle.group_types.specs.Request.{Heartbeat, Joins, Beats, Leaves, GoesAway, LEAVES_AT, GOES_AWAY_AT, is_invalid, is_unsupported, kind_of}
@@ -205,9 +205,9 @@ module _ (g : Group) (sound : IsSound g) (a : Arrival) (answer : Answer) (new : 
         given = given.0;
         same_instance = (there.1 ∙ given.1, given.1);
         stamped = refl;
-        at = at_again old.kept old.kept.epoch refl;
+        at = at_again old.kept old.kept.epoch;
         instance = refl;
-        settings = record { valid = valid; supported = supported; stored_names = (returned old.kept).names; stored_assignor = (returned old.kept).assignor; given = record { names = refl; assignor = refl } };
+        settings = record { valid = valid; supported = supported; stored_names = old.kept.names; stored_assignor = old.kept.assignor; given = record { names = refl; assignor = refl } };
       })
       (with_record_at (record g { serial = name.next_serial }) now old.id after) a.image answer new
       (drafted_at g sound.target_epoch name.next_serial (next_serial g q a.stamp q.member name named) now old.id after)

@@ -50,6 +50,7 @@ pub mod Renewed
 pub mod OneOutcome
 pub mod Clients
 pub mod MailLemmas
+pub mod RequestSizes
 pub mod Performs
 pub mod Reaching
 pub mod Delivered

@@ -1,4 +1,4 @@
--- An act leaves a live world live, as long as its clients own few partitions.
+-- An act leaves a live world live.
 use Rattle.std.proofs.Common.{◌≡◌, ◌⊎◌, ℕ, zero, suc, ◌≤◌, ◌<◌, ◌+◌, ℤ, pos, negsuc, Bool, true, false, ◌&&◌, ◌||◌, not, nat_le, List, [], ◌∷◌, ◌++◌, map, length, Option, option_map, Some, None, All, IfSome, inl, inr, refl, sym, ap, subst, ◌∙◌, arith, true≢false}
 use Rattle.std.specs.Prelude.{FitsSigned}
 use Rattle.std.specs.Cmp.{Equal-is, second_so}
@@ -7,38 +7,37 @@ use Rattle.std.specs.List.{AllByRecursion, Contains, flat_map, list_any}
 use Rattle.std.specs.Ordering.{eq_by_cmp}
 use Rattle.std.proofs.lemmas.Bool.{leb-true}
 use Rattle.std.proofs.lemmas.List.Elements.{recursion_from_All}
-use Rattle.flex_wire.specs.Spelling.{FitsCount, FitsNullableText, FitsText, FitsUuid}
+use Rattle.flex_wire.specs.Spelling.{FitsNullableText, FitsText, FitsUuid}
 use Rattle.kip_msgs.specs.Values.{AssignmentValue, HeartbeatReplyValue, TopicPartitionsValue}
 use Rattle.kip_msgs.specs.Spelling.{FitsAssignment, FitsHeartbeatReply, FitsTopicPartitions, SpellsRequest}
 use Rattle.group_types.specs.Limits.{LARGEST_BODY}
 use Rattle.group_types.specs.declared.partition.Partition.{Partition}
 use Rattle.group_types.specs.Text.{Text}
-use Rattle.group_types.specs.Sets.{has, nothing, size, union, without}
+use Rattle.group_types.specs.Sets.{has, nothing, union, without}
 use Rattle.group_types.specs.Partition.{partition_cmp, Partitions}
 use Rattle.group_types.proofs.Lookups.{some_is}
 use Rattle.group_types.proofs.Orders.{partition_cmp-IsAntisymmetric, partition_cmp_total}
 use Rattle.group_types.proofs.SetLemmas.{has-nothing, has-of_list, has-union, has-without}
-use Rattle.coord_node.specs.Coordinator.{Answer, Closes, Coordinator, Done, Image, Replied, Tick}
-use Rattle.coord_node.specs.Existence.{IsServing}
-use Rattle.coord_node.specs.Laws.{StepsAreSound}
+use Rattle.coord_node.specs.Coordinator.{Answer, Closes, Coordinator, Done, Frame, Image, Replied, Tick}
+use Rattle.coord_node.specs.Laws.{IsServing, StepsAreSound}
 use Rattle.coord_node.specs.Steps.{Step}
-use Rattle.coord_node.proofs.KeptViews.{serves_on, serves_on_frames}
-use Rattle.member_core.specs.Asking as asking
 use Rattle.member_core.specs.Asking.{Ask, Beat, GoAway, Join, Leave, after_asking, after_giving_up, request_for}
 use Rattle.member_core.specs.Client.{Client}
 use Rattle.member_core.specs.Committing.{commit_for}
 use Rattle.member_core.specs.Existence.{CanSay}
 use Rattle.member_core.specs.Listing.{all_partitions_of, partitions_of}
+use Rattle.member_core.specs.Refusing.{is_too_large}
 use Rattle.member_core.specs.Releasing.{after_release, released_if}
-use Rattle.member_core.specs.Settings.{FitsSettings, Settings}
+use Rattle.member_core.specs.Settings.{FitsSettings}
 use Rattle.member_core.specs.Taking as taking
 use Rattle.member_core.specs.Taking.{Accepts, Ends, Fences, Meaning, MeansEnd, MeansFenced, MeansRetry, MeansSuccess, News, Retries, TakesIf, Tells, after_news, assigned, meaning_of, news_by, showing}
 use Rattle.world_sim.specs.World.{Commit, Reply, Request, World, cut, numbered, renumbered, with_client, with_commit, with_coordinator, with_reply, with_request}
 use Rattle.world_sim.specs.Acts.{Act, ActStep, Answers, Asks, AsksIf, AsksStep, Bring, BringStep, ChangesIf, Clock, Commits, CommitsBy, CommitsIf, CommitsStep, Deliver, DeliversIf, DeliverStep, GivesUp, GivesUpStep, Outcome, Passes, Pools, Release, ReleaseStep, Sees, SendsIf, Take, TakeBy, TakenAs, TakeStep, commit_by, fits_frame, is_forgotten, may_commit}
-use Rattle.world_sim.specs.Existence.{ActsLeaveLiveWorlds, CanBeTaken, IsCommit, IsLive, IsPooled, IsPossible, OwnFew}
+use Rattle.world_sim.specs.Existence.{ActsLeaveLiveWorlds, CanBeTaken, IsCommit, IsLive, IsPooled}
 use Rattle.world_sim.proofs.Delivered.{commit_is_request}
 use Rattle.world_sim.proofs.FullTurns.{heartbeat_is_request}
 use Rattle.world_sim.proofs.Lists.{In, from_in, in_map, to_in}
+use Rattle.world_sim.proofs.RequestSizes.{within_if_small}
 use Rattle.world_sim.proofs.Numbered.{Has, Place, at, changed, elsewhere, has_number, numbered_in, numbered_itself, numbered_other, one_more, place, unchanged}
 
 -- ---- what a client can say after what it does
@@ -52,23 +51,21 @@ AreSaid set = (p : Partition) → has set p ≡ true → IsWritten p
 nothing_said : AreSaid nothing
 nothing_said p there = absurd (true≢false (sym there ∙ has-nothing partition_cmp p))
 
-asked_can : (c : Client) (ask : Ask) → CanSay c → FitsCount (size (after_asking c ask).own) → CanSay (after_asking c ask)
-asked_can c Join can few = record { settings = can.settings; names = can.names; id = can.id; epoch = can.epoch; few = few; own = can.own }
-asked_can c (Beat fullness) can few = record { settings = can.settings; names = can.names; id = can.id; epoch = can.epoch; few = few; own = can.own }
-asked_can c Leave can few = record { settings = can.settings; names = can.names; id = can.id; epoch = can.epoch; few = few; own = nothing_said }
-asked_can c GoAway can few = record { settings = can.settings; names = can.names; id = can.id; epoch = can.epoch; few = few; own = nothing_said }
+asked_can : (c : Client) (ask : Ask) → CanSay c → CanSay (after_asking c ask)
+asked_can c Join can = record { settings = can.settings; id = can.id; epoch = can.epoch; own = can.own }
+asked_can c (Beat fullness) can = record { settings = can.settings; id = can.id; epoch = can.epoch; own = can.own }
+asked_can c Leave can = record { settings = can.settings; id = can.id; epoch = can.epoch; own = nothing_said }
+asked_can c GoAway can = record { settings = can.settings; id = can.id; epoch = can.epoch; own = nothing_said }
 
 given_up_can : (c : Client) → CanSay c → CanSay (after_giving_up c)
-given_up_can c can = record { settings = can.settings; names = can.names; id = can.id; epoch = can.epoch; few = can.few; own = can.own }
+given_up_can c can = record { settings = can.settings; id = can.id; epoch = can.epoch; own = can.own }
 
-released_can : (b : Bool) (c : Client) (p : Partition) → CanSay c → FitsCount (size (released_if b c p).own) → CanSay (released_if b c p)
-released_can true c p can few = can
-released_can false c p can few = record {
+released_can : (b : Bool) (c : Client) (p : Partition) → CanSay c → CanSay (released_if b c p)
+released_can true c p can = can
+released_can false c p can = record {
   settings = can.settings;
-  names = can.names;
   id = can.id;
   epoch = can.epoch;
-  few = few;
   own = λ q there. can.own q (second_so (not (eq_by_cmp partition_cmp q p)) _ (sym (has-without partition_cmp_total c.own p q) ∙ there));
 }
 
@@ -142,24 +139,21 @@ shown_settings : (c : Client) (a : Option Partitions) → (showing c a).settings
 shown_settings c None = refl
 shown_settings c (Some set) = refl
 
-taken_can : (c : Client) (news : News) → CanSay c → IsTold news → FitsCount (size (after_news c news).own) → CanSay (after_news c news)
-taken_can c (Accepts m epoch a) can is few = record {
+taken_can : (c : Client) (news : News) → CanSay c → IsTold news → CanSay (after_news c news)
+taken_can c (Accepts m epoch a) can is = record {
   settings = subst FitsSettings (sym (shown_settings c a)) can.settings;
-  names = subst (λ (s : Settings). FitsCount (length s.names)) (sym (shown_settings c a)) can.names;
   id = is.0;
   epoch = is.1;
-  few = few;
   own = shown_said c a can.own is.2;
 }
-taken_can c Fences can is few = record { settings = can.settings; names = can.names; id = can.id; epoch = record { sfits = omega arith }; few = few; own = nothing_said }
-taken_can c Retries can is few = record { settings = can.settings; names = can.names; id = can.id; epoch = can.epoch; few = few; own = can.own }
-taken_can c Ends can is few = record { settings = can.settings; names = can.names; id = can.id; epoch = can.epoch; few = few; own = nothing_said }
+taken_can c Fences can is = record { settings = can.settings; id = can.id; epoch = record { sfits = omega arith }; own = nothing_said }
+taken_can c Retries can is = record { settings = can.settings; id = can.id; epoch = can.epoch; own = can.own }
+taken_can c Ends can is = record { settings = can.settings; id = can.id; epoch = can.epoch; own = nothing_said }
 
-takes_can : (waits : Bool) (c : Client) (body : List ℕ) (taken : Bool) (after : Client) → TakesIf waits c body taken after → CanSay c → FitsCount (size after.own) → CanSay after
-takes_can false c body taken after is can few = subst CanSay (sym is.1) can
-takes_can true c body true after is can few =
-    subst CanSay (sym is.2) (taken_can c is.0 can (told c.number body is.0 is.1) (subst (λ (x : Client). FitsCount (size x.own)) is.2 few))
-takes_can true c body false after is can few = subst CanSay (sym is.1) can
+takes_can : (waits : Bool) (c : Client) (body : List ℕ) (taken : Bool) (after : Client) → TakesIf waits c body taken after → CanSay c → CanSay after
+takes_can false c body taken after is can = subst CanSay (sym is.1) can
+takes_can true c body true after is can = subst CanSay (sym is.2) (taken_can c is.0 can (told c.number body is.0 is.1))
+takes_can true c body false after is can = subst CanSay (sym is.1) can
 
 -- ---- changes of a world
 
@@ -253,45 +247,39 @@ module _ (w : World) (live : IsLive w) where
 
 -- ---- the acts
 
--- an outcome and the world that is left, of which clients own few
-module _ (w : World) (live : IsLive w) (outcome : Outcome) (new : World) (few : OwnFew new) where
+-- an outcome and the world that is left
+module _ (w : World) (live : IsLive w) (outcome : Outcome) (new : World) where
   stays : new ≡ w → IsLive new
   stays is = subst IsLive (sym is) live
 
-  -- in the world that is left a client under a number owns few
-  few_there : (n : ℕ) (c x : Client) (v : World) → numbered w.clients n ≡ Some x → v.clients ≡ renumbered w.clients n c → new ≡ v → FitsCount (size c.own)
-  few_there n c x v there same is =
-      few n c (ap (λ (u : World). numbered u.clients n) is ∙ ap (λ cs. numbered cs n) same ∙ numbered_itself w.clients n c x there)
-
-  changes : (may : Bool) (n : ℕ) (after : Client) (x : Client) → numbered w.clients n ≡ Some x → (FitsCount (size after.own) → CanSay after) → ChangesIf may after w n outcome new → IsLive new
-  changes true n after x there can is = subst IsLive (sym is.1) (client_live w live n after (can (few_there n after x (with_client w n after) there refl is.1)))
-  changes false n after x there can is = stays is.1
+  changes : (may : Bool) (n : ℕ) (after : Client) → CanSay after → ChangesIf may after w n outcome new → IsLive new
+  changes true n after can is = subst IsLive (sym is.1) (client_live w live n after can)
+  changes false n after can is = stays is.1
 
   gives_up : (n : ℕ) (o : Option Client) → numbered w.clients n ≡ o → GivesUpStep o w n outcome new → IsLive new
   gives_up n None none is = stays is.1
-  gives_up n (Some c) there is = changes c.waits n (after_giving_up c) c there (λ own. given_up_can c (live.clients n c there)) is
+  gives_up n (Some c) there is = changes c.waits n (after_giving_up c) (given_up_can c (live.clients n c there)) is
 
   releases : (n : ℕ) (p : Partition) (o : Option Client) → numbered w.clients n ≡ o → ReleaseStep o w n p outcome new → IsLive new
   releases n p None none is = stays is.1
-  releases n p (Some c) there is = changes _ n (after_release c p) c there (λ own. released_can (has c.shown p) c p (live.clients n c there) own) is
+  releases n p (Some c) there is = changes _ n (after_release c p) (released_can (has c.shown p) c p (live.clients n c there)) is
 
-  sends : (fits : Bool) (n : ℕ) (c : Client) (ask : Ask) (body : List ℕ) (after : Client) → numbered w.clients n ≡ Some c → fits_frame body ≡ fits → asking.Asks c ask body after → SendsIf fits w n after body outcome new → IsLive new
-  sends false n c ask body after there fits asked is = stays is.1
-  sends true n c ask body after there fits asked is =
-      let can : FitsCount (size after.own) → CanSay after = λ few_own. subst CanSay (sym asked.after) (asked_can c ask (live.clients n c there) (subst (λ (x : Client). FitsCount (size x.own)) asked.after few_own)) in
-      let few_own : FitsCount (size after.own) = few_there n after c (with_request (with_client w n after) _) there refl is.1 in
-      let then_live = client_live w live n after (can few_own) in
+  sends : (large : Bool) (n : ℕ) (ask : Ask) (c : Client) → numbered w.clients n ≡ Some c → is_too_large (request_for c ask) ≡ large → SendsIf large c w n ask outcome new → IsLive new
+  sends true n ask c there large is = stays is.1
+  sends false n ask c there small (body, after, asked, is) =
+      let can : CanSay after = subst CanSay (sym asked.after) (asked_can c ask (live.clients n c there)) in
+      let then_live = client_live w live n after can in
       subst IsLive (sym is.1) (request_live (with_client w n after) then_live _ (record {
         client = after;
         sender = numbered_itself w.clients n after c there;
         header = _;
         heartbeat = _;
-        is = heartbeat_is_request _ _ body asked.spells (leb-true (length body) LARGEST_BODY fits);
+        is = heartbeat_is_request _ _ body asked.spells (within_if_small (request_for c ask) body asked.spells.bytes small);
       }))
 
   asks : (may : Bool) (n : ℕ) (ask : Ask) (c : Client) → numbered w.clients n ≡ Some c → AsksIf may c w n ask outcome new → IsLive new
   asks false n ask c there is = stays is.1
-  asks true n ask c there (body, after, asked, is) = sends (fits_frame body) n c ask body after there refl asked is
+  asks true n ask c there is = sends (is_too_large (request_for c ask)) n ask c there refl is
 
   asks_step : (n : ℕ) (ask : Ask) (o : Option Client) → numbered w.clients n ≡ o → AsksStep o w n ask outcome new → IsLive new
   asks_step n ask None none is = stays is.1
@@ -299,7 +287,7 @@ module _ (w : World) (live : IsLive w) (outcome : Outcome) (new : World) (few : 
 
   takes_as : (taken : Bool) (n : ℕ) (c after : Client) (body : List ℕ) → numbered w.clients n ≡ Some c → taking.Takes c body taken after → TakenAs taken w n after outcome new → IsLive new
   takes_as true n c after body there takes is =
-      subst IsLive (sym is.1) (client_live w live n after (takes_can c.waits c body true after takes (live.clients n c there) (few_there n after c (with_client w n after) there refl is.1)))
+      subst IsLive (sym is.1) (client_live w live n after (takes_can c.waits c body true after takes (live.clients n c there)))
   takes_as false n c after body there takes is = stays is.1
 
   takes_by : (r : Reply) (o : Option Client) → numbered w.clients r.request.sender ≡ o → TakeBy o r w outcome new → IsLive new
@@ -332,7 +320,7 @@ module _ (w : World) (live : IsLive w) (outcome : Outcome) (new : World) (few : 
 
     delivers_if : (forgotten : Bool) (q : Request) → IsPooled w.clients q → DeliversIf forgotten w q outcome new → IsLive new
     delivers_if true q pooled is = stays is.1
-    delivers_if false q pooled (answer, c, step, is) = pools c (serves_on_frames steps_are_sound w.coordinator q.body q.stamp w.clock answer c live.serving step) q answer pooled is
+    delivers_if false q pooled (answer, c, step, is) = pools c (steps_are_sound w.coordinator (Frame q.body q.stamp w.clock) answer c step live.serving) q answer pooled is
 
     delivers : (k : ℕ) (o : Option Request) → numbered w.requests k ≡ o → DeliverStep o w outcome new → IsLive new
     delivers k None none is = stays is.1
@@ -345,21 +333,21 @@ module _ (w : World) (live : IsLive w) (outcome : Outcome) (new : World) (few : 
 
     brings : (o : Option Commit) → BringStep o w outcome new → IsLive new
     brings None is = stays is.1
-    brings (Some k) (answer, c, step, is) = answers c (serves_on_frames steps_are_sound w.coordinator k.body _ w.clock answer c live.serving step) answer is
+    brings (Some k) (answer, c, step, is) = answers c (steps_are_sound w.coordinator (Frame k.body _ w.clock) answer c step live.serving) answer is
 
-    lives_on : (act : Act) → IsPossible act → ActStep w act outcome new → IsLive new
-    lives_on (Asks n ask) can is = asks_step n ask (numbered w.clients n) refl is
-    lives_on (GivesUp n) can is = gives_up n (numbered w.clients n) refl is
-    lives_on (Deliver k) can is = delivers k (numbered w.requests k) refl is
-    lives_on (Take j) can is = takes (numbered w.replies j) is
-    lives_on (Release n p) can is = releases n p (numbered w.clients n) refl is
-    lives_on (Commits n topics) can is = commits (numbered w.clients n) topics is
-    lives_on (Bring k) can is = brings (numbered w.commits k) is
-    lives_on (Clock moment) can is = subst IsLive (sym is.1) (clock_live w live moment)
-    lives_on (Passes moment) can (removed, c, step, comes) =
-        subst IsLive (sym comes.1) (coordinator_live (record w { clock = moment }) (clock_live w live moment) c (serves_on steps_are_sound w.coordinator (Tick moment) (Done removed) c live.serving tt step))
-    lives_on (Sees image) can (c, step, comes) =
-        subst IsLive (sym comes.1) (coordinator_live w live c (serves_on steps_are_sound w.coordinator (Image image) (Done 0) c live.serving can step))
+    lives_on : (act : Act) → ActStep w act outcome new → IsLive new
+    lives_on (Asks n ask) is = asks_step n ask (numbered w.clients n) refl is
+    lives_on (GivesUp n) is = gives_up n (numbered w.clients n) refl is
+    lives_on (Deliver k) is = delivers k (numbered w.requests k) refl is
+    lives_on (Take j) is = takes (numbered w.replies j) is
+    lives_on (Release n p) is = releases n p (numbered w.clients n) refl is
+    lives_on (Commits n topics) is = commits (numbered w.clients n) topics is
+    lives_on (Bring k) is = brings (numbered w.commits k) is
+    lives_on (Clock moment) is = subst IsLive (sym is.1) (clock_live w live moment)
+    lives_on (Passes moment) (removed, c, step, comes) =
+        subst IsLive (sym comes.1) (coordinator_live (record w { clock = moment }) (clock_live w live moment) c (steps_are_sound w.coordinator (Tick moment) (Done removed) c step live.serving))
+    lives_on (Sees image) (c, step, comes) =
+        subst IsLive (sym comes.1) (coordinator_live w live c (steps_are_sound w.coordinator (Image image) (Done 0) c step live.serving))
 
 pub acts_leave_live_worlds : StepsAreSound Step → ActsLeaveLiveWorlds
-acts_leave_live_worlds steps_are_sound w act outcome new step live can few = lives_on w live outcome new few steps_are_sound act can step
+acts_leave_live_worlds steps_are_sound w act outcome new step live = lives_on w live outcome new steps_are_sound act step

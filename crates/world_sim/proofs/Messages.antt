@@ -2,13 +2,15 @@
 use Rattle.std.proofs.Common.{◌≡◌, ℕ, zero, suc, ◌<◌, ℤ, pos, negsuc, Bool, true, false, List, [], ◌∷◌, ◌++◌, length, drop, Option, Some, None, refl, sym, ap, subst, ◌∙◌, true≢false, zero-lt-suc, if◌then◌else◌}
 use Rattle.std.specs.List.{flat_map}
 use Rattle.std.specs.Option.{option_map}
-use Rattle.std.specs.Ordering.{eq_by_cmp}
+use Rattle.std.specs.Str.{bytes_eq}
+use Rattle.std.proofs.lemmas.Slice.Eq.{bytes_eq-Decides}
 use Rattle.flex_wire.specs.Spelling.{int32, signed}
 use Rattle.kip_msgs.specs.Values.{CommitReplyValue, HeartbeatReplyValue, HeartbeatRequestValue, ReplyValue, RequestValue, TopicPartitionsValue, commit_reply, commit_request, heartbeat_reply, heartbeat_request}
+use Rattle.kip_msgs.specs.Listing.{alone, before}
 use Rattle.group_types.specs.declared.code.Code.{Code}
 use Rattle.group_types.specs.declared.code.Code.TheVariants as codes
 use Rattle.group_types.specs.declared.partition.Partition.{Partition}
-use Rattle.group_types.specs.Text.{Text, text_cmp}
+use Rattle.group_types.specs.Text.{Text}
 use Rattle.group_types.specs.Sets.{in_order, of_list}
 use Rattle.group_types.specs.Partition.{Partitions}
 use Rattle.group_types.specs.Code.{code_number}
@@ -16,11 +18,10 @@ use Rattle.group_types.specs.Request.{Heartbeat}
 use Rattle.group_types.specs.HeartbeatStep.{Reply}
 use Rattle.group_types.proofs.Orders.{partition_cmp_total, partition_cmp-IsAntisymmetric}
 use Rattle.group_types.proofs.SetLemmas.{has-in_order, has-of_list, same_set}
-use Rattle.group_types.proofs.Lookups.{not_none, same_text, some_is}
+use Rattle.group_types.proofs.Lookups.{not_none, some_is}
 use Rattle.group_epochs.specs.Request.{heartbeat_of}
-use Rattle.group_core.specs.Listing as node
 use Rattle.coord_node.specs.Replies.{IsFrame, assignment_value, heartbeat_reply_value}
-use Rattle.member_core.specs.Listing.{partitions_of, listed, listed_before}
+use Rattle.member_core.specs.Listing.{partitions_of, listed}
 use Rattle.member_core.specs.Asking.{heartbeat_value}
 use Rattle.member_core.specs.Taking.{Meaning, MeansSuccess, MeansFenced, MeansRetry, MeansEnd, News, Accepts, Fences, Retries, Ends, meaning_of, news_by, news_of, assigned}
 
@@ -40,34 +41,19 @@ commit_reply_in (commit_reply header v) other = v
 
 -- ---- partitions that are listed
 
-names_before : (p : Partition) (ts : List TopicPartitionsValue) → flat_map partitions_of (listed_before p ts) ≡ p ∷ flat_map partitions_of ts
+names_before : (p : Partition) (ts : List TopicPartitionsValue) → flat_map partitions_of (before p.topic p.index ts) ≡ p ∷ flat_map partitions_of ts
 names_before p [] = refl
-names_before p (t ∷ ts) = by (eq_by_cmp text_cmp p.topic t.topic_id) refl
+names_before p (t ∷ ts) = by (bytes_eq p.topic t.topic_id) refl
   where
-    by : (b : Bool) → eq_by_cmp text_cmp p.topic t.topic_id ≡ b
-        → flat_map partitions_of (if b then record t { partitions = p.index ∷ t.partitions } ∷ ts else record { topic_id = p.topic; partitions = p.index ∷ []; tags = [] } ∷ t ∷ ts) ≡ p ∷ flat_map partitions_of (t ∷ ts)
+    by : (b : Bool) → bytes_eq p.topic t.topic_id ≡ b
+        → flat_map partitions_of (if b then record t { partitions = p.index ∷ t.partitions } ∷ ts else alone p.topic p.index ∷ t ∷ ts) ≡ p ∷ flat_map partitions_of (t ∷ ts)
     by true so =
-        ap (λ (x : Text). (record { topic = x; index = p.index }) ∷ flat_map partitions_of (t ∷ ts)) (sym (same_text p.topic t.topic_id so))
+        ap (λ (x : Text). (record { topic = x; index = p.index }) ∷ flat_map partitions_of (t ∷ ts)) (sym ((bytes_eq-Decides p.topic t.topic_id).0 so))
     by false so = refl
 
 names_listed : (ps : List Partition) → flat_map partitions_of (listed ps) ≡ ps
 names_listed [] = refl
 names_listed (p ∷ ps) = names_before p (listed ps) ∙ ap (λ (rest : List Partition). p ∷ rest) (names_listed ps)
-
--- as the node lists them
-names_node_before : (p : Partition) (ts : List TopicPartitionsValue) → flat_map partitions_of (node.before p ts) ≡ p ∷ flat_map partitions_of ts
-names_node_before p [] = refl
-names_node_before p (t ∷ ts) = by (eq_by_cmp text_cmp p.topic t.topic_id) refl
-  where
-    by : (b : Bool) → eq_by_cmp text_cmp p.topic t.topic_id ≡ b
-        → flat_map partitions_of (if b then record t { partitions = p.index ∷ t.partitions } ∷ ts else node.alone p ∷ t ∷ ts) ≡ p ∷ flat_map partitions_of (t ∷ ts)
-    by true so =
-        ap (λ (x : Text). (record { topic = x; index = p.index }) ∷ flat_map partitions_of (t ∷ ts)) (sym (same_text p.topic t.topic_id so))
-    by false so = refl
-
-names_node_listed : (ps : List Partition) → flat_map partitions_of (node.listed ps) ≡ ps
-names_node_listed [] = refl
-names_node_listed (p ∷ ps) = names_node_before p (node.listed ps) ∙ ap (λ (rest : List Partition). p ∷ rest) (names_node_listed ps)
 
 -- ---- a heartbeat and its message
 
@@ -86,7 +72,7 @@ of_list-in_order set =
     same_set partition_cmp_total partition_cmp-IsAntisymmetric _ _ (λ p. has-of_list partition_cmp_total (in_order set) p ∙ sym (has-in_order set p))
 
 assigned_same : (set : Partitions) → assigned (assignment_value set) ≡ set
-assigned_same set = ap of_list (names_node_listed (in_order set)) ∙ of_list-in_order set
+assigned_same set = ap of_list (names_listed (in_order set)) ∙ of_list-in_order set
 
 pub assignment_same : (o : Option Partitions) → option_map assigned (option_map assignment_value o) ≡ o
 assignment_same None = refl

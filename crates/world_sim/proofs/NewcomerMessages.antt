@@ -34,9 +34,11 @@ use Rattle.coord_node.specs.Steps.{HeartbeatAt, RequestStep}
 use Rattle.member_core.specs.Client.{Client, state_of}
 use Rattle.member_core.specs.Listing.{listed}
 use Rattle.member_core.specs.Asking.{Ask, Join, after_asking, header_of, heartbeat_value, may_ask, request_for, request_value}
+use Rattle.member_core.specs.Refusing.{is_too_large}
 use Rattle.member_core.specs.Taking.{News, Accepts, TakesIf, Tells, after_news, assigned}
 use Rattle.world_sim.specs.World.{World, Request, Reply, numbered, with_client, with_coordinator, with_reply, with_request}
 use Rattle.world_sim.specs.Acts.{Asks, Deliver, Take, Is, IsReplied, IsSent, ActStep, AsksIf, AsksStep, DeliversIf, DeliverStep, SendsIf, TakeBy, TakeStep, fits_frame, is_forgotten, stamp_of}
+use Rattle.world_sim.proofs.RequestSizes.{small_if_within}
 use Rattle.world_sim.proofs.Newcomers.{GROUP, Newcomer, client_of, heartbeat_at, id_of, number_of, partition_of, parts_of, reply_at, set_of}
 
 -- A full heartbeat of a newcomer, under a number, and the reply to it. It names an id and an epoch, and reports its partition
@@ -250,12 +252,16 @@ module _ (x : Newcomer) (e : Exchange) (is : IsSpelled x e) where
       → ActStep w (Asks (number_of x) ask) (IsSent (suc (length w.requests))) (asking x e (after_asking c ask) w)
   asks w c ask there may says =
       subst (λ (o : Option Client). AsksStep o w (number_of x) ask (IsSent (suc (length w.requests))) (asking x e (after_asking c ask) w)) (sym there)
-      (subst (λ b. AsksIf b c w (number_of x) ask (IsSent (suc (length w.requests))) (asking x e (after_asking c ask) w)) (sym may) (
+      (subst (λ b. AsksIf b c w (number_of x) ask (IsSent (suc (length w.requests))) (asking x e (after_asking c ask) w)) (sym may)
+      (subst (λ b. SendsIf b c w (number_of x) ask (IsSent (suc (length w.requests))) (asking x e (after_asking c ask) w)) (sym small) (
         request_bytes x e,
         after_asking c ask,
         record { may = may; spells = subst (λ (v : RequestValue). SpellsRequest v (request_bytes x e)) (sym says) request_spelled; after = refl },
-        subst (λ b. SendsIf b w (number_of x) (after_asking c ask) (request_bytes x e) (IsSent (suc (length w.requests))) (asking x e (after_asking c ask) w)) (sym is.sized.request_fits) (refl, refl),
-      ))
+        (refl, refl),
+      )))
+    where
+      small : is_too_large (request_for c ask) ≡ false
+      small = small_if_within (request_for c ask) (request_bytes x e) (sym (ap request_body says)) (leb-true (length (request_bytes x e)) LARGEST_BODY is.sized.request_fits)
 
   module _ (w : World) (after : Client) (c : Coordinator)
       (beats : HeartbeatAt (finite.get w.coordinator.groups GROUP) w.coordinator

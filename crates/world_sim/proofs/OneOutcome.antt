@@ -11,8 +11,9 @@ use Rattle.member_core.specs.Client.{Client}
 use Rattle.member_core.specs.Asking.{Ask, may_ask, request_for}
 use Rattle.member_core.specs.Committing.{commit_for}
 use Rattle.member_core.specs.Laws.{OneOutcomeAReply}
+use Rattle.member_core.specs.Refusing.{is_too_large}
 use Rattle.world_sim.specs.World.{World, Request, Reply, Commit, numbered, with_coordinator, with_reply}
-use Rattle.world_sim.specs.Acts.{Asks, GivesUp, Deliver, Take, Release, Commits, Bring, Clock, Passes, Sees, Outcome, IsAnswered, IsDone, IsRemoved, IsReplied, Answers, AsksIf, AsksStep, BringStep, ChangesIf, Comes, CommitsBy, CommitsIf, CommitsStep, DeliversIf, DeliverStep, GivesUpStep, PassesStep, Pools, ReleaseStep, SeesStep, Run, SendsIf, TakeBy, TakenAs, TakeStep, commit_by, fits_frame, is_forgotten, may_commit, no_stamp}
+use Rattle.world_sim.specs.Acts.{Asks, GivesUp, Deliver, Take, Release, Commits, Bring, Clock, Passes, Sees, Outcome, IsAnswered, IsDone, IsRemoved, IsReplied, IsSent, Answers, AsksIf, AsksStep, BringStep, ChangesIf, Comes, CommitsBy, CommitsIf, CommitsStep, DeliversIf, DeliverStep, GivesUpStep, PassesStep, Pools, ReleaseStep, SeesStep, Run, SendsIf, TakeBy, TakenAs, TakeStep, commit_by, fits_frame, is_forgotten, may_commit, no_stamp, with_sent}
 use Rattle.world_sim.specs.Laws.{OneOutcomeAnAct, OneRunOfActs}
 use Rattle.world_sim.proofs.Messages.{commit_reply_in, heartbeat_in, heartbeat_reply_in, same_body}
 
@@ -25,6 +26,10 @@ abbrev number_of : Answer → ℕ
 number_of (Replied frame) = 0
 number_of Closes = 0
 number_of (Done n) = n
+
+-- what is sent
+abbrev SentAs : World → ℕ → Client → List ℕ → Outcome → World → Type 0
+SentAs w n after body outcome new = Comes (IsSent (suc (length w.requests))) (with_sent w n after body) outcome new
 
 -- what is pooled
 abbrev PooledAs : World → Request → Outcome → World → List ℕ → HeartbeatReplyValue → Type 0
@@ -44,10 +49,6 @@ module _ (w : World) (a b : Outcome) (new other : World) where
   release_one None n p one two = said _ w a b new other one two
   release_one (Some c) n p one two = changes_one _ _ n one two
 
-  sends_one : (t : Bool) (n : ℕ) (after : Client) (body : List ℕ) → SendsIf t w n after body a new → SendsIf t w n after body b other → (a ≡ b) × (new ≡ other)
-  sends_one true n after body one two = said _ _ a b new other one two
-  sends_one false n after body one two = said _ w a b new other one two
-
   commits_by_one : (t : Bool) (k : Commit) → CommitsBy t w k a new → CommitsBy t w k b other → (a ≡ b) × (new ≡ other)
   commits_by_one true k one two = said _ _ a b new other one two
   commits_by_one false k one two = said _ w a b new other one two
@@ -57,13 +58,17 @@ module _ (w : World) (a b : Outcome) (new other : World) where
   taken_one false n c one two = said _ w a b new other one two
 
   module _ (one_body : OneBodyARequest) where
-    asks_one : (t : Bool) (c : Client) (n : ℕ) (ask : Ask) → AsksIf t c w n ask a new → AsksIf t c w n ask b other → (a ≡ b) × (new ≡ other)
-    asks_one false c n ask one two = said _ w a b new other one two
-    asks_one true c n ask (body, after, asks, sends) (body', after', asks', sends') =
+    sends_one : (large : Bool) (c : Client) (n : ℕ) (ask : Ask) → SendsIf large c w n ask a new → SendsIf large c w n ask b other → (a ≡ b) × (new ≡ other)
+    sends_one true c n ask one two = said _ w a b new other one two
+    sends_one false c n ask (body, after, asks, sends) (body', after', asks', sends') =
         let same : body' ≡ body = one_body (request_for c ask) body' body asks'.spells asks.spells in
         let clients : after' ≡ after = asks'.after ∙ sym asks.after in
-        sends_one (fits_frame body) n after body sends
-        (subst (λ (x : Client). SendsIf (fits_frame body) w n x body b other) clients (subst (λ (x : List ℕ). SendsIf (fits_frame x) w n after' x b other) same sends'))
+        said _ _ a b new other sends
+        (subst (λ (x : Client). SentAs w n x body b other) clients (subst (λ (x : List ℕ). SentAs w n after' x b other) same sends'))
+
+    asks_one : (t : Bool) (c : Client) (n : ℕ) (ask : Ask) → AsksIf t c w n ask a new → AsksIf t c w n ask b other → (a ≡ b) × (new ≡ other)
+    asks_one false c n ask one two = said _ w a b new other one two
+    asks_one true c n ask one two = sends_one (is_too_large (request_for c ask)) c n ask one two
 
     asks_step_one : (o : Option Client) (n : ℕ) (ask : Ask) → AsksStep o w n ask a new → AsksStep o w n ask b other → (a ≡ b) × (new ≡ other)
     asks_step_one None n ask one two = said _ w a b new other one two

@@ -1,22 +1,20 @@
 -- That an act's step is made, from what the code's parts did.
 use Rattle.std.proofs.Common.{◌≡◌, ℕ, suc, Bool, true, false, not, ◌&&◌, nat_le, List, [], ◌∷◌, ◌++◌, length, map, Option, Some, None, IsTrue, refl, sym, ap, subst, ◌∙◌, if◌then◌else◌}
-use Rattle.std.proofs.lemmas.Bool.{le-leb}
 use Rattle.group_types.specs.declared.partition.Partition.{Partition}
 use Rattle.group_types.specs.declared.stamp.Stamp.{Stamp}
-use Rattle.group_types.specs.Limits.{LARGEST_BODY}
 use Rattle.kip_msgs.specs.Values.{CommitRequestTopicValue}
 use Rattle.member_core.specs.Client.{Client, state_of}
-use Rattle.member_core.specs.Asking as asking
-use Rattle.member_core.specs.Asking.{Ask, may_ask, after_giving_up}
+use Rattle.member_core.specs.Asking.{Ask, may_ask, request_for, after_giving_up}
 use Rattle.member_core.specs.Taking as taking
 use Rattle.member_core.specs.Releasing.{may_release, after_release}
 use Rattle.world_sim.specs.declared.fault.WorldFault.{WorldFault}
 use Rattle.world_sim.specs.declared.fault.WorldFault.TheVariants as faults
 use Rattle.world_sim.specs.World.{World, Request, Reply, Commit, numbered, with_client, with_request}
-use Rattle.world_sim.specs.Acts.{Act, Asks, GivesUp, Deliver, Take, Release, Commits, Bring, NoSuchClient, NoSuchMessage, WrongState, Outcome, IsRefused, IsSent, Is, IsIgnored, ActStep, AsksStep, AsksIf, SendsIf, GivesUpStep, ReleaseStep, ChangesIf, TakeStep, TakeBy, TakenAs, CommitsStep, CommitsIf, CommitsBy, DeliverStep, BringStep, stamp_of, may_commit, commit_by}
+use Rattle.world_sim.specs.Acts.{Act, Asks, GivesUp, Deliver, Take, Release, Commits, Bring, NoSuchClient, NoSuchMessage, WrongState, Outcome, IsRefused, IsSent, Is, IsIgnored, ActStep, AsksStep, AsksIf, SendsIf, GivesUpStep, ReleaseStep, ChangesIf, TakeStep, TakeBy, TakenAs, CommitsStep, CommitsIf, CommitsBy, DeliverStep, BringStep, stamp_of, with_sent, may_commit, commit_by}
 use Rattle.world_sim.specs.Standing.{CannotAsk}
 use Rattle.world_sim.specs.Clients.{AsksWithin}
 use Rattle.world_sim.specs.Acting.{IsRefusedFor}
+use Rattle.world_sim.proofs.RequestSizes.{small_if_within}
 
 -- ---- nobody, and nothing, there
 
@@ -51,13 +49,13 @@ module _ (w : World) (n : ℕ) (c : Client) (there : numbered w.clients n ≡ So
   asks ask body new within =
       subst (λ (o : Option Client). AsksStep o w n ask out after) (sym there)
       (subst (λ b. AsksIf b c w n ask out after) (sym within.asks.may)
-      (body, new, within.asks, subst (λ b. SendsIf b w n new body out after) (sym (le-leb (length body) LARGEST_BODY within.limit)) (refl, refl)))
+      (subst (λ b. SendsIf b c w n ask out after) (sym (small_if_within (request_for c ask) body within.asks.spells.bytes within.limit)) (body, new, within.asks, (refl, refl))))
     where
       out : Outcome
       out = IsSent (suc (length w.requests))
 
       after : World
-      after = with_request (with_client w n new) (record { sender = n; stamp = stamp_of n new; body = body })
+      after = with_sent w n new body
 
   pub asks_not : (ask : Ask) (fault : WorldFault) → CannotAsk c ask fault → IsRefusedFor fault w (Asks n ask)
   asks_not ask faults.NoSuchClient never = absurd never

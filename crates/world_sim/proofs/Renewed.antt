@@ -20,8 +20,9 @@ use Rattle.coord_node.specs.Steps.{is_success, has_room, all_ticked, Makes, Make
 use Rattle.coord_node.specs.Laws.{HasSoundGroups}
 use Rattle.range_assign.specs.Laws.{RangeIsLawful}
 use Rattle.uniform_assign.specs.Laws.{UniformIsLawful}
-use Rattle.member_core.specs.Asking.{Ask}
+use Rattle.member_core.specs.Asking.{Ask, request_for}
 use Rattle.member_core.specs.Client.{Client}
+use Rattle.member_core.specs.Refusing.{is_too_large}
 use Rattle.world_sim.specs.World as world
 use Rattle.world_sim.specs.World.{World, Request, Reply, numbered, with_coordinator}
 use Rattle.world_sim.specs.Acts.{Asks, GivesUp, Deliver, Take, Release, Commits, Bring, Clock, Passes, Sees, Outcome, Answers, AsksIf, AsksStep, BringStep, ChangesIf, CommitsBy, CommitsIf, CommitsStep, DeliversIf, DeliverStep, GivesUpStep, Pools, ReleaseStep, SendsIf, TakeBy, TakenAs, TakeStep, commit_by, fits_frame, no_stamp}
@@ -133,11 +134,11 @@ module _ (range : RangeIsLawful) (uniform : UniformIsLawful) (every : EveryGroup
 
     asks_if : (b : Bool) (x : Client) (n : ℕ) (ask : Ask) → AsksIf b x w n ask outcome new → RenewsLawfully w new
     asks_if false x n ask is = same_world is.1
-    asks_if true x n ask (body, after, asks, is) = by (fits_frame body) is
+    asks_if true x n ask is = by (is_too_large (request_for x ask)) is
       where
-        by : (b : Bool) → SendsIf b w n after body outcome new → RenewsLawfully w new
-        by true is = same (ap (λ (y : World). y.coordinator) is.1)
-        by false is = same_world is.1
+        by : (large : Bool) → SendsIf large x w n ask outcome new → RenewsLawfully w new
+        by true is = same_world is.1
+        by false (body, after, asks, is) = same (ap (λ (y : World). y.coordinator) is.1)
 
     asks_step : (o : Option Client) (n : ℕ) (ask : Ask) → AsksStep o w n ask outcome new → RenewsLawfully w new
     asks_step None n ask is = same_world is.1

@@ -6,7 +6,8 @@ use Rattle.kip_msgs.specs.Spelling.{SpellsReply}
 use Rattle.group_types.specs.declared.partition.Partition.{Partition}
 use Rattle.coord_node.specs.Coordinator.{Coordinator, Answer, Replied, Closes, Done}
 use Rattle.member_core.specs.Client.{Client}
-use Rattle.member_core.specs.Asking.{Ask}
+use Rattle.member_core.specs.Asking.{Ask, request_for}
+use Rattle.member_core.specs.Refusing.{is_too_large}
 use Rattle.world_sim.specs.World as world
 use Rattle.world_sim.specs.World.{World, Request, Reply, new_world, numbered, with_coordinator}
 use Rattle.world_sim.specs.Acts.{Act, Asks, GivesUp, Deliver, Take, Release, Commits, Bring, Clock, Passes, Sees, Outcome, ActStep, Answers, AsksIf, AsksStep, BringStep, ChangesIf, CommitsBy, CommitsIf, CommitsStep, DeliversIf, DeliverStep, GivesUpStep, Pools, ReleaseStep, Run, SendsIf, TakeBy, TakenAs, TakeStep, commit_by, fits_frame}
@@ -25,11 +26,11 @@ module _ (w : World) (spelled : RepliesAreSpelled w) (outcome : Outcome) (new : 
 
   asks_if : (b : Bool) (c : Client) (n : ℕ) (ask : Ask) → AsksIf b c w n ask outcome new → RepliesAreSpelled new
   asks_if false c n ask is = same_world is.1
-  asks_if true c n ask (body, after, asks, is) = by (fits_frame body) is
+  asks_if true c n ask is = by (is_too_large (request_for c ask)) is
     where
-      by : (b : Bool) → SendsIf b w n after body outcome new → RepliesAreSpelled new
-      by true is = same (ap (λ (x : World). x.replies) is.1)
-      by false is = same_world is.1
+      by : (large : Bool) → SendsIf large c w n ask outcome new → RepliesAreSpelled new
+      by true is = same_world is.1
+      by false (body, after, asks, is) = same (ap (λ (x : World). x.replies) is.1)
 
   asks_step : (o : Option Client) (n : ℕ) (ask : Ask) → AsksStep o w n ask outcome new → RepliesAreSpelled new
   asks_step None n ask is = same_world is.1

@@ -17,9 +17,10 @@ use Rattle.coord_node.specs.Steps.{IsRequest, RequestStep, Sends, Step, message_
 use Rattle.coord_node.proofs.AnsweredEvents.{requests}
 use Rattle.member_core.specs.Limits.{GREATEST_NUMBER}
 use Rattle.member_core.specs.Client.{Client}
-use Rattle.member_core.specs.Asking.{Ask, after_giving_up, may_ask}
+use Rattle.member_core.specs.Asking.{Ask, after_giving_up, may_ask, request_for}
 use Rattle.member_core.specs.Committing.{commit_for, may_commit_at}
 use Rattle.member_core.specs.Existence.{AsksAreMade, CanSay}
+use Rattle.member_core.specs.Refusing.{is_too_large}
 use Rattle.member_core.specs.Releasing.{after_release, may_release}
 use Rattle.member_core.specs.Taking.{TakesIf}
 use Rattle.member_core.proofs.Answered.{id_fits, no_tags, takes_spelled}
@@ -48,16 +49,17 @@ releases : (o : Option Client) (w : World) (n : ℕ) (p : _) → HasOutcome (Rel
 releases None w n p = record { outcome = _; new = _; step = (refl, refl) }
 releases (Some c) w n p = let is = changes_if (may_release c) (after_release c p) w n in record { outcome = is.outcome; new = is.new; step = is.step }
 
-sends_if : (fits : Bool) (w : World) (n : ℕ) (after : Client) (body : List ℕ) → HasOutcome (SendsIf fits w n after body)
-sends_if true w n after body = record { outcome = _; new = _; step = (refl, refl) }
-sends_if false w n after body = record { outcome = _; new = _; step = (refl, refl) }
+sends_if : AsksAreMade → (large : Bool) (c : Client) (w : World) (n : ℕ) (ask : Ask) → CanSay c → may_ask c ask ≡ true → is_too_large (request_for c ask) ≡ large → HasOutcome (SendsIf large c w n ask)
+sends_if made true c w n ask can may large = record { outcome = _; new = _; step = (refl, refl) }
+sends_if made false c w n ask can may small =
+    let (body, after, asked) = made c ask can may small in
+    record { outcome = _; new = _; step = (body, after, asked, (refl, refl)) }
 
 asks_if : AsksAreMade → (may : Bool) (c : Client) (w : World) (n : ℕ) (ask : Ask) → CanSay c → may_ask c ask ≡ may → HasOutcome (AsksIf may c w n ask)
 asks_if made false c w n ask can is = record { outcome = _; new = _; step = (refl, refl) }
 asks_if made true c w n ask can is =
-    let (body, after, asked) = made c ask can is in
-    let sent = sends_if (fits_frame body) w n after body in
-    record { outcome = sent.outcome; new = sent.new; step = (body, after, asked, sent.step) }
+    let sent = sends_if made (is_too_large (request_for c ask)) c w n ask can is refl in
+    record { outcome = sent.outcome; new = sent.new; step = sent.step }
 
 asks : AsksAreMade → (o : Option Client) (w : World) (n : ℕ) (ask : Ask) → ((c : Client) → o ≡ Some c → CanSay c) → HasOutcome (AsksStep o w n ask)
 asks made None w n ask can = record { outcome = _; new = _; step = (refl, refl) }
@@ -176,7 +178,7 @@ module _ (every : EveryGroupIsSound) (steps_are_sound : StepsAreSound Step) (hea
   act w (Bring k) live can = let is = brings (numbered w.commits k) w live (λ it is. live.commits it (numbered_in w.commits k it is)) in record { outcome = is.outcome; new = is.new; step = is.step }
   act w (Clock moment) live can = record { outcome = _; new = _; step = (refl, refl) }
   act w (Passes moment) live can = record { outcome = _; new = _; step = (_, _, (refl, refl), (refl, refl)) }
-  act w (Sees image) live can = record { outcome = _; new = _; step = (_, (refl, refl), (refl, refl)) }
+  act w (Sees image) live can = record { outcome = _; new = _; step = (_, (refl, refl, can), (refl, refl)) }
 
   pub acts_have_an_outcome : ActsHaveAnOutcome
   acts_have_an_outcome w a live can = let is = act w a live can in (is.outcome, is.new, is.step)

@@ -4,13 +4,14 @@ use Rattle.group_types.proofs.Lookups.{some_is}
 use Rattle.kip_msgs.specs.Values.{HeartbeatReplyValue}
 use Rattle.coord_node.specs.Coordinator.{Coordinator, Answer, Replied, Closes, Done}
 use Rattle.member_core.specs.Client.{Client, State, state_of}
-use Rattle.member_core.specs.Asking.{Beat, Full, after_giving_up, after_sending}
+use Rattle.member_core.specs.Asking.{Beat, Full, after_giving_up, after_sending, request_for}
+use Rattle.member_core.specs.Refusing.{is_too_large}
 use Rattle.world_sim.specs.declared.fault.WorldFault.{WorldFault}
 use Rattle.world_sim.specs.declared.fault.WorldFault.TheVariants as faults
 use Rattle.world_sim.specs.declared.shown.Shown.{Shown}
 use Rattle.world_sim.specs.declared.shown.Shown.TheVariants as shows
 use Rattle.world_sim.specs.World.{World, Request, Reply, numbered, renumbered, with_client, with_coordinator, with_request}
-use Rattle.world_sim.specs.Acts.{Act, Asks, Deliver, GivesUp, Take, Release, Fault, NoSuchClient, NoSuchMessage, WrongState, TooLarge, Forgotten, Outcome, IsRefused, IsSent, IsReplied, Is, ActStep, AsksIf, AsksStep, DeliversIf, DeliverStep, Pools, Run, TakeBy, TakeStep, SendsIf, fits_frame, stamp_of}
+use Rattle.world_sim.specs.Acts.{Act, Asks, Deliver, GivesUp, Take, Release, Fault, NoSuchClient, NoSuchMessage, WrongState, TooLarge, Forgotten, Outcome, IsRefused, IsSent, IsReplied, Is, ActStep, AsksIf, AsksStep, DeliversIf, DeliverStep, Pools, Run, TakeBy, TakeStep, SendsIf, stamp_of}
 use Rattle.world_sim.specs.Acting.{Acted, IsShown, IsTooLarge}
 use Rattle.world_sim.specs.Places.{ChangedAt}
 use Rattle.world_sim.specs.declared.state.ClientState.{ClientState}
@@ -78,18 +79,18 @@ pub data Sending (w : World) (n : ℕ) (c : Client) (outcome : Outcome) (new : W
   too_large : outcome ≡ IsRefused TooLarge → Sending w n c outcome new
 
 module _ (w : World) (n : ℕ) (goes : TurnGoes w n) where
-  sends_if : (b : Bool) (outcome : Outcome) (new : World) (body : List ℕ) (after : Client) → after ≡ after_sending goes.client → SendsIf b w n after body outcome new → Sending w n goes.client outcome new
-  sends_if true outcome new body after is comes =
+  sends_if : (large : Bool) (outcome : Outcome) (new : World) → SendsIf large goes.client w n (Beat Full) outcome new → Sending w n goes.client outcome new
+  sends_if false outcome new (body, after, asks, comes) =
       let q : Request = record { sender = n; stamp = stamp_of n after; body = body } in
-      let world : new ≡ with_request (with_client w n (after_sending goes.client)) q = comes.1 ∙ ap (λ (x : Client). with_request (with_client w n x) q) is in
+      let world : new ≡ with_request (with_client w n (after_sending goes.client)) q = comes.1 ∙ ap (λ (x : Client). with_request (with_client w n x) q) asks.after in
       it_sends q (comes.0 ∙ ap IsSent (one_longer w.requests new.requests q (ap (λ (x : World). x.requests) world))) world
-  sends_if false outcome new body after is comes = too_large comes.0
+  sends_if true outcome new comes = too_large comes.0
 
   pub asked : (outcome : Outcome) (new : World) → ActStep w (Asks n (Beat Full)) outcome new → Sending w n goes.client outcome new
   asked outcome new step =
       let by_client : AsksStep (Some goes.client) w n (Beat Full) outcome new = subst (λ (o : Option Client). AsksStep o w n (Beat Full) outcome new) goes.is_client step in
       let sends : AsksIf true goes.client w n (Beat Full) outcome new = subst (λ b. AsksIf b goes.client w n (Beat Full) outcome new) goes.may by_client in
-      sends_if (fits_frame sends.0) outcome new sends.0 sends.1 sends.2.after sends.3
+      sends_if (is_too_large (request_for goes.client (Beat Full))) outcome new sends
 
   -- it isn't refused but for the size
   only_too_large : (fault : Fault) → ActStep w (Asks n (Beat Full)) (IsRefused fault) w → fault ≡ TooLarge

@@ -41,7 +41,7 @@ use Rattle.world_sim.proofs.MovingRounds.{Begin, End, rounds}
 use Rattle.world_sim.proofs.NewcomerTurns.{has_set, inside_is, insider, world_of}
 use Rattle.world_sim.proofs.NewcomerMessages.{answering, asked_by, asking, asks, delivers, id_fits, inside_of, join_in, no_tags, none, pooled_in, takes, taking, tells, value_in}
 use Rattle.world_sim.proofs.Reaching.{reached_by}
-use Rattle.world_sim.proofs.TwoNewcomers.{AfterOne, AfterTwo, One, OneTopic, Two, TwoTopics, ids_differ, one_joins, one_kept, one_spelled, two_joins, two_joins_later, two_kept, two_spelled}
+use Rattle.world_sim.proofs.TwoNewcomers.{AfterOne, AfterTwo, One, OneTopic, Two, TwoTopics, ids_differ, one_is_images, one_joins, one_kept, one_spelled, two_are_images, two_joins, two_joins_later, two_kept, two_spelled}
 
 -- ---- the worlds
 
@@ -138,7 +138,7 @@ first : IsReached First
 first = record { salt = 0; clients = settings_of One ∷ settings_of Two ∷ []; acts = []; outcomes = []; run = refl }
 
 seen : IsReached Seen
-seen = reached_by First Seen (Sees TwoTopics) IsDone first (Seeing, (refl, refl), (refl, refl))
+seen = reached_by First Seen (Sees TwoTopics) IsDone first (Seeing, (refl, refl, two_are_images), (refl, refl))
 
 one_asks : IsReached OneAsks
 one_asks = reached_by Seen OneAsks (Asks 1 Join) (IsSent 1) seen (asks One (join_in One) one_spelled Seen (client_of One) Join refl refl refl)
@@ -387,7 +387,7 @@ some_world_can_settle =
 -- ---- where the first one's topic is gone before the second one joins
 
 gone : IsReached (Later OneTopic)
-gone = reached_by OneInside (Later OneTopic) (Sees OneTopic) IsDone one_inside (record OneIn { image = OneTopic }, (refl, refl), (refl, refl))
+gone = reached_by OneInside (Later OneTopic) (Sees OneTopic) IsDone one_inside (record OneIn { image = OneTopic }, (refl, refl, one_is_images), (refl, refl))
 
 apart : IsReached (BothInside OneTopic finite.empty finite.empty)
 apart = both_inside OneTopic finite.empty finite.empty gone two_joins_later

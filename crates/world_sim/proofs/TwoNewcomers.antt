@@ -1,5 +1,5 @@
 -- Two newcomers, and the group that they join one after the other.
-use Rattle.std.proofs.Common.{◌≡◌, ◌≢◌, ℕ, zero, suc, Bool, true, false, cond, ◌&&◌, ◌||◌, List, [], ◌∷◌, ◌++◌, length, map, nat_le, Some, None, refl, sym, ap, ◌∙◌, true≢false, arith}
+use Rattle.std.proofs.Common.{◌≡◌, ◌≢◌, ◌⊎◌, ◌≤◌, ℕ, zero, suc, Bool, true, false, cond, ◌&&◌, ◌||◌, List, [], ◌∷◌, ◌++◌, length, map, nat_le, slice_index, sum_by, Some, None, inl, inr, refl, sym, ap, subst, ◌∙◌, true≢false, arith}
 use Rattle.std.specs.List.{list_any}
 use Rattle.std.specs.List.Sorted.{IsSorted}
 use Rattle.std.specs.Ordering.{eq_by_cmp, is_lt}
@@ -9,14 +9,15 @@ use Rattle.std.specs.FinMap as finite
 use Rattle.std.specs.FinMap.{put}
 use Rattle.std.specs.FinMap.Entries.{by_order}
 use Rattle.uuid.specs.Text.{by_index}
-use Rattle.flex_wire.specs.Spelling.{FitsText, signed, varint, varint_groups, compact_string, compact_nullable_string, nullable_string, tagged_fields, array_count, nullable_array_count}
+use Rattle.flex_wire.specs.Spelling.{FitsText, FitsUuid, signed, varint, varint_groups, compact_string, compact_nullable_string, nullable_string, tagged_fields, array_count, nullable_array_count}
 use Rattle.kip_msgs.specs.Spelling.{request_body, reply_body, request_header_fields, response_header_fields, heartbeat_request_fields, heartbeat_reply_fields, assignment_fields, topic_partitions_fields, nullable_struct}
 use Rattle.group_types.specs.declared.partition.Partition.{Partition}
-use Rattle.group_types.specs.Limits.{MOST_MEMBERS}
+use Rattle.group_types.specs.Limits.{MOST_MEMBERS, MOST_TOPIC_PARTITIONS}
 use Rattle.group_types.specs.Text.{Text, text_cmp}
 use Rattle.group_types.specs.Sets.{has, nothing}
 use Rattle.group_types.specs.Partition.{partition_cmp}
 use Rattle.group_types.specs.Topics.{Topic, Topics}
+use Rattle.group_types.specs.Images.{AreImageTopics, partition_count}
 use Rattle.group_types.specs.Assignors.{Subscriber, member_cmp, subscribers_of}
 use Rattle.group_types.specs.Owners.{IsRange, Spread}
 use Rattle.group_types.specs.Group.{Group, Record, Records, Target, grant_cmp, new_group}
@@ -91,13 +92,85 @@ pub apart_ids : (eq_by_cmp text_cmp (id_of One) (id_of Two) ≡ false) × (eq_by
 unfolding by_index
 apart_ids = (refl, refl)
 
--- ---- the first joins
+-- ---- their topics
 
 abbrev pub OneTopic : Topics
 OneTopic = finite.insert finite.empty Two.name (topic_of Two)
 
 abbrev pub TwoTopics : Topics
 TwoTopics = finite.insert OneTopic One.name (topic_of One)
+
+-- ---- each is of an image
+
+-- it is the newcomer's topic, under its name
+abbrev IsTopicOf : Newcomer → Text → Topic → Type 0
+IsTopicOf x name t = (name ≡ x.name) × (t ≡ topic_of x)
+
+whose_one : (name : Text) (t : Topic) → finite.get OneTopic name ≡ Some t → IsTopicOf Two name t
+whose_one name t is = by (found finite.empty Two.name (topic_of Two) name t is)
+  where
+    by : Found finite.empty Two.name (topic_of Two) name t → IsTopicOf Two name t
+    by (this same topic) = (same, topic)
+    by (another _ _ never) = absurd (not_none t (sym (finite.get-empty text_cmp name) ∙ never))
+
+whose_two : (name : Text) (t : Topic) → finite.get TwoTopics name ≡ Some t → IsTopicOf One name t ⊎ IsTopicOf Two name t
+whose_two name t is = by (found OneTopic One.name (topic_of One) name t is)
+  where
+    by : Found OneTopic One.name (topic_of One) name t → IsTopicOf One name t ⊎ IsTopicOf Two name t
+    by (this same topic) = inl (same, topic)
+    by (another _ _ before) = inr (whose_one name t before)
+
+entries_one : finite.entries OneTopic ≡ (Two.name, topic_of Two) ∷ []
+entries_one = entries-single text_cmp_total Two.name (topic_of Two)
+
+entries_two : finite.entries TwoTopics ≡ (One.name, topic_of One) ∷ (Two.name, topic_of Two) ∷ []
+entries_two = finite.entries-insert text_cmp_total OneTopic One.name (topic_of One) ∙ ap (put text_cmp One.name (topic_of One)) entries_one
+
+topics_differ : One.topic ≢ Two.topic
+topics_differ same = let never : 7 ≡ 8 = ap (λ id. slice_index id 0) same in absurd (omega (arith, never))
+
+fits_topic : (x : Newcomer) (t : Topic) → FitsUuid x.topic → t ≡ topic_of x → FitsUuid t.id
+fits_topic x t fits is = subst (λ (s : Topic). FitsUuid s.id) (sym is) fits
+
+counts_topic : (x : Newcomer) (t : Topic) → t ≡ topic_of x → (1 ≤ t.count) × (t.count ≤ MOST_TOPIC_PARTITIONS)
+counts_topic x t is = let one : t.count ≡ 1 = ap (λ (s : Topic). s.count) is in (omega (arith, one), omega (arith, one))
+
+pub one_is_images : AreImageTopics OneTopic
+one_is_images =
+    record {
+      ids_apart = λ p q s t is_s is_t same. (whose_one p s is_s).0 ∙ sym (whose_one q t is_t).0;
+      ids = λ name t is. fits_topic Two t refl (whose_one name t is).1;
+      counts = λ name t is. counts_topic Two t (whose_one name t is).1;
+      few = let all : finite.len OneTopic ≡ 1 = finite.len-entries OneTopic ∙ ap length entries_one in omega (arith, all);
+      few_partitions = let all : partition_count OneTopic ≡ 1 = ap (sum_by (λ e. e.1.count)) entries_one in omega (arith, all);
+    }
+
+pub two_are_images : AreImageTopics TwoTopics
+two_are_images =
+    record {
+      ids_apart = λ p q s t is_s is_t same. apart p q s t (whose_two p s is_s) (whose_two q t is_t) same;
+      ids = λ name t is. elim (whose_two name t is) [
+        | inl it ↦ fits_topic One t refl it.1
+        | inr it ↦ fits_topic Two t refl it.1
+      ];
+      counts = λ name t is. elim (whose_two name t is) [
+        | inl it ↦ counts_topic One t it.1
+        | inr it ↦ counts_topic Two t it.1
+      ];
+      few = let all : finite.len TwoTopics ≡ 2 = finite.len-entries TwoTopics ∙ ap length entries_two in omega (arith, all);
+      few_partitions = let all : partition_count TwoTopics ≡ 2 = ap (sum_by (λ e. e.1.count)) entries_two in omega (arith, all);
+    }
+  where
+    id_is : (x : Newcomer) (name : Text) (t : Topic) → IsTopicOf x name t → t.id ≡ x.topic
+    id_is x name t is = ap (λ (s : Topic). s.id) is.1
+
+    apart : (p q : Text) (s t : Topic) → IsTopicOf One p s ⊎ IsTopicOf Two p s → IsTopicOf One q t ⊎ IsTopicOf Two q t → s.id ≡ t.id → p ≡ q
+    apart p q s t (inl one) (inl other) same = one.0 ∙ sym other.0
+    apart p q s t (inl one) (inr two) same = absurd (topics_differ (sym (id_is One p s one) ∙ same ∙ id_is Two q t two))
+    apart p q s t (inr two) (inl one) same = absurd (topics_differ (sym (id_is One q t one) ∙ sym same ∙ id_is Two p s two))
+    apart p q s t (inr two) (inr other) same = two.0 ∙ sym other.0
+
+-- ---- the first one's join
 
 nobody : finite.entries (finite.empty {X = Record} {R = text_cmp}) ≡ []
 nobody = entries-empty text_cmp Record

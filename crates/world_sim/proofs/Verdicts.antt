@@ -12,14 +12,14 @@ use Rattle.group_types.specs.Sets.{has}
 use Rattle.group_types.specs.Topics.{Topics}
 use Rattle.group_types.specs.Request.{Heartbeat, LEAVES_AT, GOES_AWAY_AT}
 use Rattle.group_types.specs.Group.{Record, Past, Group}
-use Rattle.group_types.specs.Join.{joined, record_of_beat, record_of_join, returned_at, updated}
+use Rattle.group_types.specs.Join.{record_of_beat, record_of_join, returned_epoch}
 use Rattle.group_types.specs.Members.{remembering, without_past}
 use Rattle.group_types.proofs.Orders.{text_cmp_total}
 use Rattle.group_types.specs.Checks.{Verdict, Accepted, Refused, Overtaken, Member, first_of, is_current, is_fenced}
 use Rattle.group_types.specs.HeartbeatStep.{Answer, Replied, Reply, farewell, draft_of_beat, draft_of_join, with_record_at, TakesIn}
 use Rattle.group_types.specs.Leave.{last_epoch, last_epoch_at}
 use Rattle.group_types.specs.Sound.{IsSound}
-use Rattle.world_sim.specs.Turn.{IsGiven, HasActed, Came, Kept, Acted, IsLater, Went, WasPast, Left, Turn}
+use Rattle.world_sim.specs.Turn.{HasActed, Came, Kept, Acted, IsLater, Went, WasPast, Left, Turn}
 use Rattle.world_sim.proofs.Lists.{to_in, from_in, in_filter, in_append, in_drop, In}
 use Rattle.group_types.specs.Leave.{left, gone_away, away}
 use Rattle.group_types.proofs.Lookups.{found, Found, this, another, text_ties, tie, Tie, ties, differs}
@@ -104,13 +104,9 @@ drafted_at g below serial rising now m after =
 
 -- ---- a member that was away
 
-pub at_again : (r : Record) (e : Epoch) → r.epoch ≡ e → (returned_at e r).epoch ≡ At (last_epoch_at e r)
-at_again r (At k) at = at
-at_again r Away at = refl
-
-given_again : (r : Record) (q : Heartbeat) (stamp : Stamp) (now : ℕ) (e : Epoch) → IsGiven q r.names r.assignor (joined (updated (returned_at e r) q stamp now) q.instance)
-given_again r q stamp now (At e) = record { names = refl; assignor = refl }
-given_again r q stamp now Away = record { names = refl; assignor = refl }
+pub at_again : (r : Record) (e : Epoch) → returned_epoch e r.previous_epoch ≡ At (last_epoch_at e r)
+at_again r (At k) = refl
+at_again r Away = refl
 
 -- a farewell at a negative epoch says no epoch of 0 or more
 negative : (m : Text) (epoch : ℤ) (reply : Reply) → int_le (pos 0) epoch ≡ false → farewell m epoch ≡ reply → int_le (pos 0) reply.epoch ≡ true → ⊥
@@ -152,9 +148,9 @@ module _ (g : Group) (sound : IsSound g) (q : Heartbeat) (stamp : Stamp) (given 
         later = later;
         stamped = refl;
         last = refl;
-        at = at_again r r.epoch refl;
+        at = at_again r r.epoch;
         instance = inr (joins, refl);
-        settings = given_again r q stamp now r.epoch;
+        settings = record { names = refl; assignor = refl };
       })
       (with_record_at (record g { serial = serial }) now q.member after) image answer new
       (drafted_at g sound.target_epoch serial rising now q.member after)

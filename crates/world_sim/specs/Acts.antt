@@ -17,7 +17,8 @@ use Rattle.coord_node.specs.Steps.{Step}
 use Rattle.member_core.specs.Limits.{GREATEST_NUMBER}
 use Rattle.member_core.specs.Client.{Client, State, state_of}
 use Rattle.member_core.specs.Asking as asking
-use Rattle.member_core.specs.Asking.{Ask, may_ask, after_giving_up}
+use Rattle.member_core.specs.Asking.{Ask, may_ask, request_for, after_giving_up}
+use Rattle.member_core.specs.Refusing.{is_too_large}
 use Rattle.member_core.specs.Taking as taking
 use Rattle.member_core.specs.Releasing.{may_release, after_release}
 use Rattle.member_core.specs.Committing.{may_commit_at, commit_for}
@@ -69,19 +70,20 @@ Comes shown after outcome new = (outcome ≡ shown) × (new ≡ after)
 abbrev pub stamp_of : ℕ → Client → Stamp
 stamp_of n c = record { connection = n; frame = c.number }
 
-abbrev pub fits_frame : List ℕ → Bool
-fits_frame body = nat_le (length body) LARGEST_BODY
+-- the client that asked, and its request in the pool
+abbrev pub with_sent : World → ℕ → Client → List ℕ → World
+with_sent w n after body = with_request (with_client w n after) (record { sender = n; stamp = stamp_of n after; body = body })
 
--- the request goes into its pool, where it isn't too large
-abbrev pub SendsIf : Bool → World → ℕ → Client → List ℕ → Outcome → World → Type 0
-SendsIf true w n after body outcome new =
-    Comes (IsSent (suc (length w.requests))) (with_request (with_client w n after) (record { sender = n; stamp = stamp_of n after; body = body })) outcome new
-SendsIf false w n after body outcome new = Refuses TooLarge w outcome new
+-- A request that is too large, by the number of its bytes, is refused. Any other is made, and goes into its pool.
+abbrev pub SendsIf : Bool → Client → World → ℕ → Ask → Outcome → World → Type 0
+SendsIf true c w n ask outcome new = Refuses TooLarge w outcome new
+SendsIf false c w n ask outcome new =
+    (body : List ℕ) × (after : Client) × asking.Asks c ask body after
+    × Comes (IsSent (suc (length w.requests))) (with_sent w n after body) outcome new
 
 abbrev pub AsksIf : Bool → Client → World → ℕ → Ask → Outcome → World → Type 0
 AsksIf false c w n ask outcome new = Refuses WrongState w outcome new
-AsksIf true c w n ask outcome new =
-    (body : List ℕ) × (after : Client) × asking.Asks c ask body after × SendsIf (fits_frame body) w n after body outcome new
+AsksIf true c w n ask outcome new = SendsIf (is_too_large (request_for c ask)) c w n ask outcome new
 
 abbrev pub AsksStep : Option Client → World → ℕ → Ask → Outcome → World → Type 0
 AsksStep None w n ask outcome new = Refuses NoSuchClient w outcome new
@@ -159,6 +161,9 @@ may_commit c number = may_commit_at c.place && nat_le number GREATEST_NUMBER
 abbrev pub commit_by : Client → List ℕ → Commit
 commit_by c body =
     record { body = body; group = c.settings.group; id = unwrap_or c.id []; epoch = c.epoch; own = c.own; since = c.own }
+
+abbrev pub fits_frame : List ℕ → Bool
+fits_frame body = nat_le (length body) LARGEST_BODY
 
 abbrev pub CommitsBy : Bool → World → Commit → Outcome → World → Type 0
 CommitsBy true w k outcome new =

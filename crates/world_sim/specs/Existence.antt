@@ -1,13 +1,12 @@
 -- That every act has an outcome.
-use Rattle.std.specs.Prelude.{◌≡◌, ℕ, List, All, Some, length}
+use Rattle.std.specs.Prelude.{◌≡◌, ℕ, List, All, Some}
 use Rattle.std.specs.List.{Contains}
 use Rattle.kip_msgs.specs.Values.{CommitRequestTopicValue, CommitRequestValue, HeartbeatReplyValue, HeartbeatRequestValue, RequestHeaderValue, ResponseHeaderValue, commit_request, heartbeat_reply, heartbeat_request}
 use Rattle.kip_msgs.specs.Spelling.{FitsCommitRequestTopic, SpellsReply}
 use Rattle.flex_wire.specs.Composed.{FitsArray}
-use Rattle.flex_wire.specs.Spelling.{FitsCount}
-use Rattle.coord_node.specs.Existence.{AreNodeTopics, IsServing}
+use Rattle.coord_node.specs.Laws.{IsServing}
 use Rattle.coord_node.specs.Steps.{IsRequest}
-use Rattle.group_types.specs.Sets.{size}
+use Rattle.group_types.specs.Images.{AreImageTopics}
 use Rattle.member_core.specs.Client.{Client}
 use Rattle.member_core.specs.Existence.{CanSay}
 use Rattle.member_core.specs.Settings.{FitsSettings, Settings}
@@ -46,7 +45,7 @@ pub record IsLive (w : World) : Type 0 where
 
 -- clients that haven't asked for anything yet, and whose settings a request can say, make a live world
 abbrev pub NewWorldsAreLive : Type 0
-NewWorldsAreLive = (salt : ℕ) (clients : List Settings) → All (λ s. FitsSettings s × FitsCount (length s.names)) clients → IsLive (new_world salt clients)
+NewWorldsAreLive = (salt : ℕ) (clients : List Settings) → All FitsSettings clients → IsLive (new_world salt clients)
 
 -- what can be committed has an encoding, and images are images
 abbrev pub IsPossible : Act → Type 0
@@ -59,26 +58,20 @@ IsPossible (Commits n topics) = FitsArray FitsCommitRequestTopic topics
 IsPossible (Bring k) = Unit {0}
 IsPossible (Clock moment) = Unit {0}
 IsPossible (Passes moment) = Unit {0}
-IsPossible (Sees image) = AreNodeTopics image
+IsPossible (Sees image) = AreImageTopics image
 
 -- an act has an outcome in a live world
 abbrev pub ActsHaveAnOutcome : Type 0
 ActsHaveAnOutcome = (w : World) (act : Act) → IsLive w → IsPossible act → (outcome : Outcome) × (new : World) × ActStep w act outcome new
 
--- each client owns no more partitions than the count of an array can say
-abbrev pub OwnFew : World → Type 0
-OwnFew w = (n : ℕ) (c : Client) → numbered w.clients n ≡ Some c → FitsCount (size c.own)
-
--- an act leaves a live world live, as long as its clients own few partitions
+-- an act leaves a live world live
 abbrev pub ActsLeaveLiveWorlds : Type 0
 ActsLeaveLiveWorlds =
-    (w : World) (act : Act) (outcome : Outcome) (new : World) → ActStep w act outcome new → IsLive w → IsPossible act → OwnFew new → IsLive new
+    (w : World) (act : Act) (outcome : Outcome) (new : World) → ActStep w act outcome new → IsLive w → IsLive new
 
--- Whatever acts are done from clients that haven't asked for anything yet, each has its outcome, as long as no such acts make
--- a client own more partitions than the count of an array can say.
+-- whatever acts are done from clients that haven't asked for anything yet, each has its outcome
 abbrev pub RunsOfActsExist : Type 0
 RunsOfActsExist =
     (salt : ℕ) (clients : List Settings) (acts : List Act)
-    → All (λ s. FitsSettings s × FitsCount (length s.names)) clients → All IsPossible acts
-    → ((before : List Act) (outcomes : List Outcome) (w : World) → All IsPossible before → Run (new_world salt clients) before outcomes w → OwnFew w)
+    → All FitsSettings clients → All IsPossible acts
     → (outcomes : List Outcome) × (new : World) × Run (new_world salt clients) acts outcomes new

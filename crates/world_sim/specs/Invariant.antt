@@ -9,6 +9,7 @@ use Rattle.group_types.specs.declared.epoch.Epoch.TheVariants.{Away}
 use Rattle.group_types.specs.declared.partition.Partition.{Partition}
 use Rattle.group_types.specs.declared.stamp.Stamp.{Stamp}
 use Rattle.group_types.specs.Text.{Text}
+use Rattle.group_types.specs.Images.{AreImageTopics}
 use Rattle.group_types.specs.Sets.{nothing, has, of_list}
 use Rattle.group_types.specs.Partition.{Partitions}
 use Rattle.group_types.specs.MemberId.{made_id}
@@ -182,6 +183,7 @@ pub record Committed (coordinator : Coordinator) (all : List Client) (k : Commit
   pub keeps : CommitKeeps (group_at coordinator k.group) (clients_of all k.group) k
 
 pub record Keeps (w : World) : Type 0 where
+  pub image : AreImageTopics w.coordinator.image
   pub groups : (name : Text) → GroupKeeps (group_at w.coordinator name) (clients_of w.clients name)
   pub clients : (n : ℕ) (c : Client) → numbered w.clients n ≡ Some c → ClientKeeps (group_at w.coordinator c.settings.group) (clients_of w.clients c.settings.group) n c
   pub requests : (q : Request) → Contains w.requests q → Says w.coordinator w.clients q

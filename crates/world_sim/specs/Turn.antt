@@ -78,7 +78,7 @@ pub record GivesFirst (q : Heartbeat) (r : Record) : Type 0 where
 -- ---- how a record came to be as it is
 
 -- the heartbeat wasn't its member's
-pub record IsKept (g new : Group) (m : Text) (r : Record) : Type 0 where
+pub record KeepsRecord (g new : Group) (m : Text) (r : Record) : Type 0 where
   pub before : finite.get g.records m ≡ Some r
   pub holds : (p : Partition) → has new.grants (m, p) ≡ has g.grants (m, p)
 
@@ -131,7 +131,7 @@ pub record HasTakenOver (g : Group) (q : Heartbeat) (stamp : Stamp) (new : Group
   pub present : r.epoch ≡ At (last_epoch r)
 
 pub data Came (g : Group) (q : Heartbeat) (stamp : Stamp) (new : Group) (m : Text) (r : Record) : Type 0 where
-  Kept : IsKept g new m r → Came g q stamp new m r
+  Kept : KeepsRecord g new m r → Came g q stamp new m r
   Acted : HasActed g q stamp new m r → Came g q stamp new m r
   New : IsNew g q stamp new m r → Came g q stamp new m r
   TookOver : HasTakenOver g q stamp new m r → Came g q stamp new m r
@@ -172,5 +172,5 @@ pub record Pass (g new : Group) : Type 0 where
   pub salt : new.salt ≡ g.salt
   pub serial : g.serial ≤ new.serial
   pub target_epoch : g.target_epoch ≤ new.target_epoch
-  pub kept : (m : Text) (r : Record) → finite.get new.records m ≡ Some r → IsKept g new m r
+  pub kept : (m : Text) (r : Record) → finite.get new.records m ≡ Some r → KeepsRecord g new m r
   pub went : (m : Text) (s : Stamp) → Contains new.past (m, s) → Seen g m s

@@ -81,15 +81,14 @@ pub fn an_act_has_one_outcome()
     one_outcome_a_reply();
 }
 
-/// An act leaves a live world live, as long as its clients own no more partitions than the count of an array can say.
+/// An act leaves a live world live.
 pub fn acts_leave_live_worlds()
     ensures { ActsLeaveLiveWorlds }
 {
     steps_are_sound();
 }
 
-/// Whatever acts are done from clients that haven't asked for anything yet, each has its outcome, as long as no acts make a
-/// client own more partitions than the count of an array can say.
+/// Whatever acts are done from clients that haven't asked for anything yet, each has its outcome.
 pub fn runs_of_acts_exist()
     ensures { RunsOfActsExist }
 {

@@ -58,7 +58,7 @@ impl Scene {
 
     /// Whether a client with this id is fit in its group. Takes no memory.
     fn fits_group(&self, client: &Client, id: &str, group: &Group) -> bool
-        ensures { IsTrue result ↔ IsFitIn client.now id.now group.now self.now.clients.items }
+        ensures { IsTrue result ↔ IsFitIn client.now id.now group.now.state self.now.clients.items }
     {
         let Some(epochs) = group.epochs(id) else {
             return false;

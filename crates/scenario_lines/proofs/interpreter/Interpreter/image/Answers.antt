@@ -10,4 +10,4 @@ returns-in_err-image-clause-refused c = λ bad is_command.
 
 pub returns-clause-done : goal.returns-clause-done
 returns-clause-done c =
-    rw c.set_image.ensures (image_done c.args.self.now (texts c.args.arguments.now) c.in_ok-image.image c.in_ok-image.ensures.image)
+    rw c.set_image.ensures.value (image_done c.args.self.now (texts c.args.arguments.now) c.in_ok-image.image c.in_ok-image.ensures.image)
