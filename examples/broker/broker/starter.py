@@ -14,8 +14,6 @@ from broker.topics import Topics
 
 HOST = "127.0.0.1"
 WORKERS, SHARDS = 4, 8
-# The program ends once so many connections have ended; it takes no greater number.
-CONNECTIONS = 1_000_000
 END_SECONDS = 10
 
 
@@ -55,7 +53,7 @@ async def start(program: str, topics: Topics) -> Started:
 
 
 async def _start(program: str, port: int, topics: Topics) -> Started:
-    numbers = {"--port": port, "--workers": WORKERS, "--shards": SHARDS, "--connections": CONNECTIONS}
+    numbers = {"--port": port, "--workers": WORKERS, "--shards": SHARDS}
     words = [word for option, number in numbers.items() for word in (option, str(number))]
     words += [topic.word() for topic in topics]
     nothing, pipe = asyncio.subprocess.DEVNULL, asyncio.subprocess.PIPE
