@@ -12,8 +12,8 @@ import time
 # What a check takes of memory in bytes: in any crate, and for each line of the crate's source. Measured on crates
 # of 360 to 2,800 lines; the most that one took was 4 GB.
 CHECK_MEMORY, LINE_MEMORY = 3_000_000_000, 1_000_000
-# How much of the free memory is used, and by how much a further job of a check adds to what the first one takes.
-USED_MEMORY, JOB_MEMORY = 0.85, 0.6
+# How much of the free memory is used, and what part of what its first job takes a further job of a check adds: 1.3 GB beside 4 to 7.
+USED_MEMORY, JOB_MEMORY = 0.85, 0.3
 # More jobs than this seldom make a check faster, nor do more than one for so many functions: each reads all libraries.
 MOST_JOBS, FUNCTIONS_A_JOB = 4, 20
 # How long a round that was begun in time may run on, in seconds.

@@ -77,8 +77,8 @@ class Build:
         count = min(self.processors, MOST_LANES, len(self.names))
         self.free = [first, *(sources.copy(first, f"{folder}/{it}") for it in range(1, count))]
         self.progress = progress.Progress(tree, self.names, count)
-        chains = self.progress.chains()
-        self.order = sorted(self.names, key=lambda it: chains[it], reverse=True)
+        self.chains = self.progress.chains()
+        self.order = sorted(self.names, key=lambda it: self.chains[it], reverse=True)
         self.running: Dict["concurrent.futures.Future[commands.Ran]", Task] = {}
         self.finished: List[str] = []
 
@@ -122,7 +122,10 @@ class Build:
         if not self.free or self.running and (idle < 1 or room < need):
             return None
         fitting = 1 + int(max(room / need - 1, 0) / schedule.JOB_MEMORY)
-        jobs = max(1, min(idle // sharers, fitting, schedule.MOST_JOBS))
+        # The longest chain comes first, and gets what can't be shared out. A shorter one leaves half of the processors to what comes next.
+        is_first = all(self.chains[it.crate] <= self.chains[crate] for it in self.running.values())
+        most = schedule.MOST_JOBS if is_first else max(1, self.processors // 2)
+        jobs = max(1, min(-(-idle // sharers), fitting, most))
         return Task(crate, self.free.pop(), need * (1 + schedule.JOB_MEMORY * (jobs - 1)), jobs)
 
     def prove(self, task: Task) -> commands.Ran:
