@@ -262,7 +262,7 @@ struct line {
     int fd;
     struct member *members;
     int member_count;
-    uint32_t sent, heard; /* so many frames; the correlation id of each is its number, from 0 */
+    uint32_t sent, heard; /* numbers of frames; the correlation id of each is its number, from 0 */
     uint64_t sent_at[MOST_DEPTH];
     uint8_t *input;
     size_t filled;
@@ -451,7 +451,7 @@ static double within_us(const struct times *times, double part)
 struct sender {
     pthread_t thread;
     struct line *lines; /* every line; those of this thread are first, first + threads, .. */
-    int first, depth, poll, waiting; /* so many answers are under way */
+    int first, depth, poll, waiting; /* waiting: the number of answers that are under way */
     uint64_t end; /* when nothing is sent any more */
     uint64_t in_time; /* answers that came before it */
     struct times times;
@@ -633,7 +633,7 @@ static void write_batch(struct echo_line *line, struct bytes *output, size_t lea
     output->length = 0;
 }
 
-/* Answers the whole frames of one read, so many by each write. */
+/* Answers the whole frames of one read, several by each write (`--batch`). */
 static void echo(struct echo_line *line, struct bytes *output)
 {
     ssize_t found = recv(line->fd, line->input + line->filled, sizeof line->input - line->filled, 0);

@@ -3,7 +3,7 @@
    usage: consumer [-a] [-l] [-q] [-n COUNT] [-c COMMIT_MS] [-b BLOCK_MS] [-w BLOCK_MS] [-m BYTES] NAME TOPIC,TOPIC.. KEY=VALUE..
 
    KEY=VALUE are librdkafka's settings. NAME is the client id; with -n there are COUNT consumers, NAME1 and so on.
-   Every COMMIT_MS (500; 0 for never) what was read is committed: -a asynchronously, -m with metadata of so many bytes. -b sleeps in
+   Every COMMIT_MS (500; 0 for never) what was read is committed: -a asynchronously, -m with metadata of BYTES bytes. -b sleeps in
    the first revocation, -w in the first assignment that isn't empty. -l commits also what was lost. -q prints no records. Lines on
    standard input, each for NAME or all:
        quit WHO            closes the consumer; the end of the input quits all

@@ -48,7 +48,7 @@ class Consumers:
         return moment
 
     def wait(self, seconds: float = CLOSE_SECONDS) -> bool:
-        """Whether the process ended by itself within so many seconds; else it is killed."""
+        """Whether the process ended by itself in this time; else it is killed."""
         try:
             self.process.wait(seconds)
         except subprocess.TimeoutExpired:

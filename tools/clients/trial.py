@@ -19,7 +19,7 @@ BILLS = Topic("bills", "bbbbbbbb-0000-4000-8000-000000000002", 7)
 WIDE = Topic("wide", "cccccccc-0000-4000-8000-000000000003", 200)
 TOPICS = (ORDERS, BILLS, WIDE)
 BOTH = ("orders", "bills")
-# Nothing has changed for so many seconds: a heartbeat's interval, and some.
+# How many seconds without a change are quiet: a heartbeat's interval, and some.
 QUIET = 6.5
 CHANGES = ("ASSIGN", "REVOKE", "LOST")
 

@@ -74,7 +74,7 @@ def start(words, folder, given, output, errors):
 
 @contextlib.contextmanager
 def time_limit(child, seconds):
-    """Ends a program that is still running after so many seconds, and tells whether it had to."""
+    """Ends a program that is still running after `seconds`, and tells whether it had to."""
     was_cut = threading.Event()
 
     def cut():

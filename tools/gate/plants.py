@@ -2,7 +2,7 @@
 
 from gate import edits, functions, rounds
 
-# In so many crates, the lowest that have edits, beside so many real ones of each.
+# How many crates, the lowest that have edits, and how many real edits of each.
 CRATES, REAL = 3, 8
 HARMLESS, WRONG = "let _planted = 0_u8;", "let _planted: u8 = true;"
 HARMLESS_NAME, WRONG_NAME = "planted-harmless.edit", "planted-that-does-not-compile.edit"

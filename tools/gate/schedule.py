@@ -14,11 +14,11 @@ import time
 CHECK_MEMORY, LINE_MEMORY = 3_000_000_000, 1_000_000
 # How much of the free memory is used, and what part of what its first job takes a further job of a check adds: 1.3 GB beside 4 to 7.
 USED_MEMORY, JOB_MEMORY = 0.85, 0.3
-# More jobs than this seldom make a check faster, nor do more than one for so many functions: each reads all libraries.
+# More jobs than this seldom make a check faster, nor do more than one for FUNCTIONS_A_JOB functions: each reads all libraries.
 MOST_JOBS, FUNCTIONS_A_JOB = 4, 20
 # How long a round that was begun in time may run on, in seconds.
 GRACE = 300
-# The commits of so many hours before the last one are one landing.
+# The commits of the last hours, up to the last one, are one landing.
 LANDING_HOURS = 4
 # Where a control group says how much processor time (quota and period) and memory (limit and use) there is.
 QUOTA_FILE = "/sys/fs/cgroup/cpu.max"
@@ -30,7 +30,7 @@ class OutOfTime(Exception):
 
 
 class Clock:
-    """The time from a start on, of which so many minutes are for what is left out at need; None: any number."""
+    """The time from a start on, of which `minutes` are for what is left out at need; None: without end."""
 
     def __init__(self, minutes=None, began=None):
         self.began, self.minutes = began or time.monotonic(), minutes
@@ -80,7 +80,7 @@ class Lanes:
     def jobs(self, functions=None):
         """How many jobs a check that begins now gets: its share of the processors and of the memory.
 
-        `functions` is given where so many of the crate's are looked at.
+        `functions` is the number of the crate's functions that are looked at, where not all are.
         """
         with self.changed:
             sharers = max(min(self.left, self.processors), 1)

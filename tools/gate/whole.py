@@ -14,7 +14,7 @@ from gate import cases, commands, crates, edits, kept, misuses, schedule, sweep
 
 # How many minutes the further edits may take, and from what minute on none of them is begun at all.
 EDIT_MINUTES_NAME, EDIT_MINUTES = "GATE_EDIT_MINUTES", 8
-LAST_BEGIN = 120
+LAST_BEGIN = 80
 # How long one of the scripts may take, in seconds.
 SCRIPT_SECONDS = 1_800
 # The scripts that are run, and whether each takes the built program.
@@ -36,6 +36,8 @@ NOISE = re.compile(
 )
 VERDICT_LINE = re.compile(r"fn ((\w+)::\S+): ")
 LAST_LINE = re.compile(r"(\d+) passed, (\d+) failed")
+# What `rt ci` says where earlier runs on this machine had proved all of it.
+ALL_KEPT = re.compile(r"rt: ok; .*done in this run: 0 of the ")
 
 
 class Gate:
@@ -47,6 +49,7 @@ class Gate:
         self.tree = crates.Tree(root, crates.kit_folder(), is_proved=True)
         self.passed = self.failed = 0
         self.left, self.faults = [], []
+        self.is_anything_new = True
 
     def say(self, line):
         seconds = int(self.clock.seconds())
@@ -85,6 +88,8 @@ class Gate:
                 self.say(line)
             if re.match(r"rt: .*(NOT PROVED|FAILED|BAD EDIT|NOT REFUSED)", line):
                 self.faults.append(line)
+            if ALL_KEPT.match(line):
+                self.is_anything_new = False
         status, processor = commands.wait_for(child)
         last = LAST_LINE.fullmatch(line)
         passed, failed = (int(last[1]), int(last[2])) if last else (0, 1)
@@ -127,9 +132,11 @@ class Gate:
     def try_further_edits(self, known):
         """Tries the edits beside must-fail/ of the crates that changed last, as long as there is time."""
         names = schedule.changed_last(self.root, self.tree.uses)
-        if self.clock.seconds() >= 60 * LAST_BEGIN:
+        is_late = self.clock.seconds() >= 60 * LAST_BEGIN
+        if is_late or not self.is_anything_new:
             names = []
-            self.say(f"no further edit is tried, since {LAST_BEGIN} minutes are over")
+            why = f"{LAST_BEGIN} minutes are over" if is_late else "nothing was proved anew"
+            self.say(f"no further edit is tried, since {why}")
         until = self.clock.seconds() / 60 + minutes()
         failed, faults = self.failed, [*self.faults]
         self.try_edits("further edits", edits.FURTHER_FOLDER, names, known, until)

@@ -7,7 +7,7 @@ import subprocess
 
 
 def least_time(command: list[str], lines: bytes, runs: int) -> tuple[float, bytes]:
-    """The least processor time of so many runs over the lines, in seconds, and what a run printed."""
+    """The least processor time of a run over the lines, in seconds, and what a run printed."""
     least, printed = float("inf"), b""
     for _ in range(runs):
         before = resource.getrusage(resource.RUSAGE_CHILDREN)

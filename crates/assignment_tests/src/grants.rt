@@ -21,7 +21,7 @@ use test_support::tables::{Answers, cut, number, part_words, wrong_rows};
 ///
 /// The answer has a verdict for each offer, `?` where the offer showed the member anything else before; and for each of 1.0, 1.1,
 /// 1.2 and 2.0 the member that may read it and since which epoch.
-const GRANTS: &str = "
+pub const GRANTS: &str = "
 nothing = - - - -
 offer a 3 1.0,1.1 = moves a3 a3 - -
 offer a 3 1.0,1.1; offer b 3 1.1,1.2 = moves moves a3 a3 b3 -
@@ -42,18 +42,18 @@ drop a; hand a b; offer b 2147483647 2.0 = moves - - - b2147483647
 ";
 
 /// The partitions of which the answers tell.
-const SHOWN: [&str; 4] = ["1.0", "1.1", "1.2", "2.0"];
+pub const SHOWN: [&str; 4] = ["1.0", "1.1", "1.2", "2.0"];
 
 /// An offer to a member.
 #[derive(Drop)]
-struct Offer<'a> {
-    member: &'a str,
-    epoch: EpochNumber,
-    wanted: PartSet,
-    owned: Option<PartSet>,
+pub struct Offer<'a> {
+    pub member: &'a str,
+    pub epoch: EpochNumber,
+    pub wanted: PartSet,
+    pub owned: Option<PartSet>,
 }
 
-struct Granted;
+pub struct Granted;
 
 impl Answers for Granted {
     /// The verdicts of the steps' offers, and the grants after the last.
@@ -198,7 +198,7 @@ fn tell_partition(grants: &Grants, p: &Partition, out: &mut String) -> Result<()
     }
 }
 
-fn offer_of<'a>(alloc: Global, words: &'a str) -> Result<Offer<'a>, AllocError> {
+pub fn offer_of<'a>(alloc: Global, words: &'a str) -> Result<Offer<'a>, AllocError> {
     let (member, rest) = cut(words);
     let (epoch, rest) = cut(rest);
     let (wanted, owned) = cut(rest);

@@ -14,6 +14,8 @@ mod parts;
 #[cfg(test)]
 mod plain;
 #[cfg(test)]
+mod plain_grants;
+#[cfg(test)]
 mod random_groups;
 #[cfg(test)]
 mod topics;

@@ -110,7 +110,7 @@ fn apart(random: u64, place: u64) -> u64 {
 }
 
 /// A number that looks random, for a place of something in a group.
-fn number_at(number: u64, what: &str, place: u64) -> u64 {
+pub fn number_at(number: u64, what: &str, place: u64) -> u64 {
     let mut mixed = number.wrapping_add(place.wrapping_mul(0x9e37_79b9_7f4a_7c15));
     for byte in what.bytes() {
         mixed = (mixed ^ u64::from(byte)).wrapping_mul(0xbf58_476d_1ce4_e5b9);

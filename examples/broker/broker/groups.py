@@ -16,7 +16,7 @@ from broker.words import Partition, in_words, names_in_words, plain
 
 SESSION_SECONDS = 45.0
 MOST_GROUPS = 1_000
-# Over all members: the characters of their texts, and so many for each partition or topic that is listed.
+# The most that all members weigh: a character of their texts weighs 1, and each partition or topic that is listed the next number.
 MOST_WEIGHT = 16 << 20
 WEIGHT_OF_AN_ENTRY = 64
 Partitions = FrozenSet[Partition]

@@ -1,6 +1,6 @@
 """The records that the topics' partitions have.
 
-Nobody produces here. Each partition has some records from the start and gets so many a second, and the record at an offset is always the
+Nobody produces here. Each partition has some records from the start and gets more at a steady rate, and the record at an offset is always the
 same: its value is `topic/partition/offset`, so a reader can see that it got what it asked for. Records are made when they are fetched, and
 none is kept.
 """
@@ -18,8 +18,8 @@ FIRST_OFFSET = 0
 
 
 class Log:
-    """Every partition's log. It begins at this object's making, which `began_ms` dates in milliseconds since 1970, with so many records
-    of the timestamp 0."""
+    """Every partition's log. It begins at this object's making, which `began_ms` dates in milliseconds since 1970, with `records` of
+    them, of the timestamp 0."""
 
     def __init__(
         self, rate: float, records: int = 0, clock: Callable[[], float] = time.monotonic, began_ms: Optional[int] = None

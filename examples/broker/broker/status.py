@@ -19,7 +19,7 @@ PAGE = pathlib.Path(__file__).with_name("page.html")
 MOST_CONNECTIONS = 64
 REQUEST_SECONDS = 10
 UNREAD_SECONDS = 30
-# An event is sent at a change, and else once in so many seconds, since times and ends of logs go on.
+# An event is sent at a change, and else once in EVENT_SECONDS, since times and ends of logs go on.
 LOOK_SECONDS, EVENT_SECONDS = 0.2, 1.0
 TEXT, JSON = "text/plain; charset=utf-8", "application/json"
 METRICS = "text/plain; version=0.0.4; charset=utf-8"

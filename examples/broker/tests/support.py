@@ -33,10 +33,10 @@ def data(text: str) -> bytes:
     return b"".join(quoted.encode() if not digits else bytes.fromhex(digits) for quoted, digits in words)
 
 
-def small_cluster(coordinators: int = 1, rate: float = 1.0, clock: Callable[[], float] = lambda: 0.0) -> Cluster:
-    """Nodes at ports from 9093 on, the topic `orders` with two partitions, and offset 7 of orders[1] committed in group `g`."""
+def small_cluster(coordinators: int = 1, rate: float = 1.0, clock: Callable[[], float] = lambda: 0.0, partitions: int = 2) -> Cluster:
+    """Nodes at ports from 9093 on, the topic `orders`, and offset 7 of orders[1] committed in group `g`."""
     nodes = [Node(number, HOST, 9093 + number, Coordinator(HOST, 9)) for number in range(coordinators)]
-    cluster = Cluster(nodes, Topics([Topic("orders", ORDERS, 2)]), Log(rate, 0, clock, 1_000_000), Offsets())
+    cluster = Cluster(nodes, Topics([Topic("orders", ORDERS, partitions)]), Log(rate, 0, clock, 1_000_000), Offsets())
     cluster.offsets.store("g", "orders", 1, Committed(7, 0, "m"))
     return cluster
 

@@ -2,6 +2,8 @@
 
 from __future__ import annotations
 
+import pathlib
+import re
 import unittest
 import uuid
 from typing import Any, Dict, FrozenSet, List, Optional, Tuple
@@ -17,6 +19,7 @@ from broker.words import Partition as Place
 from broker.words import in_words, plain
 from tests.support import ORDERS, small_cluster
 
+README = pathlib.Path(__file__).resolve().parents[3] / "README.md"
 A, B, C = (f"00000000-0000-0000-0000-00000000000{number}" for number in (1, 2, 3))
 
 
@@ -25,17 +28,18 @@ def of_orders(*indexes: int) -> FrozenSet[Index]:
 
 
 class Conversation:
-    """Heartbeats and commits of group `g`, each at a moment, and what is made of them."""
+    """Heartbeats and commits of a group, each at a moment, and what is made of them."""
 
-    def __init__(self) -> None:
+    def __init__(self, name: str = "g", partitions: int = 2) -> None:
+        self.name = name
         self.now = 0.0
-        self.cluster = small_cluster()
+        self.cluster = small_cluster(partitions=partitions)
         self.lines: List[str] = []
         self.watch = Watch(self.cluster.topics, self.lines.append, lambda: self.now)
 
     def beat(self, now: float, member: str, epoch: int, told: Told, **fields: Any) -> None:
         self.now = now
-        self.watch.heartbeat("till", Asked("g", member, epoch, **fields), told)
+        self.watch.heartbeat("till", Asked(self.name, member, epoch, **fields), told)
 
     def join(self, now: float, member: str, epoch: int, shown: FrozenSet[Index], instance: Optional[str] = None) -> None:
         self.beat(now, member, 0, Told(0, member, epoch, shown), names=["orders"], instance=instance, owned=frozenset())
@@ -43,16 +47,16 @@ class Conversation:
     def commit(self, now: float, member: str, epoch: int, code: int) -> None:
         self.now = now
         topics = [Topic("orders", [Partition("orders", 1, Committed(9, 0, ""))])]
-        self.watch.commit(Commit("g", epoch, member, topics), [Result("orders", 1, code)])
+        self.watch.commit(Commit(self.name, epoch, member, topics), [Result("orders", 1, code)])
 
-    def rebalance(self) -> None:
-        """A has both partitions; B joins, and gets one of them after five seconds."""
-        self.join(0, A, 1, of_orders(0, 1))
+    def rebalance(self, kept: FrozenSet[Index] = of_orders(0), moved: FrozenSet[Index] = of_orders(1)) -> None:
+        """A has all partitions; B joins, and gets some of them after five seconds."""
+        self.join(0, A, 1, kept | moved)
         self.beat(5, A, 1, Told(0, A, 1))
         self.join(6, B, 2, of_orders())
-        self.beat(10, A, 1, Told(0, A, 1, of_orders(0)))
-        self.beat(10.5, A, 1, Told(0, A, 2), owned=of_orders(0))
-        self.beat(11, B, 2, Told(0, B, 2, of_orders(1)))
+        self.beat(10, A, 1, Told(0, A, 1, kept))
+        self.beat(10.5, A, 1, Told(0, A, 2), owned=kept)
+        self.beat(11, B, 2, Told(0, B, 2, moved))
 
     def group(self) -> Dict[str, Any]:
         found: Dict[str, Any] = report.groups(self.cluster, self.watch)["groups"][0]
@@ -76,6 +80,12 @@ class Groups(unittest.TestCase):
         it = Conversation()
         it.rebalance()
         self.assertEqual(it.lines, REBALANCE)
+
+    def test_the_rebalance_that_the_first_page_shows(self) -> None:
+        it = Conversation("app", partitions=4)
+        it.rebalance(of_orders(0, 1), of_orders(2, 3))
+        shown = re.findall(r"^    (app  .*)$", README.read_text(encoding="utf-8"), re.M)
+        self.assertEqual(it.lines, shown)
 
     def test_refusals_leaves_and_sessions_in_words(self) -> None:
         it = Conversation()
