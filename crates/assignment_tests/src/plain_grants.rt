@@ -171,14 +171,17 @@ fn id_at(random: u64) -> &'static str {
 /// Some of the partitions, or none.
 fn put_some(words: &mut String, random: u64) -> Result<(), AllocError> {
     words.push(' ')?;
-    let mut parting = "";
+    let mut is_first = true;
     for (at, word) in (0u32..4).zip(SHOWN) {
         if random.wrapping_shr(at) % 2 == 1 {
-            write!(words, "{parting}{word}")?;
-            parting = ",";
+            if !is_first {
+                words.push(',')?;
+            }
+            words.push_str(word)?;
+            is_first = false;
         }
     }
-    if parting.is_empty() {
+    if is_first {
         return words.push('-');
     }
     Ok(())
