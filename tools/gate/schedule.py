@@ -10,9 +10,9 @@ import threading
 import time
 
 # What a check takes of memory in bytes: in any crate, and for each line of the crate's source. Measured on crates
-# of 360 to 2,800 lines; the most that one took was 4 GB.
-CHECK_MEMORY, LINE_MEMORY = 3_000_000_000, 1_000_000
-# How much of the free memory is used, and what part of what its first job takes a further job of a check adds: 1.3 GB beside 4 to 7.
+# of 360 to 4,000 lines; the most that one took was 4 GB.
+CHECK_MEMORY, LINE_MEMORY = 2_500_000_000, 500_000
+# How much of the free memory is used, and what part of what its first job takes a further job of a check adds: 1.3 GB beside 3 to 4.
 USED_MEMORY, JOB_MEMORY = 0.85, 0.3
 # More jobs than this seldom make a check faster, nor do more than one for FUNCTIONS_A_JOB functions: each reads all libraries.
 MOST_JOBS, FUNCTIONS_A_JOB = 4, 20

@@ -63,6 +63,8 @@ class Task:
     crate: str
     lane: crates.Tree
     memory: float
+    # Its share of the processors, and the jobs that it is begun with.
+    share: int
     jobs: int
 
 
@@ -116,7 +118,7 @@ class Build:
 
     def task(self, crate: str, sharers: int) -> Optional[Task]:
         """The crate with a lane and its share of what is free, or nothing where there is no room for it now."""
-        idle = self.processors - sum(it.jobs for it in self.running.values())
+        idle = self.processors - sum(it.share for it in self.running.values())
         room = self.memory - sum(it.memory for it in self.running.values())
         need = schedule.need_of(self.tree, crate)
         if not self.free or self.running and (idle < 1 or room < need):
@@ -124,9 +126,11 @@ class Build:
         fitting = 1 + int(max(room / need - 1, 0) / schedule.JOB_MEMORY)
         # The longest chain comes first, and gets what can't be shared out. A shorter one leaves half of the processors to what comes next.
         is_first = all(self.chains[it.crate] <= self.chains[crate] for it in self.running.values())
-        most = schedule.MOST_JOBS if is_first else max(1, self.processors // 2)
-        jobs = max(1, min(-(-idle // sharers), fitting, most))
-        return Task(crate, self.free.pop(), need * (1 + schedule.JOB_MEMORY * (jobs - 1)), jobs)
+        most = min(self.processors, schedule.MOST_JOBS) if is_first else max(1, self.processors // 2)
+        share = max(1, min(-(-idle // sharers), fitting, most))
+        # The number of jobs stays until the crate is proved. So the longest chain has some beyond its share, for when the others have ended.
+        jobs = max(share, min(fitting, most)) if is_first else share
+        return Task(crate, self.free.pop(), need * (1 + schedule.JOB_MEMORY * (jobs - 1)), share, jobs)
 
     def prove(self, task: Task) -> commands.Ran:
         """Proves a crate in its lane."""

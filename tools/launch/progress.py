@@ -24,6 +24,9 @@ SECONDS: Dict[str, int] = {
     "link_futures": 618,
     "coord_server": 463,
     "world_sim": 733,
+    "scenario_lines": 900,
+    # (with the building of the program)
+    "scenario_cli": 500,
 }
 # What a crate is taken for that was never measured, in seconds a line of code and of definitions and proofs.
 LINE_SECONDS, ANTT_LINE_SECONDS = 0.09, 0.02
