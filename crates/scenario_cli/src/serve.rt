@@ -56,7 +56,7 @@ where
         + Sync,
     ensures { result ≤ 1 }
 {
-    match serve_port(rt, service, writer, &mut *told) {
+    match serve_port(rt, &service, writer, &mut *told) {
         Ok(()) => 0,
         Err(fault) => {
             let _ = writeln!(told, "{fault}");
@@ -65,10 +65,10 @@ where
     }
 }
 
-/// Listens on a port of 127.0.0.1, prints so once it serves, serves the connections, and prints how many there were.
+/// Listens on a port of 127.0.0.1, and serves there.
 fn serve_port<R, W: Write, E: Write + Send>(
     rt: &R,
-    service: Service,
+    service: &Service,
     writer: &mut W,
     told: &mut E,
 ) -> Result<(), ServeFault>
@@ -83,16 +83,31 @@ where
 {
     let keys = RandomState::new(rt).map_err(ServeFault::Keys)?;
     let socket = listen(rt, service.port)?;
-    let moments = match ClockMoments::start(rt) {
-        Ok(moments) => moments,
-        Err(error) => return Err(ServeFault::Clock(error)),
-    };
+    match ClockMoments::start(rt) {
+        Ok(moments) => serve_listening(rt, service, keys, socket, &moments, writer, told),
+        Err(error) => Err(ServeFault::Clock(error)),
+    }
+}
+
+/// Prints that the server listens once it serves, serves the connections of a socket, and prints how many there were.
+fn serve_listening<R, W: Write, E: Write + Send>(
+    rt: &R,
+    service: &Service,
+    keys: RandomState,
+    socket: TcpListener,
+    moments: &ClockMoments<'_, R>,
+    writer: &mut W,
+    told: &mut E,
+) -> Result<(), ServeFault>
+where
+    R: Wait + Threads + Clock + Net + RandomSource + AllocGlobal + Sync,
+{
     let listening = Listening {
         writer: &mut *writer,
         port: service.port,
     };
     let log = EndLog::new(if service.logs { Some(told) } else { None });
-    let served = serve_socket(rt, &service, keys, socket, &moments, listening, &log)?;
+    let served = serve_socket(rt, service, keys, socket, moments, listening, &log)?;
     Ok(print(writer, "served", served)?)
 }
 
@@ -155,16 +170,31 @@ where
     ensures { IfOk result (λ served. served ≡ service.now.connections) }
 {
     let shards = shards_of::<A, C>(rt.alloc(), service.shards, salt, keys, entries, calls)?;
-    set_image(rt, &shards, moments.clone()?, &service.image, log)?;
-    serve_sockets(
-        rt,
-        &shards,
-        socket,
-        moments,
-        plan_of(service),
-        announce,
-        log,
-    )
+    serve_shards(rt, service, &shards, socket, moments, announce, log)
+}
+
+/// Gives the shards their topics, and serves the connections of a socket over them. Gives their number.
+fn serve_shards<A, C, M, R, N, E>(
+    rt: &R,
+    service: &Service,
+    shards: &Shards<A, C, AlwaysOpen>,
+    socket: TcpListener,
+    moments: &M,
+    announce: N,
+    log: &EndLog<E>,
+) -> Result<u64, ServerFault>
+where
+    A: Ledger + Send + Sync,
+    C: Ledger + Send + Sync,
+    M: Moments + Clone + Send,
+    R: Wait + Threads + Clock + Net + RandomSource + AllocGlobal + Sync,
+    N: Announce,
+    E: Write + Send,
+    ensures { IfOk result (λ served. served ≡ service.now.connections) }
+{
+    set_image(rt, shards, moments, &service.image, log)?;
+    let plan = plan_of(service);
+    serve_sockets(rt, shards, socket, moments, plan, announce, log)
 }
 
 /// How large the server is: as many workers and connections as are asked for, and an expiry worker; and after what silence a connection
@@ -183,7 +213,7 @@ fn plan_of(service: &Service) -> Plan
     }
 }
 
-/// So many new shards with a salt, which keep no journals.
+/// New shards with a salt, which keep no journals.
 fn shards_of<A, C>(
     alloc: Global,
     shards: usize,
@@ -207,18 +237,18 @@ where
 fn set_image<A, C, M, R, E>(
     rt: &R,
     shards: &Shards<A, C, AlwaysOpen>,
-    moments: M,
+    moments: &M,
     image: &Image,
     log: &EndLog<E>,
 ) -> Result<(), ServerFault>
 where
     A: Ledger,
     C: Ledger,
-    M: Moments,
+    M: Moments + Clone,
     R: Wait + AllocGlobal,
     E: Write,
 {
-    let mut desk = ShardsDesk::new(rt, rt.alloc(), shards, moments, log)?;
+    let mut desk = ShardsDesk::new(rt, rt.alloc(), shards, moments.clone()?, log)?;
     desk.set_image(image)?;
     Ok(())
 }
