@@ -69,7 +69,7 @@ pub record IsCommitted (old : Coordinator) (correlation : ℤ) (v : CommitReques
   pub is_frame : IsReplyFrame (commit_value correlation reply) frame
   pub bytes : after ≡ before ++ frame
 
--- The frame of a message can be written in so many bytes.
+-- The frame of a message can be written in `left` bytes.
 pub record HasRoomInFrame (v : ReplyValue) (left : ℕ) : Type 0 where
   pub writable : IsWritableReply v
   pub short : length (reply_body v) < 2 ^ 31
@@ -80,7 +80,7 @@ abbrev pub HasShortId : group.Answer → Type 0
 HasShortId (group.Replied r) = IfSome r.member (λ id. length id ≤ LONGEST_STRING)
 HasShortId group.Closes = Unit {0}
 
--- A group's answer can be sent in so many bytes.
+-- A group's answer can be sent in `left` bytes.
 pub record IsSendable (given : group.Answer) (left : ℕ) : Type 0 where
   pub id : HasShortId given
   pub few : HasFewPartitions given

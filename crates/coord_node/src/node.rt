@@ -166,7 +166,7 @@ impl Node {
         }
     }
 
-    /// Answers a request, whose body has so many bytes, by its API.
+    /// Answers a request, whose body has `size` bytes, by its API.
     fn request(
         &mut self,
         request: &Request<'_>,
@@ -212,7 +212,7 @@ impl Node {
         Ok(send(self.alloc, correlation, outcome, out))
     }
 
-    /// Answers a commit, whose body has so many bytes: a reply has no more bytes than its request, so the room for its frame is made
+    /// Answers a commit, whose body has `size` bytes: a reply has no more bytes than its request, so the room for its frame is made
     /// before anything is stored.
     fn commit(
         &mut self,

@@ -15,7 +15,7 @@ use Rattle.flex_wire.proofs.Fields.{bind_ok, demand_ok, chosen, ok_is, is_zero, 
 use Rattle.flex_wire.proofs.IntLaws.{bytes_taken, bytes_again, signed_is_field, wide16}
 use Rattle.flex_wire.proofs.VarintLaws.{varint_is_field}
 
--- a text of so many bytes was taken from the front
+-- a text of `size` bytes was taken from the front
 pub record IsTextOf (size : ℕ) (bytes : List ℕ) (p : List ℕ × List ℕ) : Type 0 where
   pub len : length p.0 ≡ size
   pub utf8 : IsUtf8 p.0

@@ -8,7 +8,7 @@ use Rattle.flex_wire.specs.Reading.{◌>>=◌, demand, groups_at, varint_at}
 use Rattle.flex_wire.specs.Laws.{AreBytes, IsField}
 use Rattle.flex_wire.proofs.Fields.{bind_ok, demand_ok, chosen, ok_is, positive, not_zero}
 
--- a number of so many more groups is below this
+-- what a varint of this many further groups is less than
 abbrev pub limit : ℕ → ℕ
 limit zero = 16
 limit (suc more) = 128 * limit more
@@ -38,7 +38,7 @@ joined_group more byte high le lt some =
     let up : n / 128 ≡ high = omega arith in
     higher_group more n (omega arith) ∙ rw (low, up) refl
 
--- what a reader took from the front: a number of so many more groups
+-- what a reader took from the front: a varint with this many further groups
 abbrev IsTaken : ℕ → List ℕ → ℕ × List ℕ → Type 0
 IsTaken more bytes p = (0 < p.0) × (p.0 < limit more) × (bytes ≡ varint_groups more p.0 ++ p.1)
 

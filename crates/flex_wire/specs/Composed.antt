@@ -23,7 +23,7 @@ made_at make read bytes = read bytes >>= λ v. Ok (make v.0, v.1)
 abbrev pub fitting_at : {V : Type 0} → (V → Bool) → WireFault → (List ℕ → Read V) → List ℕ → Read V
 fitting_at test fault read bytes = read bytes >>= λ v. demand (test v.0) fault >>= λ _. Ok v
 
--- COMPACT_ARRAY: so many elements, one behind the other.
+-- COMPACT_ARRAY: a number of elements, one behind the other.
 unfoldable pub elements_at : {V : Type 0} → (List ℕ → Read V) → ℕ → List ℕ → Read (List V)
 elements_at read zero bytes = Ok ([], bytes)
 elements_at read (suc more) bytes = read bytes >>= λ first. elements_at read more first.1 >>= λ others. Ok (first.0 ∷ others.0, others.1)

@@ -42,7 +42,7 @@ Takes {X} {V} view result value rest = Reads {Y = V × List ℕ} view result (Ok
 abbrev pub TakesInMemory : {X V : Type 0} → (X → V × List ℕ) → Result X WireFault → V → List ℕ → Type 0
 TakesInMemory {X} {V} view result value rest = ReadsInMemory {Y = V × List ℕ} view result (Ok (value, rest))
 
--- The first bytes, so many.
+-- The first `size` bytes.
 unfoldable pub bytes_at : ℕ → List ℕ → Read (List ℕ)
 bytes_at size bytes = if nat_lt (length bytes) size then Err Short else Ok (take size bytes, drop size bytes)
 
@@ -74,7 +74,7 @@ varint_at [] = Err Short
 varint_at (byte ∷ rest) =
     if nat_lt byte 128 then Ok (byte, rest) else (groups_at 3 rest >>= λ high. Ok (byte - 128 + 128 * high.0, high.1))
 
--- A text of so many bytes, behind its length.
+-- A text of `size` bytes, behind its length.
 unfoldable pub text_at : ℕ → List ℕ → Read (List ℕ)
 text_at size bytes = do
   text ← bytes_at size bytes
@@ -146,7 +146,7 @@ tagged_field_at last bytes = do
   value ← bytes_at size.0 size.1
   Ok (record { tag = tag.0; value = value.0 }, value.1)
 
--- TAG_BUFFER (KIP-482): so many tagged fields behind the last tag.
+-- TAG_BUFFER (KIP-482): a number of tagged fields behind the last tag.
 unfoldable pub tagged_fields_behind : Option ℕ → ℕ → List ℕ → Read (List Tagged)
 tagged_fields_behind last zero bytes = Ok ([], bytes)
 tagged_fields_behind last (suc more) bytes = do

@@ -26,7 +26,7 @@ use Rattle.group_types.proofs.Indexes.{index_of}
 use Rattle.group_types.specs.Images.{AreImageTopics}
 use Rattle.group_types.proofs.GrantLemmas.{both_equal}
 
--- the partition is one of the topic with the id, of which there are so many
+-- the partition is one of the topic with the id, which has `count` of them
 abbrev is_of_topic : List ℕ → ℕ → Partition → Bool
 is_of_topic id count p = eq_by_cmp text_cmp p.topic id && is_index p.index count
 

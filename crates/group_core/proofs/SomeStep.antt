@@ -95,7 +95,7 @@ not_fresh : (b : Bool) → ¬ (b ≡ false) → b ≡ true
 not_fresh true apart = refl
 not_fresh false apart = absurd (apart refl)
 
--- among so many serials from the group's on
+-- among a number of serials from the group's on
 serial_within : (g : Group) (n : ℕ) → n ≡ 2 ^ 64 - g.serial → (serial : Option ℕ) × IsSerial g serial
 serial_within g n is =
     elim (first_below (λ k. is_remembered (members_of g) (made_id g.salt (g.serial + k)) ≡ false) (λ k. remembered_or_fresh g (g.serial + k)) n) [

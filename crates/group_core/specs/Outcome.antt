@@ -46,7 +46,7 @@ room_for member assignment = FIXED_ROOM + option_map_or length member 0 + PARTIT
 abbrev pub reply_room : machine.Reply → ℕ
 reply_room r = room_for r.member r.assignment
 
--- so many bytes more are enough for the frame of the answer
+-- `room` further bytes are enough for the frame of the answer
 abbrev pub HasRoomFor : machine.Answer → ℕ → Type 0
 HasRoomFor (machine.Replied r) room = reply_room r ≤ room
 HasRoomFor machine.Closes room = Unit {0}
@@ -71,7 +71,7 @@ IsCurrentAfter machine.Closes g image = Unit {0}
 
 -- ---- every answer
 
--- what holds of an answer and the group after it, where there is room for so many bytes more
+-- what holds of an answer and the group after it, where there is room for `free` further bytes
 pub record IsResponse (answer : machine.Answer) (g : Group) (image : Topics) (free : ℕ) : Type 0 where
   pub few : HasFewPartitions answer
   pub current : IsCurrentAfter answer g image

@@ -23,7 +23,7 @@ abbrev has_text : List ℕ → String Global → Bool
 has_text text key = bytes_eq text (string_bytes key)
 
 module _ {V : Type 0} (text : List ℕ) where
-  -- where the text stands, so many keys stand before the first that has it
+  -- how many keys stand before the first that has the text, where one has it
   before_text : (es : List (String Global × V)) (i : ℕ) (k : String Global) (v : V) → IsDistinct string_eq (keys_of es)
       → slice_get es i ≡ Some (k, v) → has_text text k ≡ true → position_or_len (has_text text) (keys_of es) ≡ i
   unfolding IsDistinct

@@ -25,7 +25,7 @@ past_state_code =
 abbrev pub places : PastState → ℕ
 places s = length s.past + s.room
 
--- so many ids fit altogether without memory, or as many as are ever remembered: what keeps the places keeps this
+-- this number of ids fits altogether without memory, or as many as are ever remembered: what keeps the places keeps this
 abbrev pub HasRoomFor : PastState → ℕ → Type 0
 HasRoomFor s ids = min MOST_PAST_MEMBERS ids ≤ places s
 

@@ -147,7 +147,7 @@ module _ {Y S : Type 0} where
   abbrev pub ids : IndexMap (String Y) Entry S → PastState → ℕ
   ids members past = index_map_len members + length past.past
 
-  -- how many members more fit without memory, where so many places fit in the order: none where their ids couldn't be
+  -- how many members more fit without memory, where a number of places fits in the order: none where their ids couldn't be
   -- remembered
   abbrev pub room_in : IndexMap (String Y) Entry S → PastState → ℕ → ℕ
   room_in members past order =

@@ -27,7 +27,7 @@ owns spread id p = option_map_or (λ owner. bytes_eq owner id) (finite.get sprea
 abbrev pub share_of : Spread → Text → Partitions
 share_of spread id = of_list (finite.keys (finite.retain_keys spread (owns spread id)))
 
--- the number is an index of a topic with so many partitions
+-- the number is an index of a topic with `count` partitions
 abbrev pub is_index : ℤ → ℕ → Bool
 is_index (pos i) count = nat_lt i count
 is_index (negsuc i) count = false

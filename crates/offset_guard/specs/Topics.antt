@@ -57,7 +57,7 @@ KeepsOffsets old new = (place : Text × ℤ) → offset_at new place ≡ offset_
 
 -- ---- room
 
--- so many more offsets of the topic can come, where it has an entry
+-- a number of further offsets of the topic can come, where it has an entry
 abbrev pub HasTopicRoom : TopicTable → Text → ℕ → Type 0
 HasTopicRoom topics name n = (t : TopicState) → get_by_text topics name ≡ Some t → n ≤ t.room
 

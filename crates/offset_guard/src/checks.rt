@@ -52,7 +52,7 @@ pub fn partitions_of(image: &Image, name: &str) -> i32
     }
 }
 
-/// The code of one partition, whose topic has so many partitions: that of the refusal, where the whole commit is refused.
+/// The code of one partition, whose topic has `count` partitions: that of the refusal, where the whole commit is refused.
 pub fn code_of(refusal: Option<Code>, count: i32, partition: &CommitRequestPartition<'_>) -> Code
     ensures { (image : Topics) (name : Text) → count ≡ pos (partitions_in image name)
         → result ≡ code_by refusal image name (commitment_of (commit_request_partition_value partition.now)) }
@@ -63,7 +63,7 @@ pub fn code_of(refusal: Option<Code>, count: i32, partition: &CommitRequestParti
     }
 }
 
-/// The code of one partition of a taken commit, whose topic has so many partitions.
+/// The code of one partition of a taken commit, whose topic has `count` partitions.
 pub fn code_of_taken(count: i32, partition: &CommitRequestPartition<'_>) -> Code
     ensures { (image : Topics) (name : Text) → count ≡ pos (partitions_in image name)
         → result ≡ code_of_taken image name (commitment_of (commit_request_partition_value partition.now)) }

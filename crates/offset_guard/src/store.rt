@@ -56,7 +56,7 @@ pub fn make_room(topics: &mut Topics, news: &Topics) -> Result<(), AllocError>
     Ok(())
 }
 
-/// Makes room for so many offsets more of a topic, where it has an entry. Where memory is short, no offset has changed.
+/// Makes room for `more` further offsets of a topic, where it has an entry. Where memory is short, no offset has changed.
 fn make_topic_room(topics: &mut Topics, name: &str, more: usize) -> Result<(), AllocError>
     ensures offsets { KeepsOffsets topics.old topics.new }
     ensures kept { KeepsRoom topics.old topics.new }

@@ -60,7 +60,7 @@ impl TopicOffsets {
         Ok(())
     }
 
-    /// Makes room for so many offsets more. Where memory is short, no offset has changed.
+    /// Makes room for `more` further offsets. Where memory is short, no offset has changed.
     pub fn reserve(&mut self, more: usize) -> Result<(), AllocError>
         ensures offsets { self.new.offsets ≡ self.old.offsets }
         ensures kept { self.old.room ≤ self.new.room }

@@ -51,7 +51,7 @@ abbrev pub is_too_many : List Entry → Bool
 is_too_many entries =
     nat_lt MOST_TOPICS (length entries) || nat_lt MOST_PARTITIONS (partitions_in entries)
 
--- the fault of a topic of so many partitions, whose name or id may be taken. The count comes first, and then the name
+-- the fault of a topic of `count` partitions, whose name or id may be taken. The count comes first, and then the name
 abbrev pub fault_if : Bool → Bool → ℕ → Option ImageFault
 fault_if name_taken id_taken count =
     if not (is_count count) then Some BadCount

@@ -34,7 +34,7 @@ pub struct StoredTopic {
     pub count: u32,
 }
 
-/// Whether a topic may have so many partitions.
+/// Whether a topic may have `count` partitions.
 pub fn is_in_range(count: u32) -> bool
     ensures { result ≡ is_count count }
 {

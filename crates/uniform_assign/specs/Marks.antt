@@ -47,7 +47,7 @@ AddsMarks topics set old new =
     (t i : ℕ) (topic : ViewTopic) → slice_get topics t ≡ Some topic → is_marked new t i ≡ true
     → (is_marked old t i ≡ true) ⊎ (has set (part_of topic i) ≡ true)
 
--- the first marks are set, so many of them
+-- the first `count` marks are set
 abbrev pub IsFull : List Bool → ℕ → Type 0
 IsFull marks count = (i : ℕ) → i < count → slice_index_or marks i false ≡ true
 

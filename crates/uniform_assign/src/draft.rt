@@ -17,7 +17,7 @@ pub(crate) struct Draft {
 }
 
 impl Draft {
-    /// Of so many partitions none has an owner, among so many members.
+    /// A draft of partitions without owners, among members.
     pub fn new(alloc: Global, partitions: usize, members: usize) -> Result<Draft, AllocError>
         ensures owners { IfOk result (λ draft. draft.owners.items ≡ replicate partitions None) }
         ensures counts { IfOk result (λ draft. draft.counts.items ≡ replicate members 0) }
@@ -62,7 +62,7 @@ impl Draft {
     }
 }
 
-/// No owner for each of so many partitions.
+/// No owner for each partition.
 pub(crate) fn no_owners(alloc: Global, partitions: usize) -> Result<Vec<Option<usize>>, AllocError>
     ensures { IfOk result (λ owners. owners.items ≡ replicate partitions None) }
 {

@@ -167,7 +167,7 @@ fn are_all_marked(topics: &[ViewTopic], marks: &[Vec<bool>]) -> bool
     true
 }
 
-/// Whether the first marks are set, so many of them.
+/// Whether the first `count` marks are set.
 fn is_full(marks: &[bool], count: usize) -> bool
     ensures { OnTrue result (IsFull marks.now count) }
 {

@@ -17,7 +17,7 @@ pub(crate) struct Order {
 }
 
 impl Order {
-    /// The members that own so many.
+    /// The members in the order of the numbers of partitions that they own.
     pub fn of(alloc: Global, counts: &[usize]) -> Result<Order, AllocError>
         ensures { IfOk result (IsOrder counts.now) }
     {

@@ -107,7 +107,7 @@ fn no_lists(alloc: Global, counts: &[usize]) -> Result<Vec<Vec<Owned>>, AllocErr
     Ok(lists)
 }
 
-/// For each of so many members no pile.
+/// No pile for each member.
 fn no_piles(alloc: Global, members: usize) -> Result<Vec<Vec<Pile>>, AllocError>
     ensures as_many { IfOk result (λ piles. length piles.items ≡ members) }
     ensures empty { IfOk result (λ piles. All (λ (hand : Hand). hand.items ≡ []) piles.items) }

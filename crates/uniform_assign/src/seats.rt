@@ -28,7 +28,7 @@ impl Board<'_> {
     }
 }
 
-/// For each of so many members no place.
+/// No place for each member.
 fn no_seats(alloc: Global, members: usize) -> Result<Vec<Vec<Seat>>, AllocError>
     ensures as_many { IfOk result (λ seats. length seats.items ≡ members) }
     ensures empty { IfOk result (λ seats. All (λ (list : Seated). list.items ≡ []) seats.items) }

@@ -29,7 +29,7 @@ pub(crate) fn takers_of(
     Ok(all)
 }
 
-/// For each of so many topics no taker.
+/// No taker for each topic.
 fn no_takers(alloc: Global, topics: usize) -> Result<Vec<Vec<usize>>, AllocError>
     ensures as_many { IfOk result (λ all. length all.items ≡ topics) }
     ensures empty { IfOk result (λ all. All (λ (takers : HeapVec ℕ). takers.items ≡ []) all.items) }
