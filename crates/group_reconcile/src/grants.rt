@@ -99,7 +99,8 @@ impl Grants {
 
     /// Offers its target to a member that reports what it owns, or nothing (KIP-848, "Reconciliation of the group"): it
     /// moves once it has given up what isn't its target any more, and is then granted what nobody else holds of the target.
-    /// Where memory is short, nothing has changed.
+    /// The target has no index below 0 (`AreIndexed`): each of its partitions is one of a topic, as a [`group_types::Partition`] by itself
+    /// needn't be. Where memory is short, nothing has changed.
     pub fn offer(
         &mut self,
         member: &MemberId,
