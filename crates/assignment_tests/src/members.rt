@@ -1,7 +1,7 @@
 //! Members and topics, as words say them.
 //!
 //! A member is `ID@INSTANCE?ASSIGNOR:TOPIC,TOPIC`, of which all but the id may be left out. A topic is
-//! `NAME#NUMBER*COUNT`: its id ends in the number, and it has so many partitions.
+//! `NAME#NUMBER*COUNT`: its id ends in NUMBER, and it has COUNT partitions.
 
 use crate::parts::topic_id;
 use crate::types::names_of;

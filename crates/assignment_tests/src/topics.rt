@@ -25,7 +25,7 @@ view b,x,a = a:2:5 b:1:3, copied a:2:5 b:1:3
 number = DuplicateName 1 DuplicateId 2 TooMany 3 BadCount 4 NoMemory 5
 ";
 
-/// Images of so many topics of so many partitions each.
+/// Images of alike topics. The words are how many topics there are, and how many partitions each of them has.
 const LIMITS: &str = "
 alike 1 0 = BadCount
 alike 1 -1 = BadCount
@@ -86,7 +86,7 @@ fn entry(alloc: Global, word: &str) -> Result<TopicEntry, AllocError> {
     entry_of(alloc, name, number(id), number(count))
 }
 
-/// So many topics of so many partitions each, with names and ids of their own.
+/// As many topics as the first word says, each with as many partitions as the second says, with names and ids of their own.
 fn alike(alloc: Global, words: &str) -> Result<Vec<TopicEntry>, AllocError> {
     let (topics, count) = cut(words);
     let mut list = Vec::new(alloc);

@@ -74,7 +74,7 @@ struct Setting<'a> {
     former: &'a Spread,
 }
 
-/// Prints the groups of so many members, of one more and of one fewer, that subscribe one topic.
+/// Prints the groups of `members` members, of one more and of one fewer, that subscribe one topic.
 fn print_one_topic(
     rt: &(impl AllocGlobal + Clock + Print),
     mode: Mode,
@@ -119,7 +119,7 @@ fn print_changes(
     Ok(())
 }
 
-/// Prints a group of so many members, each of which subscribes three of four topics.
+/// Prints a group of `members` members, each of which subscribes three of four topics.
 fn print_many_topics(
     rt: &(impl AllocGlobal + Clock + Print),
     mode: Mode,
@@ -136,7 +136,7 @@ fn print_many_topics(
     print_assigned(rt, mode, "uniform, 100 topics", Uniform, setting, members)
 }
 
-/// The owners under an assignor of the first members, so many of them.
+/// The owners under an assignor that is given the first `members` members.
 fn spread_of<A: Assignor + Copy>(
     alloc: Global,
     assignor: A,
@@ -149,7 +149,7 @@ fn spread_of<A: Assignor + Copy>(
     Ok(assignor.assign(alloc, setting.former, &subs, setting.view)?)
 }
 
-/// Prints the line of an assignor that is given the first members, so many of them.
+/// Prints the line of an assignor that is given the first `members` members.
 fn print_assigned<A: Assignor + Copy>(
     rt: &(impl AllocGlobal + Clock + Print),
     mode: Mode,

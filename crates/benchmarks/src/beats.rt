@@ -104,7 +104,7 @@ fn short_text(id: Option<&MemberId>) -> Option<&str>
     }
 }
 
-/// So many partitions of one topic, or no topic where there are none.
+/// One topic with `partitions` partitions, or no topic where that is 0.
 fn topics(alloc: Global, partitions: u16) -> Result<Array<TopicPartitions<'static>>, AllocError>
     ensures { IfOk result (λ topics. IsWritableArray IsWritableTopic (topic_partitions_values topics)) }
 {
@@ -119,7 +119,7 @@ fn topics(alloc: Global, partitions: u16) -> Result<Array<TopicPartitions<'stati
     Ok(topics)
 }
 
-/// The indexes of so many partitions.
+/// The indexes of `partitions` partitions, from 0 on.
 fn indexes(alloc: Global, partitions: u16) -> Result<Array<i32>, AllocError>
     ensures { IfOk result (λ indexes. length indexes ≡ partitions) }
 {

@@ -43,7 +43,7 @@ fn topic_name(alloc: Global, topic: u16) -> Result<String, AllocError> {
     format!(in alloc; "topic-{topic:05}")
 }
 
-/// So many topics, each of so many partitions.
+/// An image of `topics` topics, each of `partitions` partitions.
 pub fn image_of(alloc: Global, topics: u16, partitions: i32) -> Result<Image, Fault> {
     let mut list = Vec::new(alloc);
     for topic in 0..topics {
@@ -60,7 +60,7 @@ fn topic_of(alloc: Global, topic: u16, partitions: i32) -> Result<TopicEntry, Al
     })
 }
 
-/// The names of those of so many topics that a member subscribes.
+/// The names of those of `topics` topics that a member subscribes.
 fn names_of(alloc: Global, topics: u16, wish: Wish, member: u16) -> Result<NameSet, AllocError> {
     let mut names = NameSet::new(alloc);
     for topic in 0..topics {
@@ -72,14 +72,14 @@ fn names_of(alloc: Global, topics: u16, wish: Wish, member: u16) -> Result<NameS
     Ok(names)
 }
 
-/// A view of so many topics, each of so many partitions.
+/// A view of `topics` topics, each of `partitions` partitions.
 pub fn view_of(alloc: Global, topics: u16, partitions: i32) -> Result<View, Fault> {
     let image = image_of(alloc, topics, partitions)?;
     let names = names_of(alloc, topics, Wish::All, 0)?;
     Ok(image.view(alloc, &names)?)
 }
 
-/// So many members of a group that has so many topics.
+/// `members` members of a group that has `topics` topics.
 pub fn seats_of(
     alloc: Global,
     members: u16,
@@ -98,7 +98,7 @@ pub fn seats_of(
     Ok(seats)
 }
 
-/// The first members, so many of them.
+/// The first `members` members.
 pub fn subs_of<'a>(alloc: Global, seats: &'a [Seat], members: u16) -> Result<Subs<'a>, Fault>
     requires { members ≤ length seats.now }
     ensures { IfOk result (λ subs. length subs ≡ members) }

@@ -2,7 +2,7 @@
 ghost use Rattle.std.specs.Prelude.{◌≡◌};
 ghost use Rattle.benchmarks.specs.Rates.{tenths_each, each_second};
 
-/// How long so many repetitions of a work took together.
+/// How long a number of repetitions of a work took together.
 #[derive(Clone, Copy, Debug, PartialEq, Eq)]
 pub struct Pace {
     pub repetitions: u64,

@@ -33,7 +33,7 @@ pub struct Bodies {
 }
 
 impl Settled {
-    /// So many members join one after the other, each without an id. Then each says that it owns nothing at the epoch
+    /// `members` members join one after the other, each without an id. Then each says that it owns nothing at the epoch
     /// at which it joined, and is at the target.
     pub fn with_members(
         alloc: Global,
@@ -88,7 +88,7 @@ impl Settled {
         Ok(self.out.len())
     }
 
-    /// Answers so many of the bodies in turn, and gives how many bytes the replies have. Behind the last body comes the first.
+    /// Answers `times` of the bodies in turn, and gives how many bytes the replies have. Behind the last body comes the first.
     pub fn answer_in_turn(&mut self, bodies: &Bodies, times: u32) -> Result<usize, Fault> {
         let mut bytes = 0usize;
         let mut start = 0usize;
@@ -119,7 +119,7 @@ impl Settled {
     }
 }
 
-/// The numbers from 1 to so many, in an order that looks random, each behind the number by which it came there.
+/// The numbers from 1 to `most`, in an order that looks random, each behind the number by which it came there.
 fn at_random(alloc: Global, most: u16) -> Result<Vec<(u64, u16)>, AllocError> {
     let mut dice = Dice::new(848);
     let mut numbers = Vec::new(alloc);
@@ -130,7 +130,7 @@ fn at_random(alloc: Global, most: u16) -> Result<Vec<(u64, u16)>, AllocError> {
     Ok(numbers)
 }
 
-/// The id that the node makes for the member that joins so many-th, from 1.
+/// The id that the node makes for the member whose join is number `serial`, counted from 1.
 fn id_of(alloc: Global, serial: u64) -> Result<MemberId, AllocError>
     ensures { IfOk result (λ id. id ≡ made_id SALT serial) }
 {

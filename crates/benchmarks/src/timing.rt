@@ -37,7 +37,7 @@ pub fn pace_of<W: Work>(rt: &(impl AllocGlobal + Clock), work: &W) -> Result<Pac
     })
 }
 
-/// The nanoseconds that so many repetitions take together. Each has to give the same answer.
+/// The nanoseconds that `repetitions` repetitions take together. Each has to give the same answer.
 fn batch_time<W: Work>(
     rt: &impl Clock,
     work: &W,

@@ -6,14 +6,14 @@ use Rattle.coord_shards.specs.declared.event.Answer.{Answer}
 use Rattle.coord_shards.specs.Seat.{SeatState}
 use Rattle.coord_shards.specs.Calls.{Shape, SeatCalls, IsTaken}
 
--- an event for each of so many shards, in their order, whatever they answer
+-- an event for each of a number of shards, in their order, whatever they answer
 unfoldable pub CallsEach : Shape → (ℕ → Event) → ℕ → SeatState → SeatState → Type 0
 CallsEach shape event zero seat after = after ≡ seat
 CallsEach shape event (suc shard) seat after =
     (between : SeatState) × (answer : Answer) × CallsEach shape event shard seat between
     × SeatCalls shape between (event shard) answer after
 
--- an event for each of so many shards, in their order, which each of them took
+-- an event for each of a number of shards, in their order, which each of them took
 unfoldable pub TellsEach : Shape → (ℕ → Event) → ℕ → SeatState → SeatState → Type 0
 TellsEach shape event zero seat after = after ≡ seat
 TellsEach shape event (suc shard) seat after =

@@ -45,7 +45,7 @@ impl<'a, S: Incoming<K>, K: Drop> Acceptor<'a, S, K> {
         }
     }
 
-    /// Takes so many connections, and then no more: the workers hear of it. Waits until they all have ended. Gives how many it took.
+    /// Takes `most` connections, and then no more: the workers learn of it. Waits until they all have ended. Gives how many it took.
     ///
     /// It stops, with a fault, where a thread has ended with a fault, and where the system refuses to wait.
     pub fn run<R: Wait>(self, rt: &R) -> Result<u64, ServerFault>
@@ -68,7 +68,7 @@ impl<'a, S: Incoming<K>, K: Drop> Acceptor<'a, S, K> {
         Ok(accepted)
     }
 
-    /// Takes connections until so many have come.
+    /// Takes connections until `most` have come.
     fn accept_all<R: Wait>(&mut self, rt: &R) -> Result<(), ServerFault>
         ensures all { OnOk result (self.new.accepted ≡ self.old.most) }
         ensures most { self.new.most ≡ self.old.most }
@@ -115,7 +115,7 @@ impl<'a, S: Incoming<K>, K: Drop> Acceptor<'a, S, K> {
     }
 }
 
-/// Waits until so many workers have ended.
+/// Waits until `workers` workers have ended.
 fn wait_for_workers<R: Wait>(
     rt: &R,
     watch: Watch,

@@ -16,8 +16,8 @@ use std::io;
 use std::marker::PhantomData;
 use tokio::runtime::Handle;
 
-/// The lines of the connections that are handed to one of so many workers, at its event loop. A connection that can't be taken, for want
-/// of memory, is closed.
+/// The lines of the connections that are handed to the worker with the number `worker`, of `workers`, at its event loop. A connection
+/// that can't be taken, for want of memory, is closed.
 #[derive(Drop)]
 pub struct Arrivals<K: Drop, I: Drop, O: Drop> {
     handed: UnboundedReceiver<Handed<K>>,
@@ -28,7 +28,7 @@ pub struct Arrivals<K: Drop, I: Drop, O: Drop> {
     opens: PhantomData<(I, O)>,
 }
 
-/// The lines at an event loop of the worker that follows those to whom the ways lead, of so many. The way of connections to it is put
+/// The lines at an event loop of the worker, of `workers`, that follows those that `posts` lead to. The way of connections to it is put
 /// behind theirs.
 pub fn arrivals_of<K: Drop, I: Drop, O: Drop>(
     alloc: Global,

@@ -43,7 +43,7 @@ impl<'a, R: Clock> Socket<'a, R> {
         Ok((reads, writes))
     }
 
-    /// A silence of so many times the seconds, where it is closed for any.
+    /// A silence of `times` times `idle` seconds, or none where `idle` is none.
     fn silence(&self, handle: &Handle, times: u64) -> io::Result<Option<Silence<'a, R>>>
         ensures { IfOk result (λ silence. (IsSome silence → IsSome self.now.idle) × IfSome self.now.idle (λ seconds.
             IsSomeAnd silence (λ silence. as_nanos silence.longest ≡ min (seconds * times) (2 ^ 64 - 1) * 1_000_000_000))) }

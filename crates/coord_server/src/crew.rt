@@ -98,7 +98,7 @@ where
     Ok(workers)
 }
 
-/// Adds the worker at a desk to those to whom the ways lead, of so many. The way of connections to it is put behind theirs.
+/// Adds the worker at a desk to `workers`, and the way of connections to it to `posts`. There are to be `number` workers in all.
 fn add_worker<'a, D, R, K, I, O>(
     rt: &R,
     desk: D,
@@ -121,7 +121,7 @@ where
     Ok(workers.push(worker)?)
 }
 
-/// The worker at a desk that follows those to whom the ways lead, of so many. The way of connections to it is put behind theirs.
+/// The worker at a desk, of `workers`, that follows those that `posts` lead to. The way of connections to it is put behind theirs.
 fn worker_of<'a, D, R, K, I, O>(
     rt: &R,
     desk: D,

@@ -43,7 +43,7 @@ where
     Ok(Desks { workers, clocks })
 }
 
-/// So many desks over shards, each with a seat of its own.
+/// Desks over shards, `number` of them, each with a seat of its own.
 fn so_many<'a, A, C, G, M, R, W>(
     rt: &'a R,
     shards: &'a Shards<A, C, G>,

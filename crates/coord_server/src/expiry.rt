@@ -17,7 +17,7 @@ use tokio::time::{Handle, Interval, MissedTickBehavior};
 /// After how many milliseconds the time of the shards goes on.
 const TICK: u64 = 500;
 
-/// After so many milliseconds without a round the process was paused, and what waits for it goes first.
+/// After more than this number of milliseconds without a round the process was paused, and what waits for it goes first.
 const LONGEST_ROUND: u64 = 5_000;
 
 /// Lets the time of a desk's shards go on in rounds, one at each instant of an interval. The round after a pause, as where the

@@ -3,7 +3,7 @@ ghost use Rattle.std.specs.Prelude.{◌≡◌, ◌%◌, ◌<◌};
 
 use futures::channel::mpsc::UnboundedSender;
 
-/// The number of the worker that a connection goes to, of so many workers.
+/// The number of the worker, of `workers`, that a connection goes to.
 pub fn worker_of(connection: u64, workers: usize) -> usize
     requires { 0 < workers }
     ensures worker { result ≡ connection % workers }
@@ -12,7 +12,7 @@ pub fn worker_of(connection: u64, workers: usize) -> usize
     (connection % workers as u64) as usize
 }
 
-/// A connection with its number, and the number of its worker of so many.
+/// A connection with its number, and the number of its worker, of `workers`.
 #[derive(Drop)]
 pub struct Handed<K> {
     pub connection: K,
@@ -24,7 +24,7 @@ pub struct Handed<K> {
 }
 
 impl<K> Handed<K> {
-    /// The connection with this number, for its worker of so many.
+    /// The connection with this number, for its worker, of `workers`.
     pub fn new(connection: K, number: u64, workers: usize) -> Handed<K>
         requires { 0 < workers }
         ensures given { (result.connection ≡ connection) × (result.number ≡ number) × (result.workers ≡ workers) }
@@ -40,7 +40,7 @@ impl<K> Handed<K> {
     }
 }
 
-/// The way of connections to the worker with this number, of so many.
+/// The way of connections to the worker with the number `worker`, of `workers`.
 #[derive(Drop)]
 pub struct Post<K: Drop> {
     pub sender: UnboundedSender<Handed<K>>,

@@ -17,7 +17,7 @@ pub struct Listener<'a, R> {
 }
 
 impl<'a, R> Listener<'a, R> {
-    /// A socket that listens, whose connections are closed after so many seconds without a byte.
+    /// A socket that listens, whose connections are closed after `idle` seconds without a byte, where it says any.
     pub fn of(
         clock: &'a R,
         socket: std::net::TcpListener,

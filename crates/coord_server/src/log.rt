@@ -20,7 +20,7 @@ impl<W: Write> EndLog<W> {
         }
     }
 
-    /// Writes that the connection with this number has ended, after so many answered frames. A line that can't be written is lost.
+    /// Writes that the connection with this number has ended, with `answered` frames answered. A line that can't be written is lost.
     pub fn tell<R: Wait>(&self, rt: &R, connection: u64, answered: u64, end: End) {
         let Some(writer) = &self.writer else {
             return;

@@ -6,7 +6,7 @@ ghost use Rattle.std.specs.Prelude.{◌<◌};
 pub struct Plan {
     /// How many workers serve the connections: 1 to 64.
     pub workers: usize,
-    /// After so many connections the server takes no more, and ends once these have ended.
+    /// After this number of connections the server takes no more, and ends once these have ended.
     pub connections: u64,
     /// Whether an expiry worker runs.
     pub expires: bool,

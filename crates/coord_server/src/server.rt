@@ -28,7 +28,7 @@ use std::sync::ledger::Ledger;
 use std::thread::Threads;
 use std::time::Clock;
 
-/// Serves the connections of a listening socket over shards, until so many have ended as the plan says. Gives their number.
+/// Serves the connections of a listening socket over shards, until as many have ended as the plan says. Gives their number.
 ///
 /// It announces that it serves once all its threads are there, and logs each end of a connection.
 pub fn serve_sockets<A, C, G, M, R, N, W>(
@@ -54,7 +54,7 @@ where
     serve(rt, shards, incoming, moments, plan, announce, log)
 }
 
-/// Serves connections over shards, until so many have ended as the plan says. Gives their number.
+/// Serves connections over shards, until as many have ended as the plan says. Gives their number.
 pub fn serve<A, C, G, M, R, S, K, I, O, N, W>(
     rt: &R,
     shards: &Shards<A, C, G>,

@@ -25,7 +25,7 @@ pub struct Silence<'a, R> {
 }
 
 impl<'a, R: Clock> Silence<'a, R> {
-    /// A silence that hasn't begun, and may last so many seconds.
+    /// A silence that hasn't begun, and may last `seconds` seconds.
     pub fn new(clock: &'a R, timers: &Handle, seconds: u64) -> io::Result<Silence<'a, R>>
         ensures { IfOk result (λ silence. as_nanos silence.longest ≡ seconds * 1_000_000_000) }
     {

@@ -164,7 +164,7 @@ where
     accepted
 }
 
-/// Announces that all threads are there, which are so many workers and expiry workers, and runs the acceptor.
+/// Announces that all threads are there, and runs the acceptor. `there` says how many workers and expiry workers there are.
 fn accept<R, S, K, N>(
     rt: &R,
     plan: Plan,

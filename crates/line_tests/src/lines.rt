@@ -272,7 +272,7 @@ impl Streaming {
         }
     }
 
-    /// How many of these lines have ended once their worker is ready, if it is within so many polls.
+    /// How many of these lines have ended once their worker is ready, if it is within `polls` polls.
     fn ended_within<W: WriteParts>(
         &self,
         alloc: Global,

@@ -1,10 +1,10 @@
 //! Words for what a reader gives and for what a writer takes.
 //!
-//! Bytes are named by words: `NAME` is a frame, `NAME*N` so many of it, `NAME:N` its first so many bytes, `NAME/N` the first so
-//! many bytes of its body behind the size that fits them, and any other word hex.
+//! Bytes are named by words: `NAME` is a frame, `NAME*N` N of it, `NAME:N` its first N bytes, `NAME/N` the first N bytes of its
+//! body behind the size that fits them, and any other word hex.
 //!
 //! What each poll does is said by words that are joined by `+`: `N` moves N bytes at most, `p` is pending, `f` fails, and `X*N` does
-//! this so many times; `-` is no poll. Past them each poll moves all that it can.
+//! X N times; `-` is no poll. Past them each poll moves all that it can.
 
 use bytes::BytesMut;
 use futures::Future;
@@ -111,7 +111,7 @@ pub fn task_of<R: RandomSource + AllocGlobal>(rt: &R) -> io::Result<MockTask> {
     MockTask::new(rt).or_else(|_| MockTask::new(rt))
 }
 
-/// What a future gives within so many polls, or none where it gives nothing by then or waits for what never comes.
+/// What a future gives within `polls` polls, or none where it gives nothing by then or waits for what never comes.
 pub fn output_within<F: Future>(task: &MockTask, future: F, polls: usize) -> Option<F::Output>
     requires { F.can_poll future }
 {
@@ -163,7 +163,7 @@ fn put_bytes(
     Ok(())
 }
 
-/// Appends the first so many bytes of a frame's body, behind the size that fits them.
+/// Appends the first `most` bytes of a frame's body, behind the size that fits them.
 fn put_cut_body(
     name: &str,
     most: u32,
@@ -192,7 +192,7 @@ pub fn put_words(bytes: &[u8], frames: &Frames, out: &mut String) -> Result<(), 
     put_rest(left, frames, out)
 }
 
-/// Puts a frame that stands so many times in a row.
+/// Puts a frame that stands `count` times in a row.
 fn put_frame(name: &str, count: usize, out: &mut String) -> Result<(), AllocError> {
     part_words(out)?;
     out.push_str(name)?;

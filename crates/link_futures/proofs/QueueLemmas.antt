@@ -78,7 +78,7 @@ module _ (replies : List Reply) (buffers : List Filled) (tail : List ℕ) (all :
       waiting_bytes after (joined buffers longer) fits ∙ ap (λ xs. bytes_in buffers ++ xs) appended ∙ sym (append_assoc (bytes_in buffers) tail more)
       ∙ ap (λ xs. xs ++ more) (sym unsent_bytes)
 
-  -- so many bytes of the buffers were written
+  -- `count` bytes of the buffers were written
   pub bytes_dropped : (after : List Reply) (left : List Filled) (count : ℕ) → count ≤ length (bytes_in buffers) → bytes_in left ≡ drop count (bytes_in buffers)
       → unsent_of after + count ≡ unsent_of replies
       → (unsent_of after ≡ length (joined left tail)) × (bytes_of_all (waiting_in after (joined left tail)) ≡ drop count (bytes_of_all waiting))
@@ -108,7 +108,7 @@ take_both n xs ys =
     ap (λ k. take k (xs ++ ys)) cut ∙ take-append-add xs ys (n - length xs) ∙ ap (λ zs. zs ++ take (n - length xs) ys) (sym (take_all n xs h)))
     (cases_lt n (length xs))
 
--- one more buffer's bytes are among the first so many
+-- one more buffer's bytes are among the first `most`
 pub front_with : (buffers : List Filled) (place most left : ℕ) (buffer : Filled) (len : ℕ) → place < length buffers → buffer ≡ slice_index_or buffers place buffer
     → left ≡ most - length (bytes_in (take place buffers)) → len ≡ min left (length buffer.items)
     → (left - len ≡ most - length (bytes_in (take (place + 1) buffers))) × (take most (bytes_in (take place buffers)) ++ take len buffer.items ≡ take most (bytes_in (take (place + 1) buffers)))

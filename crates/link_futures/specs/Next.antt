@@ -4,7 +4,7 @@ use Rattle.link_futures.specs.declared.inbox.Next.{Next}
 use Rattle.link_futures.specs.declared.inbox.Next.TheVariants.{Partial, Whole, Refused}
 use Rattle.link_futures.specs.Framing.{frame_of, IsBody, BeginsWithFrame, BeginsWithRefusedSize}
 
--- the bytes are a frame with the next so many bytes for its body, and the rest
+-- the bytes are a frame whose body is the next `size` bytes, and the rest
 pub record IsFront (bytes : List ℕ) (size : ℕ) : Type 0 where
   pub whole : bytes ≡ frame_of (take size (drop 4 bytes)) ++ drop size (drop 4 bytes)
   pub is_body : IsBody (take size (drop 4 bytes))

@@ -6,7 +6,7 @@ use Rattle.link_futures.specs.declared.heard.Heard.{Heard}
 use Rattle.link_futures.specs.declared.heard.Heard.TheVariants.{Partial, Whole, Refused}
 use Rattle.link_futures.specs.Framing.{frame_of}
 
--- a reply's body may have so many bytes
+-- a reply's body may have `size` bytes
 abbrev pub IsReplySize : ℕ → Type 0
 IsReplySize size = (1 ≤ size) × (size ≤ 16777216)
 
@@ -23,7 +23,7 @@ pub record BeginsWithRefusedReply (bytes : List ℕ) : Type 0 where
   pub refused : (size <ℤ pos 1) ⊎ (pos 16777216 <ℤ size)
   pub whole : bytes ≡ int32 size ++ rest
 
--- the bytes begin with a size, and at least so many bytes of the body behind it are missing
+-- the bytes begin with a size, and of the body behind it at least `missing` bytes aren't there
 pub record LacksOfBody (missing : ℕ) (bytes : List ℕ) : Type 0 where
   pub size : ℕ
   pub rest : List ℕ
@@ -31,7 +31,7 @@ pub record LacksOfBody (missing : ℕ) (bytes : List ℕ) : Type 0 where
   pub whole : bytes ≡ int32 (pos size) ++ rest
   pub lacks : length rest + missing ≤ size
 
--- at least so many bytes of a reply are missing: of its size, or of its body
+-- at least `missing` bytes of a reply aren't there: of its size, or of its body
 abbrev pub LacksOfReply : ℕ → List ℕ → Type 0
 LacksOfReply missing bytes = (length bytes + missing ≤ 4) ⊎ LacksOfBody missing bytes
 

@@ -21,7 +21,7 @@ module _ {R W : Type 0} where
     pub place : place_of line ≡ record { connection = connection; answered = 0; is_closed = false }
     pub not_over : line.is_over ≡ false
 
-  -- the frame at the front may be answered, and its body has so many bytes
+  -- the frame at the front may be answered, and its body has `len` bytes
   pub record IsAnswerable (line : Line R W) (len : ℕ) : Type 0 where
     pub front : IsFront line.inbox len
     pub room : HasRoom line

@@ -30,7 +30,7 @@ pub trait Desk: Drop {
         true
     }
 
-    /// Hears that the line of the connection with this number has ended, after so many answered frames. A worker says it of each
-    /// of its lines.
+    /// Is told the end of the line of the connection with this number, how many frames were answered, and why it ended. A worker
+    /// tells it of each of its lines.
     fn hear_end(&self, _connection: u64, _answered: u64, _end: End) {}
 }

@@ -20,7 +20,7 @@ pub(crate) enum Heard {
     Refused,
 }
 
-/// How far the reply has come of which these bytes are there: an INT32 size and so many bytes (Kafka protocol guide,
+/// How far the reply has come of which these bytes are there: an INT32 size and that many bytes (Kafka protocol guide,
 /// "Protocol").
 pub(crate) fn heard_of(bytes: &[u8]) -> Heard
     requires { LacksOfReply 0 bytes.now }

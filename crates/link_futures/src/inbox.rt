@@ -24,7 +24,7 @@ const SMALL_READ: usize = 3_072;
 /// ended in.
 const KEPT: usize = 3_328;
 
-/// After so many reads in a row that found nothing, a line is quiet.
+/// After this number of reads in a row that found nothing, a line is quiet.
 const QUIET_READS: u8 = 200;
 
 /// What the bytes begin with.
@@ -96,7 +96,7 @@ impl Inbox {
         self.next
     }
 
-    /// The body of the frame at the front, which has so many bytes. It is lent and not copied.
+    /// The body of the frame at the front, which has `len` bytes. It is lent and not copied.
     pub(crate) fn body(&self, len: usize) -> &[u8]
         requires { 4 + len ≤ length self.now }
         ensures { result.now ≡ take len (drop 4 self.now) }
@@ -104,7 +104,7 @@ impl Inbox {
         &self.buffer.as_slice()[SIZE_BYTES..SIZE_BYTES + len]
     }
 
-    /// Drops the frame at the front, whose body has so many bytes.
+    /// Drops the frame at the front, whose body has `len` bytes.
     pub(crate) fn drop_frame(&mut self, len: usize)
         requires { 4 + len ≤ length self.old }
         ensures { self.new ≡ drop len (drop 4 self.old) }
@@ -168,7 +168,7 @@ impl Inbox {
     }
 }
 
-/// Reads once, at most so many bytes, and appends them. Where memory is short nothing is read.
+/// Reads once, at most `room` bytes, and appends them. Where memory is short nothing is read.
 pub(crate) fn read_into<R: ReadPart>(
     buffer: &mut BytesMut,
     room: usize,
@@ -210,7 +210,7 @@ fn read_behind<R: ReadPart>(
     reader.poll_read_part(cx, &mut bytes[before..])
 }
 
-/// What bytes begin with: a frame is an INT32 size and so many bytes (Kafka protocol guide, "Protocol").
+/// What bytes begin with: a frame is an INT32 size and that many bytes (Kafka protocol guide, "Protocol").
 fn next_of(bytes: &[u8]) -> Next
     ensures { IsNext result bytes.now }
 {

@@ -15,7 +15,7 @@ use tokio::io::{AsyncRead, AsyncWrite};
 /// What a poll of a [`Feed`] or a [`Drain`] does.
 #[derive(Clone, Copy, Debug, PartialEq, Eq)]
 pub enum PollAct {
-    /// It moves so many bytes at most.
+    /// It moves at most this number of bytes.
     Bytes(usize),
     /// It is pending, and asks for another poll.
     Pending,
@@ -69,7 +69,7 @@ impl AsyncRead for Feed {
     }
 }
 
-/// A writer over memory, with room for so many bytes, that follows a list of what each poll does. Past the list each poll
+/// A writer over memory, with room for a number of bytes, that follows a list of what each poll does. Past the list each poll
 /// takes all that it has room for.
 #[derive(Drop)]
 pub struct Drain {
@@ -136,7 +136,7 @@ impl AsyncWrite for Drain {
     }
 }
 
-/// Appends so many bytes at most of the buffers joined in order. Says how many.
+/// Appends at most `most` bytes of the buffers joined in order. Says how many.
 fn take_parts(taken: &mut Vec<u8>, bufs: &[IoSlice<'_>], most: usize) -> usize
     ensures bound { result ≤ length (io_slices_bytes bufs.now) }
     ensures bytes { taken.new.items ≡ taken.old.items ++ take result (io_slices_bytes bufs.now) }

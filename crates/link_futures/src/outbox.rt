@@ -20,7 +20,7 @@ use std::io::IoSlice;
 use std::marker::Model;
 use std::mem;
 
-/// With so many unsent bytes a write is worth its while, and no longer waits for further replies.
+/// With at least this number of unsent bytes a write is worth its while, and doesn't wait for further replies.
 const GATHERED: usize = 8_192;
 
 /// The room of a queue that a line keeps while it has nothing to write.
@@ -146,7 +146,7 @@ impl Outbox {
         self.unsent
     }
 
-    /// Writes once, at most so many bytes, and drops what was written.
+    /// Writes once, at most `most` bytes, and drops what was written.
     pub(crate) fn write<W: WriteParts>(
         &mut self,
         most: usize,
@@ -196,7 +196,7 @@ impl Outbox {
     }
 }
 
-/// Writes once, at most so many bytes of the first buffers.
+/// Writes once, at most `most` bytes of the first buffers.
 fn write_front<W: WriteParts>(
     buffers: &VecDeque<BytesMut>,
     most: usize,
@@ -222,7 +222,7 @@ fn write_front<W: WriteParts>(
     writer.poll_write_parts(cx, &parts[..count])
 }
 
-/// Takes so many bytes as written from the first replies, and drops those of which none is left.
+/// Counts `count` bytes of the first replies as written, and drops the replies of which none is left.
 fn drop_replies(replies: &mut VecDeque<Reply>, count: usize)
     requires there { count ≤ unsent_of replies.old.items }
     requires some { All (λ r. 0 < r.unsent) replies.old.items }
@@ -241,7 +241,7 @@ fn drop_replies(replies: &mut VecDeque<Reply>, count: usize)
     }
 }
 
-/// Drops the first so many bytes, buffer by buffer.
+/// Drops the first `count` bytes, buffer by buffer.
 fn drop_bytes(buffers: &mut VecDeque<BytesMut>, count: usize)
     requires { count ≤ length (bytes_in buffers.old.items) }
     ensures bytes { bytes_in buffers.new.items ≡ drop count (bytes_in buffers.old.items) }

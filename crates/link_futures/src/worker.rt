@@ -14,10 +14,10 @@ use futures::task::{Context, Poll};
 use futures::{Future, Stream};
 use std::alloc::Global;
 
-/// So many lines have turns and none of them rests: to give them all a turn costs less than to wake one.
+/// Up to this number of lines have turns and none of them rests: to give them all a turn costs less than to wake one.
 const FEW_LINES: usize = 16;
 
-/// The most rounds of a poll. In so many a line may answer as many frames as there may be unsent replies.
+/// The most rounds of a poll. In all of them a line may answer as many frames as there may be unsent replies.
 const MOST_ROUNDS: usize = 64;
 
 /// Many lines over one desk. In a round it looks once for an arrival and gives each line one turn, so no line waits for another

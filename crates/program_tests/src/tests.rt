@@ -101,7 +101,7 @@ impl Runner {
         )
     }
 
-    /// One part of a row, so many times.
+    /// One part of a row, `times` times over.
     fn text_of(&self, row: &str, part: Part, times: usize) -> Result<String, AllocError> {
         let lines = self.lines_of(row, part)?;
         let mut text = String::new(self.alloc);

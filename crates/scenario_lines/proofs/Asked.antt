@@ -113,7 +113,7 @@ numbered_one words a number is n =
     let same : n.word ≡ a = cc in
     subst (λ w. SpellsNumber w number) same n.spells
 
--- so many words
+-- the texts of words are as many as the words
 pub length-are : (words : List (Bor (List ℕ))) (list : List (List ℕ)) → map (λ word. word.now) words ≡ list → length words ≡ length list
 length-are [] list is = ap length is
 length-are (word ∷ words) list is = omega (arith, ap length is, length-are words (map (λ w. w.now) words) refl)

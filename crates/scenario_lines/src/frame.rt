@@ -17,7 +17,7 @@ pub fn body_of(frame: &[u8]) -> Option<&[u8]>
     Some(body)
 }
 
-/// The bytes of a frame behind its size, where the size is their number. A frame is an INT32 size and so many bytes
+/// The bytes of a frame behind its size, where the size is their number. A frame is an INT32 size and that many bytes
 /// (Kafka protocol guide, "Protocol").
 pub fn framed(frame: &[u8]) -> Option<&[u8]>
     ensures some { IfSome result (λ body. IsFrame body.now frame.now) }

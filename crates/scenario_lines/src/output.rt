@@ -8,7 +8,7 @@ use std::io;
 use std::io::{Error, ErrorKind, Write};
 use std::marker::Model;
 
-/// The most bytes of one write, and so many that are held make the output full.
+/// The most bytes of one write. An output that holds at least this number of bytes is full.
 const PIECE: usize = 65_536;
 
 /// Lines that are printed and not yet written.

@@ -127,7 +127,7 @@ fn of_request(alloc: Global, word: &str, stamp: Stamp) -> Result<String, AllocEr
     )
 }
 
-/// Why a word is no frame of a request with so many bytes, or nothing where it is one.
+/// Why a word is no frame of a request with a body of `least` to `most` bytes, or nothing where it is one.
 fn of_hex(alloc: Global, word: &str, least: usize, most: usize) -> Result<String, AllocError> {
     match words::bytes_of(alloc, word) {
         Ok(frame) => of_frame(alloc, frame.as_slice(), least, most),

@@ -125,7 +125,7 @@ pub fn service_of(
     })
 }
 
-/// How many workers serve with so many processors.
+/// How many workers serve where there are `processors` processors.
 fn usual_workers(processors: usize) -> u64
     ensures { (1 ≤ result) × (result ≤ MOST_WORKERS) }
 {

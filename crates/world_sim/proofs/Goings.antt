@@ -19,7 +19,7 @@ use Rattle.world_sim.proofs.RoundTurns.{IsReadyFor, Back, it, another, answered,
 use Rattle.world_sim.proofs.SceneLemmas.{some_at}
 use Rattle.world_sim.proofs.ThreeRounds.{begins, numbered_below}
 
--- Of so many clients those before a number have so many numbers left, and the others one more.
+-- Of `count` clients those before client `n` have `left` numbers left, and the others one more.
 pub record IsGoing (count left n : ℕ) (w : World) : Type 0 where
   pub ready : IsReadyFor w
   pub there : (k : ℕ) → 0 < k → k < 1 + count → (c : Client) × (numbered w.clients k ≡ Some c)

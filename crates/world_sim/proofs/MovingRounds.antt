@@ -84,7 +84,7 @@ OneStays = told One 4 2 1 None (set_of One false)
 abbrev TwoStays : ℕ → Record
 TwoStays frame = told Two frame 2 0 None (set_of Two true)
 
--- the records and the grants after so many beats
+-- the records and the grants after a number of beats, in which each name ends
 abbrev Records1 : Records
 Records1 = finite.insert FIRST_RECORDS (id_of One) OneAsked
 

@@ -80,7 +80,7 @@ assigned_as x false = refl
 
 -- ---- what it is inside, and in which worlds
 
--- after so many requests, at an epoch; whether it owns its partition, and whether it is shown it
+-- after `number` requests, at an epoch; whether it owns its partition, and whether it is shown it
 abbrev pub insider : Newcomer → ℕ → ℕ → Bool → Bool → Client
 insider x number epoch owns shows =
     record (client_of x) { place = Inside; id = Some (id_of x); epoch = epoch; own = set_of x owns; shown = set_of x shows; number = number }

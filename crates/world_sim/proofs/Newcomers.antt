@@ -101,7 +101,7 @@ reply_to x = reply_at x (pos (number_of x)) true
 
 -- ---- the group
 
--- what so many joins have left, where nothing else has happened
+-- the group after a number of joins, where nothing else has happened
 abbrev pub after_joins : ℕ → Records → Target → Grants → Topics → Group
 after_joins joins records target grants view =
     record (new_group 0) {

@@ -348,7 +348,7 @@ stops_round w now new place faults.TooLarge below turned (refused, same) =
     )
 stops_round w now new place faults.Forgotten below turned never = absurd never
 
--- after so many rounds
+-- after a number of rounds
 pub stops_settling : (w now new : World) (rounds : ℕ) (fault : WorldFault) → CanSettle w → rounds < 3 → length now.clients ≡ length w.clients → Rounds rounds w now → HasRound now (Err fault) new → IsSettling w (Err fault) new
 stops_settling w now new rounds faults.NoSuchClient can few same made never = absurd never
 stops_settling w now new rounds faults.NoSuchMessage can few same made never = absurd never

@@ -54,7 +54,7 @@ pub data Outcome : Type 0 where
   IsIgnored : Outcome
   IsCommitted : ℕ → Outcome  -- under this number
   IsAnswered : CommitReplyValue → Outcome
-  IsRemoved : ℕ → Outcome  -- so many members
+  IsRemoved : ℕ → Outcome  -- this number of members
   IsDone : Outcome
 
 -- a refused act changes nothing

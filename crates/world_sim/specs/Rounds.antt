@@ -35,7 +35,7 @@ pub record HasTurn (w : World) (n : ℕ) (new : World) : Type 0 where
   pub states : List Outcome
   pub releases : Run told (map (Release n) (in_order (to_release client))) states new
 
--- client after client, from a number on, so many of them
+-- the turns of a number of clients, one after the other, from client `n` on
 abbrev pub TurnsFrom : ℕ → ℕ → World → World → Type 0
 TurnsFrom n zero w new = new ≡ w
 TurnsFrom n (suc clients) w new = (middle : World) × HasTurn w n middle × TurnsFrom (suc n) clients middle new
@@ -53,7 +53,7 @@ Settles w new = Rounds 3 w new
 
 -- ---- rounds that a fault stops
 
--- so many rounds were made, and of the next one the turns of the clients before this one
+-- `rounds` rounds were made, and of the next one the turns of the clients before client `n`
 pub record ComesTo (w : World) (n : ℕ) (new : World) : Type 0 where
   pub rounds : ℕ
   pub below : rounds < 3

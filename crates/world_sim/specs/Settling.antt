@@ -65,7 +65,7 @@ HasReleased w n (Ok done) new =
     (client : Client) × (numbered w.clients n ≡ Some client) × (states : List Outcome) × Run w (map (Release n) (in_order (to_release client))) states new
 HasReleased w n (Err short) new = new ≡ w
 
--- a round is made; or after so many turns of it the next client's beat is too large, or memory runs out
+-- a round is made; or after a number of its turns the next client's beat is too large, or memory runs out
 abbrev pub HasRound : World → Result (Unit {0}) WorldFault → World → Type 0
 HasRound w (Ok done) new = Round w new
 HasRound w (Err NoSuchClient) new = ⊥

@@ -27,7 +27,7 @@ RoundsGo first = CanSettle first → (n : ℕ) (w : World) → ComesTo first n w
 abbrev pub RoundsKeepClients : World → Type 0
 RoundsKeepClients first = CanSettle first → (rounds : ℕ) (w : World) → rounds < 3 → Rounds rounds first w → length w.clients ≡ length first.clients
 
--- In a world that could settle so many turns of the three rounds have been made that the next one is this client's.
+-- The turns of the three rounds have been made, in a world that could settle, up to one of client `n`, which is the next.
 pub record IsUnderway (w : World) (n : ℕ) : Type 0 where
   pub first : World
   pub reached : IsReached first

@@ -80,7 +80,7 @@ impl Scene {
     }
 }
 
-/// The place of a number from 1 among so many.
+/// The place among `count` places of a number that counts from 1.
 pub(crate) fn place_of(number: usize, count: usize) -> Option<usize>
     ensures { MatchOption result ((number ≡ 0) ⊎ (count < number)) (λ place. (number ≡ place + 1) × (place < count)) }
 {
@@ -90,8 +90,8 @@ pub(crate) fn place_of(number: usize, count: usize) -> Option<usize>
     Some(number - 1)
 }
 
-/// Leaves of each commit's `since` only what is granted still, where a tick removed so many members: it takes back only
-/// what they held. Takes no memory.
+/// Leaves of each commit's `since` only what is granted still, after a tick that removed `removed` members: it takes back
+/// only what they held. Takes no memory.
 fn cut_after(commits: &mut Vec<Commit>, node: &Node, removed: usize)
     requires { removed ≡ 0 → map (cut node.now) commits.old.items ≡ commits.old.items }
     ensures { commits.new.items ≡ map (cut node.now) commits.old.items }

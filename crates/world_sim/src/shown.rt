@@ -20,7 +20,7 @@ pub enum Shown {
     Committed { commit: usize },
     /// A commit was answered by this frame, which is not kept.
     Answered { reply: Frame },
-    /// So many members were removed.
+    /// Members were removed: this is their number.
     Removed { members: usize },
     /// Nothing is to be shown.
     Done,

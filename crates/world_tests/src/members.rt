@@ -23,9 +23,9 @@ const LONGEST_TOLD: usize = 100;
 
 /// Steps of members, and what comes of each. Members come one after the other.
 ///
-/// - `member GROUP INSTANCE RACK ASSIGNOR TIMEOUT TOPICS`: a new member. `COUNT*LENGTH` in place of topics is so many names of one length.
+/// - `member GROUP INSTANCE RACK ASSIGNOR TIMEOUT TOPICS`: a new member. `COUNT*LENGTH` in place of topics is COUNT names of LENGTH bytes.
 /// - `join`, `beat short`, `beat owned`, `beat full`, `leave`, `away`: the frame of the request, or `fault` and its number.
-/// - `commit N FIRST COUNT`: the frame of a commit with correlation id N of offset 5, for so many partitions of the topic `t`.
+/// - `commit N FIRST COUNT`: the frame of a commit with correlation id N of offset 5, for COUNT partitions of the topic `t`.
 /// - `take N CODE ID EPOCH SHOWN`: the body of a reply to request N, behind each of its proper beginnings, on which the member waits
 ///   on. SHOWN is `null`, `-`, indexes of the topic `U`, or `many`: 27 topics of 1,000 partitions, of which `U` is the first. A reply
 ///   with another code than 0 has the text `no`.

@@ -9,7 +9,7 @@ use flex_wire::TaggedFields;
 use kip_msgs::{Array, CommitRequestPartition, CommitRequestTopic};
 use std::alloc::{AllocError, Global};
 
-/// Offset 5 of so many partitions of the topic `t`, from a first index on.
+/// Offset 5 of `count` partitions of the topic `t`, from the index `first` on.
 pub fn offsets_of(
     alloc: Global,
     first: i32,

@@ -31,7 +31,7 @@ pub fn settings_of(alloc: Global, words: &str) -> Result<Settings, AllocError>
     })
 }
 
-/// The names of topics: parted by commas, or `COUNT*LENGTH` for so many names of one length.
+/// The names of topics: parted by commas, or `COUNT*LENGTH` for COUNT names of LENGTH bytes.
 fn names_of(alloc: Global, topics: &str) -> Result<Vec<String>, AllocError>
     ensures { IfOk result (λ names. All IsShort (map string_bytes names.items)) }
 {
@@ -45,7 +45,7 @@ fn names_of(alloc: Global, topics: &str) -> Result<Vec<String>, AllocError>
     Ok(names)
 }
 
-/// So many names of so many bytes.
+/// Names of `length` bytes, `count` of them.
 fn long_names(alloc: Global, count: usize, length: usize) -> Result<Vec<String>, AllocError>
     ensures { IfOk result (λ names. All IsShort (map string_bytes names.items)) }
 {

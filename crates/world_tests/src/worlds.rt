@@ -26,7 +26,7 @@ struct Play {
 
 /// The clients and what they do. A client is told as its state and `ID@EPOCH:OWN`, of its id the last digit.
 ///
-/// - `image U COUNT`, `image V COUNT`: the topic `t` has this id and so many partitions. `clock MS`, `tick MS`: the clock is set, and
+/// - `image U COUNT`, `image V COUNT`: the topic `t` has this id and COUNT partitions. `clock MS`, `tick MS`: the clock is set, and
 ///   deadlines are met.
 /// - `join C`, `beat C short`, `beat C owned`, `beat C full`, `quit C leave`, `quit C away`, `lose C`, `release C INDEX`: of client C,
 ///   and a partition of the topic `U`.

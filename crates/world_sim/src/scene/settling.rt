@@ -21,7 +21,7 @@ use kip_msgs::one_request_a_body;
 use member_core::Kind;
 use std::alloc::AllocError;
 
-/// So many requests a client may have sent that three are left to it: the correlation ids are INT32s.
+/// The most requests that a client may have sent so that three are left to it: the correlation ids are INT32s.
 const MOST_REQUESTS: u32 = 2_147_483_644;
 
 impl Scene {

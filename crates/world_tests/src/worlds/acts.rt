@@ -40,7 +40,7 @@ pub fn act_of(alloc: Global, words: &str) -> Result<Act<'static>, AllocError>
     }
 }
 
-/// An image of the topic `t`, which has the id of the word and so many partitions.
+/// An image of the topic `t`, which has the id of the word and `count` partitions.
 fn image_of(alloc: Global, word: &str, count: i32) -> Result<Image, AllocError> {
     let mut topics = Vec::new(alloc);
     topics.push(TopicEntry {

@@ -1,6 +1,6 @@
 use Rattle.std.proofs.Common.{◌≡◌, length}
 use Rattle.benchmarks.proofs.group.seats_of.Given as goal
 
--- so many as there were rounds
+-- as many as there were rounds
 abbrev pub invariant-loop-member : goal.invariant-loop-member
 invariant-loop-member l = length l.seats.items ≡ l.member
