@@ -31,7 +31,9 @@ pub use laws::{
     new_worlds_are_live, replies_show_what_is_granted, rounds_go_on, runs_of_acts_exist,
     targets_are_renewed_lawfully, the_laws_are_met, three_rounds_settle,
 };
-pub use member_core::{Array, CommitRequestTopic, Kind, Partition, Quit, Settings};
+pub use member_core::{
+    Array, BeatFault, CommitRequestTopic, EpochNumber, Kind, PartSet, Partition, Quit, Settings,
+};
 pub use shown::Shown;
 pub use state::ClientState;
 pub use view::ClientView;
