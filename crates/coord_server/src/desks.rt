@@ -38,13 +38,13 @@ where
     W: Write,
     ensures { IfOk result (λ desks. IsPlanned plan (vec_len desks.workers) (vec_len desks.clocks)) }
 {
-    let workers = so_many(rt, shards, moments, plan.workers, log)?;
-    let clocks = so_many(rt, shards, moments, plan.clocks(), log)?;
+    let workers = seated_desks(rt, shards, moments, plan.workers, log)?;
+    let clocks = seated_desks(rt, shards, moments, plan.clocks(), log)?;
     Ok(Desks { workers, clocks })
 }
 
 /// Desks over shards, `number` of them, each with a seat of its own.
-fn so_many<'a, A, C, G, M, R, W>(
+fn seated_desks<'a, A, C, G, M, R, W>(
     rt: &'a R,
     shards: &'a Shards<A, C, G>,
     moments: &M,
