@@ -7,6 +7,7 @@ pub mod Ordered
 pub mod Keys
 pub mod Ranked
 pub mod Earliest
+pub mod Cuts
 pub mod Counted
 pub mod Listed
 pub mod Around

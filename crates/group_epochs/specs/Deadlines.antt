@@ -3,6 +3,8 @@ use Rattle.std.specs.Prelude.{◌≡◌, ℕ, ◌≤◌, min, List, [], ◌∷�
 use Rattle.std.specs.FinMap as finite
 use Rattle.group_types.specs.Text.{Text}
 use Rattle.group_types.specs.Group.{Record, Records}
+use Rattle.group_epochs.specs.Table.{NoneIsDueBefore}
+use Rattle.group_epochs.specs.declared.deadlines.Searched.{Searched}
 use Rattle.group_epochs.specs.declared.entry.Entry.{Entry}
 
 -- the first of a member's deadlines
@@ -17,3 +19,7 @@ IsNoLater moment records = (m : Text) (r : Record) → finite.get records m ≡ 
 abbrev pub first_of_all : {Y : Type 0} → ℕ → List (String Y × Entry) → ℕ
 first_of_all moment [] = moment
 first_of_all moment (row ∷ rows) = first_of_all (min moment (first_deadline row.1.kept)) rows
+
+-- at the moment of a search nobody is due before the rank that it came to
+abbrev pub IsSearched : Searched → Records → Type 0
+IsSearched searched records = NoneIsDueBefore records searched.clock searched.rank

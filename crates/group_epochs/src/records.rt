@@ -3,10 +3,11 @@
 ghost use Rattle.std.specs.Prelude.{◌≡◌, ◌↔◌, ◌≢◌, ◌<◌, ◌≤◌, [], false, IsTrue, IsSome, IfOk, OnOk, MatchOption, Some, None};
 ghost use Rattle.std.specs.Option.{option_copied, option_map};
 ghost use Rattle.group_types.specs.Tick.{NoneIsDue};
-ghost use Rattle.group_epochs.specs.Table.{IsFirstRank, NoneIsDueBefore, member_at};
+ghost use Rattle.group_epochs.specs.Table.{IsFirstRank, member_at};
 ghost use Rattle.std.specs.FinMap as finite;
 ghost use Rattle.group_types.specs.Sets.{size};
 ghost use Rattle.group_types.specs.Text.{Text};
+ghost use Rattle.group_types.specs.Fencing.{stamp_kept};
 ghost use Rattle.group_types.specs.Group.{Record as Kept};
 ghost use Rattle.group_types.specs.Members.{HasInstance, is_remembered, past_stamp, taken_over, with_record, without_record};
 ghost use Rattle.group_types.specs.Leave.{away};
@@ -14,7 +15,7 @@ ghost use Rattle.group_types.specs.Renewal.{AreMembers, view_for};
 ghost use Rattle.group_epochs.specs.Records.{CanJoin, CanReplace, IsInstanceFreeFor, IsMarkedBeat, IsMember, KeepsNames, beaten, members_in};
 
 use crate::counts::{Counts, asked_of, count_down, count_up};
-use crate::deadlines::{earlier, first_of_all};
+use crate::deadlines::{Searched, earlier, first_of_all};
 use crate::entry::{Entry, Table};
 use crate::names::NewNames;
 use crate::order::{around, with_instance};
@@ -77,6 +78,8 @@ pub struct Records {
     counts: Counts,
     /// No deadline of a member comes before it.
     earliest: Moment,
+    /// Where the next search for a due member at the same moment begins.
+    searched: Searched,
     /// The place of the member that a steady beat was last looked up for.
     last: usize,
 }
@@ -96,7 +99,7 @@ impl Model for Records {
 
     ghost view = { λ a. state_of a.members a.past (min (deque_capacity a.by_id - deque_len a.by_id) (deque_capacity a.in_member_order - deque_len a.in_member_order)) (spare a.counts) };
 
-    ghost invariant = { λ a. AreWhole a.members a.by_id.items a.in_member_order.items a.past a.counts a.earliest };
+    ghost invariant = { λ a. AreWhole a.members a.by_id.items a.in_member_order.items a.past a.counts a.earliest a.searched };
 }
 
 impl Records {
@@ -114,6 +117,10 @@ impl Records {
             past: Past::new(alloc, hasher),
             counts: IndexMap::with_hasher(alloc, hasher),
             earliest: Moment::of_millis(u64::MAX),
+            searched: Searched {
+                clock: Moment::of_millis(0),
+                rank: 0,
+            },
             last: 0,
         }
     }
@@ -158,6 +165,17 @@ impl Records {
         ensures { result ≡ past_stamp self.now.past id.now }
     {
         self.past.stamp_of(id)
+    }
+
+    /// The stamp of the last heartbeat that was accepted under the id: its member's, or a former member's; none where the id isn't
+    /// known (ours). Takes no memory.
+    pub fn last_stamp(&self, id: &str) -> Option<Stamp>
+        ensures { result ≡ stamp_kept (finite.get self.now.records id.now) (past_stamp self.now.past id.now) }
+    {
+        match self.get(id) {
+            Some(record) => Some(record.stamp()),
+            None => self.past_stamp(id),
+        }
     }
 
     /// The members in member order, with this record for the id in place of the one that is kept, if any. They are listed as they stand in
@@ -248,6 +266,7 @@ impl Records {
         count_up(&mut self.counts, names.into_texts());
         self.past.forget(id.as_str());
         self.earliest = earlier(self.earliest, record.first_deadline());
+        self.searched.restart();
         let entry = Entry {
             id,
             kept: record,
@@ -271,6 +290,7 @@ impl Records {
         ensures marks { self.new.marks ≡ finite.remove self.old.marks id.now }
     {
         self.earliest = earlier(self.earliest, record.first_deadline());
+        self.searched.restart();
         let former = put(&mut self.members, &mut self.in_member_order, id, record);
         if let Some(names) = names {
             count_down(&mut self.counts, former.names());
@@ -293,6 +313,7 @@ impl Records {
             return false;
         }
         self.earliest = earlier(self.earliest, now.plus(SESSION_TIMEOUT));
+        self.searched.restart();
         true
     }
 
@@ -321,6 +342,7 @@ impl Records {
         );
         count_down(&mut self.counts, former.kept.names());
         self.past.remember(former.id, stamp);
+        self.searched.restart();
         self.give_back();
     }
 
@@ -342,6 +364,7 @@ impl Records {
         count_down(&mut self.counts, former.kept.names());
         let latest = former.kept.stamp();
         self.past.remember(former.id, latest);
+        self.searched.leave_out(rank);
         self.give_back();
     }
 
@@ -355,6 +378,7 @@ impl Records {
         ensures room { self.new.room ≡ self.old.room }
     {
         self.earliest = earlier(self.earliest, now.plus(SESSION_TIMEOUT));
+        self.searched.restart();
         go_away(&mut self.members, id, stamp, now);
     }
 
@@ -383,6 +407,7 @@ impl Records {
         let last = former.kept.stamp();
         self.past.remember(former.id, last);
         self.earliest = earlier(self.earliest, record.first_deadline());
+        self.searched.restart();
         let entry = Entry {
             id,
             kept: record,
@@ -411,20 +436,21 @@ impl Records {
         self.counts.shrink_to_fit();
     }
 
-    /// The first rank, from one on, in the order of the members' ids, at which a member's deadline has come (KIP-848, "Session
-    /// Management"); none where no deadline has come. Before the rank to begin with, nobody is due. Where the clock is before every
-    /// deadline no record is looked at. Takes no memory.
-    pub fn due(&mut self, from: usize, clock: Moment) -> Option<usize>
-        ensures first { NoneIsDueBefore self.old.records clock from
-            → MatchOption result (NoneIsDue self.old.records clock) (λ rank. IsFirstRank self.old.records clock rank) }
+    /// The rank of the first member, in the order of the members' ids, whose deadline has come (KIP-848, "Session Management"); none
+    /// where no deadline has come. Where the clock is before every deadline no record is looked at. A search at the moment of the last
+    /// one goes on from where that came to, unless a record was stored since. Takes no memory.
+    pub fn due(&mut self, clock: Moment) -> Option<usize>
+        ensures first { MatchOption result (NoneIsDue self.old.records clock) (λ rank. IsFirstRank self.old.records clock rank) }
         ensures same { self.new ≡ self.old }
     {
         if clock < self.earliest {
             return None;
         }
-        let due = first_due(&self.members, &self.by_id, from, clock);
-        if due.is_none() {
-            self.earliest = first_of_all(&self.members);
+        let start = self.searched.start(clock);
+        let due = first_due(&self.members, &self.by_id, start, clock);
+        match due {
+            Some(rank) => self.searched = Searched { clock, rank },
+            None => self.earliest = first_of_all(&self.members),
         }
         due
     }

@@ -1,7 +1,9 @@
 //! The members of a group by their ids' texts: what the records do to them.
 
-ghost use Rattle.std.specs.Prelude.{Ok, ◌≡◌, ◌↔◌, ◌<◌, ◌≤◌, ◌-◌, ℕ, length, false, true, slice_get, MatchOption, None, Some, IsSome, IsTrue, map, string_bytes};
+ghost use Rattle.std.specs.Prelude.{Ok, ◌≡◌, ◌↔◌, ◌<◌, ◌≤◌, ◌-◌, ◌++◌, ◌∷◌, [], ℕ, length, false, true, slice_get, MatchOption, None, Some, IsSome, IsTrue, map, string_bytes};
 ghost use Rattle.group_types.specs.Text.{Text, text_cmp};
+ghost use Rattle.std.specs.List.{list_any};
+ghost use Rattle.std.specs.Ordering.{eq_by_cmp};
 ghost use Rattle.std.specs.String.{string_eq};
 ghost use Rattle.std.specs.VecDeque.{deque_capacity, deque_len};
 ghost use Rattle.indexmap.specs.IndexMap.{IsUnique, get, get_by_text, index_map_len, spare};
@@ -41,13 +43,23 @@ pub fn add(
         entry.kept.instance(),
         text.as_str(),
     );
-    let Err(rank) = rank_of(members, by_id, text.as_str()) else {
+    add_rank(members, by_id, text.as_str());
+    let Ok(_) = members.insert(text, entry) else {
+        unreachable!()
+    };
+}
+
+/// The place that comes next is that of a new id. Takes no memory.
+fn add_rank(members: &Table, by_id: &mut VecDeque<usize>, id: &str)
+    requires room { deque_len by_id.old < deque_capacity by_id.old }
+    requires absent { list_any (eq_by_cmp text_cmp id.now) (texts_in members.now.entries) ≡ false }
+    requires order { IsIdOrder (texts_in members.now.entries) by_id.old.items }
+    ensures { IsIdOrder (texts_in members.now.entries ++ id.now ∷ []) by_id.new.items }
+{
+    let Err(rank) = rank_of(members, by_id, id) else {
         unreachable!()
     };
     let Ok(()) = by_id.insert(rank, members.len()) else {
-        unreachable!()
-    };
-    let Ok(_) = members.insert(text, entry) else {
         unreachable!()
     };
 }

@@ -1,9 +1,8 @@
-use Rattle.std.proofs.Common.{◌≡◌, ap, subst, ◌∙◌, IfOk, Result, Ok, Err}
-use Rattle.std.specs.FinMap as finite
+use Rattle.std.proofs.Common.{ap, ◌∙◌, IfOk, Result, Ok, Err}
 use Rattle.std.specs.Option.{option_copied}
-use Rattle.group_types.specs.Sets.{has, nothing}
+use Rattle.group_types.specs.Sets.{has}
 use Rattle.group_types.specs.Topics.{Names}
-use Rattle.group_epochs.specs.Counts.{AreAsked, with_asked, with_counted}
+use Rattle.group_epochs.specs.Counts.{with_counted}
 use Rattle.group_epochs.proofs.Counted.{found-AreAsked, has-with_counted}
 use Rattle.group_epochs.proofs.counts.asked_of.Goals as goal
 

@@ -75,6 +75,7 @@ invariant_of-self c =
           (record { id = c.new.inside.id; kept = c.args.record; mark = None }) c.add.ensures.added c.self.invariant.table
           (c.forget.ensures.past ∙ ap (without_past c.self.inside.past.past) (c.as_str.ensures.value ∙ sym c.new.invariant)) c.forget.ensures.places)
           (c.earlier-self-inside.ensures ∙ ap (min c.self.inside.earliest) c.first_deadline.ensures) c.self.invariant.deadlines;
+      none_before = c.restart.ensures (records_in c.add.new.members.entries);
     }
 
 pub returns-clause-members : goal.returns-clause-members

@@ -5,7 +5,7 @@ use Rattle.group_types.specs.Leave.{away}
 use Rattle.std.proofs.Common.{refl, ap, ◌∙◌}
 use Rattle.std.specs.FinMap as finite
 use Rattle.group_epochs.specs.Records.{RecordsState}
-use Rattle.group_epochs.specs.Table.{with_away}
+use Rattle.group_epochs.specs.Table.{records_in, with_away}
 use Rattle.group_epochs.proofs.Tabled.{kept_of_found, mark_cleared, member_order_stays, member_there, record_rewritten, table_rewritten}
 use Rattle.group_epochs.proofs.records.Records.away.Goals as goal
 
@@ -28,6 +28,7 @@ invariant_of-self c =
       deadlines =
           rewritten_later c.self.inside.members c.go_away.new.members c.self.inside.past c.args.id.now (with_away c.args.stamp c.args.now) c.go_away.ensures c.self.invariant.table
           (member_there c.self.inside.members c.args.self.now c.args.id.now (ap (λ (s : RecordsState). s.records) c.self.view_is) c.requires) c.self.inside.earliest c.earlier-self-inside.result (omega (arith, c.earlier-self-inside.ensures)) (λ e _. omega (arith, c.earlier-self-inside.ensures, c.plus.ensures)) c.self.invariant.deadlines;
+      none_before = c.restart.ensures (records_in c.go_away.new.members.entries);
     }
 
 pub returns-clause-records : goal.returns-clause-records

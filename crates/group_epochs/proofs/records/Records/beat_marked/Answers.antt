@@ -3,7 +3,7 @@ use Rattle.std.specs.FinMap as finite
 use Rattle.group_types.specs.Checks.{is_late}
 use Rattle.group_types.specs.Group.{Record}
 use Rattle.group_epochs.specs.Records.{IsMarkedBeat, RecordsState, beaten}
-use Rattle.group_epochs.specs.Table.{with_beat}
+use Rattle.group_epochs.specs.Table.{records_in, with_beat}
 use Rattle.group_epochs.proofs.Counted.{rewritten_counted}
 use Rattle.group_epochs.proofs.Earliest.{rewritten_later, beaten_later}
 use Rattle.group_epochs.proofs.Rows.{get-marks_in, get-records_in, kept_in, mark_in}
@@ -41,6 +41,7 @@ invariant_of-self-2 c =
           rewritten_later m n past id change rewrites was.table there c.self.inside.earliest c.earlier-self-inside.result (omega (arith, c.earlier-self-inside.ensures))
           (λ e before. beaten_later e.kept c.args.stamp c.args.now c.earlier-self-inside.result (omega (arith, c.earlier-self-inside.ensures, before)) (omega (arith, c.earlier-self-inside.ensures, c.plus.ensures)))
           was.deadlines;
+      none_before = c.restart.ensures (records_in n.entries);
     }
 
 pub returns-clause-marked : goal.returns-clause-marked

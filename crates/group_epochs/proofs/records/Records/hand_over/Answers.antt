@@ -121,6 +121,7 @@ invariant_of-self c =
           stored_later (records_in c.take_out-former.new.members.entries) (records_in c.add.new.members.entries) c.self.inside.earliest c.earlier-self-inside.result heir c.args.record added
           (c.earlier-self-inside.ensures ∙ ap (min c.self.inside.earliest) c.first_deadline.ensures)
           (subst (IsNoLater c.self.inside.earliest) (sym gone) (no_later_without (records_in m.entries) c.self.inside.earliest c.self.invariant.deadlines c.args.old.now));
+      none_before = c.restart.ensures (records_in c.add.new.members.entries);
     }
 
 pub returns-clause-members : goal.returns-clause-members

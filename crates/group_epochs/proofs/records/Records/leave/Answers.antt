@@ -54,6 +54,7 @@ invariant_of-self c =
           let kept = record_gone c.self.inside.members c.take_out-former.new.members c.self.inside.past c.remember.new.self c.args.id.now c.take_out-former.result.id c.args.stamp c.take_out-former.ensures.taken c.self.invariant.table
           (member_there c.self.inside.members c.args.self.now c.args.id.now (ap (λ (s : RecordsState). s.records) c.self.view_is) c.requires) in
           subst (IsNoLater c.self.inside.earliest) (sym kept) (no_later_without (records_in c.self.inside.members.entries) c.self.inside.earliest c.self.invariant.deadlines c.args.id.now);
+      none_before = c.restart.ensures (records_in c.take_out-former.new.members.entries);
     }
 
 pub returns-clause-members : goal.returns-clause-members

@@ -8,7 +8,7 @@ use Rattle.group_types.specs.Text.{Text}
 use Rattle.group_types.specs.Topics.{Names}
 use Rattle.group_types.proofs.Entries.{entries_found}
 use Rattle.group_epochs.specs.Counts.{AreCounts, count_of, once}
-use Rattle.group_epochs.specs.Deadlines.{IsNoLater}
+use Rattle.group_epochs.specs.Deadlines.{IsNoLater, IsSearched}
 use Rattle.group_epochs.specs.Records.{RecordsState, members_in}
 use Rattle.group_epochs.specs.Table.{member_at, records_in}
 use Rattle.group_epochs.specs.declared.entry.Entry.{Entry}
@@ -72,6 +72,7 @@ invariant_of-self c =
           (λ q. c.count_down.ensures.counted q ∙ ap (λ (n : Names). count_of c.self.inside.counts q - once n q) (c.names.ensures ∙ ap (λ (e : Entry). e.kept.names) former)));
       some = c.count_down.ensures.some c.self.invariant.some;
       deadlines = subst (IsNoLater c.self.inside.earliest) (sym kept) (no_later_without (records_in rows) c.self.inside.earliest c.self.invariant.deadlines at.0.0);
+      none_before = subst (IsSearched c.leave_out.new.self) (sym kept) (c.leave_out.ensures (records_in rows) at.0.0 at.0.1 at.1 c.self.invariant.none_before);
     }
 
 pub returns-clause-members : goal.returns-clause-members

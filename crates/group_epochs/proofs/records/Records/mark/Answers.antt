@@ -1,10 +1,11 @@
 use Rattle.group_epochs.proofs.Counted.{rewritten_counted}
 use Rattle.std.proofs.Common.{arith}
 use Rattle.group_epochs.proofs.Earliest.{rewritten_later}
-use Rattle.std.proofs.Common.{refl, ap, ◌∙◌}
+use Rattle.std.proofs.Common.{refl, sym, subst, ap, ◌∙◌}
 use Rattle.std.specs.FinMap as finite
 use Rattle.group_epochs.specs.Records.{RecordsState, members_in}
 use Rattle.group_epochs.specs.Table.{marked_at}
+use Rattle.group_epochs.specs.Deadlines.{IsSearched}
 use Rattle.group_epochs.proofs.Tabled.{mark_set, member_order_stays, member_there, record_stays, table_rewritten}
 use Rattle.group_epochs.proofs.records.Records.mark.Goals as goal
 
@@ -27,6 +28,10 @@ invariant_of-self c =
       deadlines =
           rewritten_later c.self.inside.members c.mark.new.members c.self.inside.past c.args.id.now (marked_at c.args.epoch) c.mark.ensures c.self.invariant.table
           (member_there c.self.inside.members c.args.self.now c.args.id.now (ap (λ (s : RecordsState). s.records) c.self.view_is) c.requires) c.self.inside.earliest c.self.inside.earliest (omega arith) (λ e was. was) c.self.invariant.deadlines;
+      none_before =
+          subst (IsSearched c.self.inside.searched)
+          (sym (record_stays c.self.inside.members c.mark.new.members c.self.inside.past c.args.id.now (marked_at c.args.epoch) c.mark.ensures c.self.invariant.table
+          (member_there c.self.inside.members c.args.self.now c.args.id.now (ap (λ (s : RecordsState). s.records) c.self.view_is) c.requires) (λ e. refl))) c.self.invariant.none_before;
     }
 
 pub returns-clause-members : goal.returns-clause-members

@@ -1,4 +1,4 @@
-use Rattle.std.proofs.Common.{Global, List, String}
+use Rattle.std.proofs.Common.{arith, Global, List, String}
 use Rattle.group_epochs.specs.Counts.{AreCounts}
 use Rattle.group_epochs.specs.declared.entry.Entry.{Entry}
 use Rattle.group_epochs.proofs.Counted.{nobody_counted, none_some}
@@ -19,4 +19,5 @@ invariant_of-result c =
       counted = subst (λ (rows : List (String Global × Entry)). AreCounts (records_in rows) c.with_hasher-2.result) (sym c.with_hasher.ensures.empty) (nobody_counted c.with_hasher-2.result c.with_hasher-2.ensures.empty);
       some = none_some c.with_hasher-2.result c.with_hasher-2.ensures.empty;
       deadlines = subst (λ rows. IsNoLater c.of_millis.result (records_in rows)) (sym c.with_hasher.ensures.empty) (λ m r is. absurd (not_none r (sym (finite.get-empty text_cmp m) ∙ is)));
+      none_before = λ k m below. absurd (omega (arith, below));
     }

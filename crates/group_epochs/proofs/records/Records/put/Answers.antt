@@ -60,6 +60,7 @@ invariant_of-self c =
       deadlines =
           rewritten_later m c.put-former.new.members c.self.inside.past id (with_record_kept c.args.record) c.put-former.ensures.rewritten c.self.invariant.table there
           c.self.inside.earliest c.earlier-self-inside.result (omega (arith, c.earlier-self-inside.ensures)) (λ e _. omega (arith, c.earlier-self-inside.ensures, c.first_deadline.ensures)) c.self.invariant.deadlines;
+      none_before = c.restart.ensures (records_in c.put-former.new.members.entries);
     }
 
 pub invariant_of-self-in_default : goal.invariant_of-self-in_default
@@ -82,6 +83,7 @@ invariant_of-self-in_default c =
       deadlines =
           rewritten_later m c.put-former.new.members c.self.inside.past id (with_record_kept c.args.record) c.put-former.ensures.rewritten c.self.invariant.table there
           c.self.inside.earliest c.earlier-self-inside.result (omega (arith, c.earlier-self-inside.ensures)) (λ e _. omega (arith, c.earlier-self-inside.ensures, c.first_deadline.ensures)) c.self.invariant.deadlines;
+      none_before = c.restart.ensures (records_in c.put-former.new.members.entries);
     }
 
 pub returns-in-Some-clause-members : goal.returns-in-Some-clause-members
