@@ -4,6 +4,7 @@ ghost use Rattle.std.specs.Option.{option_copied};
 ghost use Rattle.std.specs.FinMap as finite;
 ghost use Rattle.group_types.specs.Sets.{nothing};
 ghost use Rattle.group_types.specs.Group.{new_group, starting_group, held};
+ghost use Rattle.group_types.specs.Fencing.{last_stamp};
 ghost use Rattle.group_types.specs.Members.{is_remembered, members_of};
 ghost use Rattle.group_reconcile.specs.Holders.{pairs};
 
@@ -124,6 +125,13 @@ impl Group {
         ensures { result ≡ is_remembered (members_of self.now.state) member.now }
     {
         self.state.records.remembers(member)
+    }
+
+    /// The stamp of the last heartbeat that was accepted under the id, as long as the group knows it (ours). Takes no memory.
+    pub fn last_stamp(&self, member: &str) -> Option<Stamp>
+        ensures { result ≡ last_stamp self.now.state member.now }
+    {
+        self.state.records.last_stamp(member)
     }
 
     /// One heartbeat of KIP-848 with its stamp, at a moment, over the node's image. Its member id is one that the wire

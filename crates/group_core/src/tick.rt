@@ -31,8 +31,7 @@ pub fn tick(state: &mut State, moment: Moment) -> usize
     removed
 }
 
-/// Removes the members whose deadline has come by the group's clock, and says how many: after each the search goes on from its
-/// rank, so that no record before it is looked at again. Takes no memory.
+/// Removes the members whose deadline has come by the group's clock, in the order of their ids, and says how many. Takes no memory.
 fn remove_due(state: &mut State) -> usize
     requires sound { IsSound (group_of state.old) }
     requires marks { AreMarked (group_of state.old) state.old.records.marks }
@@ -42,10 +41,8 @@ fn remove_due(state: &mut State) -> usize
     ensures marks { AreMarked (group_of state.new) state.new.records.marks }
 {
     let mut removed = 0;
-    let mut from = 0;
-    while let Some(rank) = state.records.due(from, state.clock) {
+    while let Some(rank) = state.records.due(state.clock) {
         remove_at(state, rank);
-        from = rank;
         removed += 1;
     }
     removed

@@ -4,11 +4,11 @@ use Rattle.group_types.specs.Group.{Group, Record}
 use Rattle.group_types.specs.Leave.{without_member}
 use Rattle.group_types.specs.Tick.{due, without_members}
 use Rattle.group_epochs.specs.Records.{RecordsState}
-use Rattle.group_epochs.specs.Table.{IsFirstRank, NoneIsDueBefore, member_at}
+use Rattle.group_epochs.specs.Table.{IsFirstRank, member_at}
 use Rattle.group_core.specs.declared.state.State.{State}
 use Rattle.group_core.specs.GroupView.{group_of}
 use Rattle.group_core.specs.Steady.{AreMarked}
-use Rattle.group_core.proofs.Ticking.{due_first, due_none, few_due, none_before_left}
+use Rattle.group_core.proofs.Ticking.{due_first, due_none, few_due}
 use Rattle.group_core.proofs.tick.remove_due.Goals as goal
 
 -- the group whose records are these
@@ -31,18 +31,13 @@ module _ (s : State) (searched : RecordsState) (same : searched ≡ s.records) (
   same_end : without_members new (due new) ≡ without_members (group_of s) (due (group_of s))
   same_end = ap (λ g. without_members g (due new)) left_group ∙ ap (without_members (group_of s)) (sym due_before)
 
-  none_before : NoneIsDueBefore new.records new.clock rank
-  none_before =
-      subst (λ (g : Group). NoneIsDueBefore g.records g.clock rank) (sym left_group)
-      (none_before_left (group_of s) rank first.id first.kept first.there first.before)
-
 pub remove_at-requires-clause-marks : goal.remove_at-requires-clause-marks
 remove_at-requires-clause-marks c =
     subst (λ (rs : RecordsState). AreMarked (group_with c.loop-rank.state rs) rs.marks) (sym c.due.ensures.same) c.loop-rank.invariant.marks
 
 pub overflow_add-removed : goal.overflow_add-removed
 overflow_add-removed c =
-    let first = c.in-Some.ensures.first c.loop-rank.invariant.before in
+    let first = c.in-Some.ensures.first in
     let dues = due_before c.loop-rank.state c.due.new.self c.due.ensures.same c.in-Some.rank first (group_of c.remove_at.new.state) c.remove_at.ensures.group in
     let few = few_due (group_of c.args.state.now) c.requires.sound in
     let count = c.loop-rank.invariant.count in
@@ -50,18 +45,17 @@ overflow_add-removed c =
 
 pub loop-rank-smaller : goal.loop-rank-smaller
 loop-rank-smaller c =
-    let first = c.in-Some.ensures.first c.loop-rank.invariant.before in
+    let first = c.in-Some.ensures.first in
     let dues = due_before c.loop-rank.state c.due.new.self c.due.ensures.same c.in-Some.rank first (group_of c.remove_at.new.state) c.remove_at.ensures.group in
     omega (arith, ap length dues)
 
 pub loop-rank-preserved : goal.loop-rank-preserved
 loop-rank-preserved c =
     let s = c.loop-rank.state in
-    let first = c.in-Some.ensures.first c.loop-rank.invariant.before in
+    let first = c.in-Some.ensures.first in
     let dues = due_before s c.due.new.self c.due.ensures.same c.in-Some.rank first (group_of c.remove_at.new.state) c.remove_at.ensures.group in
     let count = c.loop-rank.invariant.count in
     record {
-      before = none_before s c.due.new.self c.due.ensures.same c.in-Some.rank first (group_of c.remove_at.new.state) c.remove_at.ensures.group;
       rest = same_end s c.due.new.self c.due.ensures.same c.in-Some.rank first (group_of c.remove_at.new.state) c.remove_at.ensures.group ∙ c.loop-rank.invariant.rest;
       count = omega (arith, ap length dues, count);
       marks = c.remove_at.ensures.marks;
@@ -72,12 +66,12 @@ pub returns-clause-group : goal.returns-clause-group
 returns-clause-group c =
     let s = c.loop-rank.state in
     ap (group_with s) c.due.ensures.same
-    ∙ ap (without_members (group_of s)) (sym (due_none (group_of s) (c.in_default.ensures.first c.loop-rank.invariant.before)))
+    ∙ ap (without_members (group_of s)) (sym (due_none (group_of s) c.in_default.ensures.first))
     ∙ c.loop-rank.invariant.rest
 
 pub returns-clause-removed : goal.returns-clause-removed
 returns-clause-removed c =
-    let none = due_none (group_of c.loop-rank.state) (c.in_default.ensures.first c.loop-rank.invariant.before) in
+    let none = due_none (group_of c.loop-rank.state) c.in_default.ensures.first in
     let count = c.loop-rank.invariant.count in
     omega (arith, ap length none, count)
 
