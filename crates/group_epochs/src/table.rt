@@ -44,6 +44,16 @@ pub fn add(
         text.as_str(),
     );
     add_rank(members, by_id, text.as_str());
+    add_row(members, text, entry);
+}
+
+/// A new member's row comes last, for which there is room. Takes no memory.
+fn add_row(members: &mut Table, text: String, entry: Entry)
+    requires room { 0 < spare members.old }
+    requires absent { get string_eq members.old text ≡ None }
+    ensures added { Adds members.old members.new (string_bytes text) entry }
+    ensures rows { members.new.entries ≡ members.old.entries ++ (text, entry) ∷ [] }
+{
     let Ok(_) = members.insert(text, entry) else {
         unreachable!()
     };

@@ -2,8 +2,6 @@ use Rattle.std.proofs.Common.{◌++◌, ◌∷◌, [], ap, is_some, subst, sym, 
 use Rattle.std.specs.Prelude.{string_bytes}
 use Rattle.std.specs.Map.{lookup}
 use Rattle.std.specs.Str.{bytes_eq}
-use Rattle.std.specs.String.{string_eq}
-use Rattle.indexmap.proofs.CallerLemmas.{insert_entry-new}
 use Rattle.group_epochs.specs.Table.{IsIdOrder, IsOrder, key_cmp, keys_in, no_key, texts_in}
 use Rattle.group_epochs.proofs.Keys.{keys_behind}
 use Rattle.group_epochs.proofs.Rows.{texts_behind, texts_hold}
@@ -22,13 +20,11 @@ add_rank-requires-clause-absent c =
 pub returns-clause-member_order : goal.returns-clause-member_order
 returns-clause-member_order c =
     let rows = c.args.members.now.entries in
-    let stored = c.in-Ok.ensures.entries ∙ insert_entry-new string_eq c.args.members.now c.args.text c.args.entry c.requires.absent in
     subst (λ keys. IsOrder key_cmp no_key keys c.add_place.new.places.items)
-    ((λ i. keys_in rows ++ (c.instance.ensures i, c.as_str.ensures.value i) ∷ []) ∙ sym (keys_behind rows c.insert.new.self.entries (c.args.text, c.args.entry) stored)) c.add_place.ensures
+    ((λ i. keys_in rows ++ (c.instance.ensures i, c.as_str.ensures.value i) ∷ []) ∙ sym (keys_behind rows c.add_row.new.members.entries (c.args.text, c.args.entry) c.add_row.ensures.rows)) c.add_place.ensures
 
 pub returns-clause-order : goal.returns-clause-order
 returns-clause-order c =
     let rows = c.args.members.now.entries in
-    let stored = c.in-Ok.ensures.entries ∙ insert_entry-new string_eq c.args.members.now c.args.text c.args.entry c.requires.absent in
     subst (λ texts. IsIdOrder texts c.add_rank.new.by_id.items)
-    ((λ i. texts_in rows ++ c.as_str-2.ensures.value i ∷ []) ∙ sym (texts_behind rows c.insert.new.self.entries c.args.text c.args.entry stored)) c.add_rank.ensures
+    ((λ i. texts_in rows ++ c.as_str-2.ensures.value i ∷ []) ∙ sym (texts_behind rows c.add_row.new.members.entries c.args.text c.args.entry c.add_row.ensures.rows)) c.add_rank.ensures
