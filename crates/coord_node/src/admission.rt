@@ -28,16 +28,16 @@ enum NotKept {
 
 /// What is answered for a new group that gave the outcome: it is kept where that is a success. Where memory is short the groups are
 /// the same.
-pub(crate) fn admit<'a>(
+pub(crate) fn admit(
     alloc: Global,
     groups: &mut IndexMap<String, Kept, RandomState>,
     name: &str,
     kept: Kept,
-    outcome: Outcome<'a>,
-) -> Result<Outcome<'a>, AllocError>
+    outcome: Outcome,
+) -> Result<Outcome, AllocError>
     requires { finite.get (groups_of groups.old.entries) name.now ≡ None }
     ensures admitted { IfOk result
-        (λ o. IsAdmitted groups.old.entries name.now kept (answer_of outcome.entry) (answer_of o) groups.new.entries) }
+        (λ o. IsAdmitted groups.old.entries name.now kept (answer_of outcome) (answer_of o) groups.new.entries) }
     ensures few { length groups.old.entries ≤ MOST → length groups.new.entries ≤ MOST }
     ensures err { OnErr result (groups.new.entries ≡ groups.old.entries) }
 {
@@ -49,17 +49,17 @@ pub(crate) fn admit<'a>(
 }
 
 /// The same where the outcome is a success: COORDINATOR_NOT_AVAILABLE stands in its place where the node is full.
-fn admit_success<'a>(
+fn admit_success(
     alloc: Global,
     groups: &mut IndexMap<String, Kept, RandomState>,
     name: &str,
     kept: Kept,
-    outcome: Outcome<'a>,
-) -> Result<Outcome<'a>, AllocError>
+    outcome: Outcome,
+) -> Result<Outcome, AllocError>
     requires absent { finite.get (groups_of groups.old.entries) name.now ≡ None }
     requires success { success (answer_of outcome) ≡ true }
     ensures admitted { IfOk result
-        (λ o. IsAdmitted groups.old.entries name.now kept (answer_of outcome.entry) (answer_of o) groups.new.entries) }
+        (λ o. IsAdmitted groups.old.entries name.now kept (answer_of outcome) (answer_of o) groups.new.entries) }
     ensures few { length groups.old.entries ≤ MOST → length groups.new.entries ≤ MOST }
     ensures err { OnErr result (groups.new.entries ≡ groups.old.entries) }
 {

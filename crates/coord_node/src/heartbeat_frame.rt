@@ -13,14 +13,14 @@ ghost use Rattle.coord_node.specs.Replies.{assignment_value, reply_value, IsRepl
 
 use crate::frame;
 use flex_wire::TaggedFields;
-use group_core::{Reply, ReplyId, Shown};
+use group_core::{MemberId, Reply, Shown};
 use kip_msgs::{Assignment, HeartbeatReply, Reply as Message, ResponseHeader, TopicPartitions};
 use std::alloc::Global;
 
 /// Appends the frame of a reply to the heartbeat with the correlation id. Takes no memory: there is room for it.
-pub(crate) fn put(alloc: Global, out: &mut Vec<u8>, correlation: i32, reply: Reply<'_>)
+pub(crate) fn put(alloc: Global, out: &mut Vec<u8>, correlation: i32, reply: Reply)
     requires { IsSendable (Replied (reply_of reply)) (vec_capacity out.old - length out.old.items) }
-    ensures { (frame : List ℕ) × IsReplyFrame (reply_value correlation (reply_of reply.entry)) frame
+    ensures { (frame : List ℕ) × IsReplyFrame (reply_value correlation (reply_of reply)) frame
         × (out.new.items ≡ out.old.items ++ frame) }
 {
     let Reply {
@@ -48,7 +48,7 @@ pub(crate) fn put(alloc: Global, out: &mut Vec<u8>, correlation: i32, reply: Rep
 }
 
 /// The text of an id, where there is one.
-fn text_of<'a>(id: &'a Option<ReplyId<'_>>) -> Option<&'a str>
+fn text_of(id: &Option<MemberId>) -> Option<&str>
     ensures { option_copied result ≡ id.now }
 {
     match id {
@@ -67,9 +67,9 @@ fn have_ids(topics: &[TopicPartitions<'_>])
 }
 
 /// The assignment of a set, where there is one. Takes no memory.
-fn assignment_of<'a>(alloc: Global, set: Option<Shown<'a>>) -> Option<Assignment<'a>>
-    ensures value { option_map views.assignment_value result ≡ option_map assignment_value set.entry }
-    ensures ids { IfSome set.entry (λ s. All (λ t. FitsUuid t.topic_id) (listed (in_order s))) }
+fn assignment_of(alloc: Global, set: Option<Shown>) -> Option<Assignment<'static>>
+    ensures value { option_map views.assignment_value result ≡ option_map assignment_value set }
+    ensures ids { IfSome set (λ s. All (λ t. FitsUuid t.topic_id) (listed (in_order s))) }
 {
     match set {
         Some(set) => {

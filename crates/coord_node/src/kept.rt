@@ -42,15 +42,15 @@ impl Kept {
 
     /// One heartbeat, over the node's image and its number. Where it replies there is room for the reply's frame behind the bytes
     /// of `out`, which stay. Where memory is short nothing has changed.
-    pub(crate) fn heartbeat<'a>(
+    pub(crate) fn heartbeat(
         &mut self,
-        request: &HeartbeatRequest<'a>,
+        request: &HeartbeatRequest<'_>,
         stamp: Stamp,
         now: Moment,
         image: &Image,
         generation: Option<u64>,
         out: &mut Vec<u8>,
-    ) -> Result<Outcome<'a>, AllocError>
+    ) -> Result<Outcome, AllocError>
         requires kept { HasRightNumber generation image.now self.old }
         requires id { length request.now.member_id.now ≤ LONGEST_STRING }
         ensures step { IfOk result (λ outcome. HeartbeatStep (group_in self.old)
@@ -113,7 +113,7 @@ impl Kept {
 
 /// The number after a heartbeat: an accepted join or beat met the image, and a member that left may have been the last one that
 /// subscribed a topic. What is refused or closes changes nothing.
-fn known_after(outcome: &Outcome<'_>, before: Option<u64>, generation: Option<u64>) -> Option<u64>
+fn known_after(outcome: &Outcome, before: Option<u64>, generation: Option<u64>) -> Option<u64>
     ensures { result ≡ known_after (answer_of outcome.now) before generation }
 {
     match outcome {

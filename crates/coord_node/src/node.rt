@@ -139,7 +139,7 @@ impl Node {
             return Ok(Answered::Closes);
         }
         let parsed = ParsedBody::of(self.alloc, body)?;
-        self.answer_parsed(&parsed, stamp, now, out)
+        self.answer_fitting(&parsed, stamp, now, out)
     }
 
     /// Answers a body that was read before, as [`Node::answer`] does: its bytes aren't read once more.
@@ -159,6 +159,23 @@ impl Node {
         if !has_length_of_a_frame(parsed.bytes()) {
             return Ok(Answered::Closes);
         }
+        self.answer_fitting(parsed, stamp, now, out)
+    }
+
+    /// Answers a body that was read, and whose length is that of a frame.
+    fn answer_fitting(
+        &mut self,
+        parsed: &ParsedBody<'_>,
+        stamp: Stamp,
+        now: Moment,
+        out: &mut Vec<u8>,
+    ) -> Result<Answered, AllocError>
+        requires length { (FEWEST_BYTES ≤ length parsed.now) × (length parsed.now ≤ MOST_BYTES) }
+        ensures step { IfOk result (λ answered.
+            Answers self.old (Frame parsed.now stamp now) answered self.new out.old.items out.new.items) }
+        ensures err { OnErr result ((self.new ≡ self.old) × (out.new.items ≡ out.old.items)) }
+        ensures no_request { ((v : RequestValue) → ¬ SpellsRequest v parsed.now) → result ≡ Ok Answered.Closes }
+    {
         let size = parsed.bytes().len();
         match parsed.request() {
             Some(request) => self.request(request, size, stamp, now, out),
@@ -255,13 +272,13 @@ impl Node {
 
     /// What the group of a heartbeat makes of it, in its place, or a new group where there is none. Nothing is appended; where it
     /// replies there is room for the reply's frame. Where memory is short the node has not changed.
-    fn outcome_of<'a>(
+    fn outcome_of(
         &mut self,
-        request: &HeartbeatRequest<'a>,
+        request: &HeartbeatRequest<'_>,
         stamp: Stamp,
         now: Moment,
         out: &mut Vec<u8>,
-    ) -> Result<Outcome<'a>, AllocError>
+    ) -> Result<Outcome, AllocError>
         requires id { length request.now.member_id.now ≤ LONGEST_STRING }
         ensures step { IfOk result (λ outcome. HeartbeatAt (finite.get self.old.groups request.now.group_id.now) self.old
             (arrival_of (heartbeat_request_value request.now) stamp now self.old.image) (answer_of outcome) self.new) }
@@ -280,13 +297,13 @@ impl Node {
     }
 
     /// What a new group makes of a heartbeat. The node keeps it where it has its first member, and there is room for one more group.
-    fn outcome_of_new<'a>(
+    fn outcome_of_new(
         &mut self,
-        request: &HeartbeatRequest<'a>,
+        request: &HeartbeatRequest<'_>,
         stamp: Stamp,
         now: Moment,
         out: &mut Vec<u8>,
-    ) -> Result<Outcome<'a>, AllocError>
+    ) -> Result<Outcome, AllocError>
         requires id { length request.now.member_id.now ≤ LONGEST_STRING }
         requires absent { finite.get self.old.groups request.now.group_id.now ≡ None }
         ensures step { IfOk result (λ outcome. HeartbeatAt (finite.get self.old.groups request.now.group_id.now) self.old
@@ -315,9 +332,9 @@ fn has_length_of_a_frame(body: &[u8]) -> bool
 }
 
 /// Sends what a group answered, in the room that is there. Takes no memory.
-fn send(alloc: Global, correlation: i32, outcome: Outcome<'_>, out: &mut Vec<u8>) -> Answered
+fn send(alloc: Global, correlation: i32, outcome: Outcome, out: &mut Vec<u8>) -> Answered
     requires { IsSendable (answer_of outcome) (vec_capacity out.old - length out.old.items) }
-    ensures { IsSent correlation (answer_of outcome.entry) result out.old.items out.new.items }
+    ensures { IsSent correlation (answer_of outcome) result out.old.items out.new.items }
 {
     match outcome {
         Outcome::Replied(reply) => {

@@ -18,7 +18,7 @@ pub(crate) fn is_success(code: Code) -> bool
 }
 
 /// Whether a heartbeat is answered with success.
-pub(crate) fn succeeds(outcome: &Outcome<'_>) -> bool
+pub(crate) fn succeeds(outcome: &Outcome) -> bool
     ensures { result ≡ succeeds (answer_of outcome.now) }
 {
     match outcome {

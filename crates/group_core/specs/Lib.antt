@@ -1,6 +1,5 @@
 pub mod Listing
 pub mod Checks
-pub mod ReplyText
 pub mod Outcome
 pub mod Group
 pub mod GroupView

@@ -19,20 +19,20 @@ use group_epochs::Record;
 use group_types::{Epoch, EpochNumber, Moment, PartSet};
 
 /// Stores a draft's record, where its member moves or not, and all that its renewal changed, and replies. Takes no memory.
-pub fn carry_out<'a>(
+pub fn carry_out(
     state: &mut State,
     draft: Draft,
     renewal: Renewal,
-    plan: Plan<'a>,
+    plan: Plan,
     moves: bool,
     now: Moment,
-) -> Reply<'a>
+) -> Reply
     requires fit { IsFit state.old draft }
     requires successor { IsSuccessor plan.successor (heir_id draft) }
     requires heir { IfSome (heir_id draft) (HasNothing (target_then state.old renewal).owners (pairs state.old.grants)) }
-    ensures reply { reply_of result ≡ acceptance plan.entry.id (record_after state.old draft renewal moves now) plan.entry.assignment }
+    ensures reply { reply_of result ≡ acceptance plan.id (record_after state.old draft renewal moves now) plan.assignment }
     ensures group { group_of state.new ≡ stored_in (carried state.old draft now renewal) draft.member.id
-        (sent_after (record_after state.old draft renewal moves now) plan.entry.sent) (heir_in state.old draft) }
+        (sent_after (record_after state.old draft renewal moves now) plan.sent) (heir_in state.old draft) }
     ensures since { HasSameSince state.old.grants state.new.grants }
     ensures marks { KeepsMarks state.old.records state.new.records draft.member.id }
 {

@@ -138,14 +138,14 @@ impl Group {
     /// takes. A refusal and an overtaken heartbeat change nothing. A partition that somebody held stays granted under the target
     /// epoch under which it was. Where it replies there is room for the reply's frame behind the bytes of `out`, which stay. Fails
     /// where memory is short, and then nothing has changed.
-    pub fn heartbeat<'a>(
+    pub fn heartbeat(
         &mut self,
-        request: &HeartbeatRequest<'a>,
+        request: &HeartbeatRequest<'_>,
         stamp: Stamp,
         now: Moment,
         image: &Image,
         out: &mut Vec<u8>,
-    ) -> Result<Outcome<'a>, AllocError>
+    ) -> Result<Outcome, AllocError>
         requires id { length request.now.member_id.now ≤ LONGEST_STRING }
         ensures step { IfOk result (λ outcome. HeartbeatStep self.old.state
             (arrival_of (heartbeat_request_value request.now) stamp now image.now) (answer_of outcome) self.new.state) }
@@ -158,16 +158,16 @@ impl Group {
     }
 
     /// The same where it may be known that the group's view is that of the image: a member that has nothing to be told then costs
-    /// no look at a topic or at another member, and no memory beside that in `out`.
-    pub fn heartbeat_over<'a>(
+    /// no look at a topic or at another member, and no memory beside the reply's id and the room in `out`.
+    pub fn heartbeat_over(
         &mut self,
-        request: &HeartbeatRequest<'a>,
+        request: &HeartbeatRequest<'_>,
         stamp: Stamp,
         now: Moment,
         image: &Image,
         is_current: bool,
         out: &mut Vec<u8>,
-    ) -> Result<Outcome<'a>, AllocError>
+    ) -> Result<Outcome, AllocError>
         requires id { length request.now.member_id.now ≤ LONGEST_STRING }
         requires current { is_current ≡ true → IsCurrent self.old.state image.now }
         ensures step { IfOk result (λ outcome. HeartbeatStep self.old.state

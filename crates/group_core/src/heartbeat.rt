@@ -26,15 +26,15 @@ use topic_meta::Image;
 
 /// Answers a heartbeat, where it may be known that the view is that of the image. Where memory is short, the group is
 /// as it was.
-pub fn respond<'a>(
+pub fn respond(
     state: &mut State,
-    request: &HeartbeatRequest<'a>,
+    request: &HeartbeatRequest<'_>,
     stamp: Stamp,
     moment: Moment,
     image: &Image,
     is_current: bool,
     out: &mut Vec<u8>,
-) -> Result<Outcome<'a>, AllocError>
+) -> Result<Outcome, AllocError>
     requires group { IsGroup state.old }
     requires id { length request.now.member_id.now ≤ LONGEST_STRING }
     requires current { is_current ≡ true → IsCurrent (group_of state.old) image.now }
@@ -55,14 +55,14 @@ pub fn respond<'a>(
 }
 
 /// Answers a heartbeat. Where memory is short, the group is as it was.
-fn answer<'a>(
+fn answer(
     state: &mut State,
-    request: &HeartbeatRequest<'a>,
+    request: &HeartbeatRequest<'_>,
     stamp: Stamp,
     moment: Moment,
     image: &Image,
     out: &mut Vec<u8>,
-) -> Result<Outcome<'a>, AllocError>
+) -> Result<Outcome, AllocError>
     requires group { IsGroup state.old }
     requires id { length request.now.member_id.now ≤ LONGEST_STRING }
     ensures step { IfOk result (λ outcome. HeartbeatStep (group_of state.old)
@@ -79,14 +79,14 @@ fn answer<'a>(
 }
 
 /// Answers a heartbeat that the checks accept. Where memory is short, the group is as it was.
-fn accept<'a>(
+fn accept(
     state: &mut State,
-    request: &HeartbeatRequest<'a>,
+    request: &HeartbeatRequest<'_>,
     stamp: Stamp,
     moment: Moment,
     image: &Image,
     out: &mut Vec<u8>,
-) -> Result<Outcome<'a>, AllocError>
+) -> Result<Outcome, AllocError>
     requires group { IsGroup state.old }
     requires id { length request.now.member_id.now ≤ LONGEST_STRING }
     requires accepted { let q = heartbeat_of (heartbeat_request_value request.now) in

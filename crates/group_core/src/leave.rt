@@ -1,7 +1,8 @@
 //! A member leaves for good (KIP-848, "Consumer Group Heartbeat", member epoch -1), or a static one goes away for a while ("Static
 //! Membership", member epoch -2).
-ghost use Rattle.std.specs.Prelude.{◌≡◌, ◌-◌, IfOk, OnOk, Some, length, vec_capacity};
+ghost use Rattle.std.specs.Prelude.{◌≡◌, ◌≤◌, ◌-◌, IfOk, OnOk, Some, length, vec_capacity};
 ghost use Rattle.std.specs.FinMap as finite;
+ghost use Rattle.group_types.specs.Limits.{LONGEST_STRING};
 ghost use Rattle.group_types.specs.Group.{Record};
 ghost use Rattle.group_types.specs.Leave.{gone_away, left, risen};
 ghost use Rattle.group_types.specs.Request.{GOES_AWAY_AT, LEAVES_AT};
@@ -13,22 +14,22 @@ ghost use Rattle.group_core.specs.Outcome.{answer_of, IsResponse};
 ghost use Rattle.group_core.specs.Steady.{AreMarked};
 
 use crate::outcome::{Outcome, Reply};
-use crate::plan::make_room;
-use crate::reply_id::ReplyId;
+use crate::plan::id_with_room;
 use crate::state::State;
 use group_types::{EpochNumber, Moment, Stamp};
 use std::alloc::AllocError;
 
 /// Answers a leave that the checks accept: records, target and grants lose the member, and the group epoch rises below its
 /// greatest value. Where memory is short, the group is as it was.
-pub fn leave<'a>(
+pub fn leave(
     state: &mut State,
-    member: &'a str,
+    member: &str,
     stamp: Stamp,
     moment: Moment,
     out: &mut Vec<u8>,
-) -> Result<Outcome<'a>, AllocError>
+) -> Result<Outcome, AllocError>
     requires marks { AreMarked (group_of state.old) state.old.records.marks }
+    requires id { length member.now ≤ LONGEST_STRING }
     requires there { IsMember state.old.records member.now }
     ensures answer { IfOk result (λ outcome. answer_of outcome ≡ Replied (farewell member.now LEAVES_AT)) }
     ensures group { OnOk result (group_of state.new ≡ left (group_of state.old) member.now stamp moment) }
@@ -36,25 +37,26 @@ pub fn leave<'a>(
     ensures keeps { Keeps result state.old state.new out.old.items out.new.items }
     ensures holders { KeepsHolders result state.old state.new }
 {
-    make_room(out, member, &None)?;
+    let id = id_with_room(state.alloc, member, &None, out)?;
     state.records.leave(member, stamp);
     state.target.drop_member(member);
     state.grants.drop_member(member);
     state.epoch = risen(state.epoch);
     state.clock = state.clock.later(moment);
-    Ok(Outcome::Replied(Reply::farewell(ReplyId::named(member), -1)))
+    Ok(Outcome::Replied(Reply::farewell(id, -1)))
 }
 
 /// Answers a heartbeat that the checks accept and by which a member goes away: its record says so, and its target, its grants and the
 /// group epoch stay. Where memory is short, the group is as it was.
-pub fn go_away<'a>(
+pub fn go_away(
     state: &mut State,
-    member: &'a str,
+    member: &str,
     stamp: Stamp,
     moment: Moment,
     out: &mut Vec<u8>,
-) -> Result<Outcome<'a>, AllocError>
+) -> Result<Outcome, AllocError>
     requires marks { AreMarked (group_of state.old) state.old.records.marks }
+    requires id { length member.now ≤ LONGEST_STRING }
     requires there { IsMember state.old.records member.now }
     ensures answer { IfOk result (λ outcome. answer_of outcome ≡ Replied (farewell member.now GOES_AWAY_AT)) }
     ensures group { OnOk result ((r : Record) × (finite.get state.old.records.records member.now ≡ Some r)
@@ -63,11 +65,11 @@ pub fn go_away<'a>(
     ensures keeps { Keeps result state.old state.new out.old.items out.new.items }
     ensures holders { KeepsHolders result state.old state.new }
 {
-    make_room(out, member, &None)?;
+    let id = id_with_room(state.alloc, member, &None, out)?;
     let now = state.clock.later(moment);
     state.records.away(member, stamp, now);
     state.clock = now;
-    Ok(Outcome::Replied(Reply::farewell(ReplyId::named(member), -2)))
+    Ok(Outcome::Replied(Reply::farewell(id, -2)))
 }
 
 /// The epoch after this one, or the greatest one again.

@@ -25,7 +25,6 @@ mod naming;
 mod outcome;
 mod place;
 mod plan;
-mod reply_id;
 mod reported;
 mod settle;
 mod shown;
@@ -39,11 +38,10 @@ pub use group_epochs::Records;
 pub use group_reconcile::Grants;
 pub use group_target::Target;
 pub use group_types::{Code, Epoch, EpochNumber, MemberId, Moment, PartSet, Partition, Stamp};
-pub use kip_msgs::{CommitReply, CommitRequest, HeartbeatRequest};
+pub use kip_msgs::{Array, CommitReply, CommitRequest, HeartbeatRequest, TopicPartitions};
 pub use laws::{
     first_joins_are_answered, heartbeats_have_an_answer, heartbeats_have_one_answer, targets_exist,
 };
 pub use outcome::{Outcome, Reply};
-pub use reply_id::ReplyId;
 pub use shown::Shown;
 pub use topic_meta::Image;

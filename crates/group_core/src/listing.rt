@@ -9,10 +9,10 @@ use kip_msgs::{Array, TopicPartitions, list_partition};
 use std::alloc::{AllocError, Global};
 
 /// The topics of a set by their ids' bytes, each with its indexes rising. Fails where memory is short.
-pub(crate) fn topics_of<'a>(
+pub(crate) fn topics_of(
     alloc: Global,
     set: &PartSet,
-) -> Result<Array<TopicPartitions<'a>>, AllocError>
+) -> Result<Array<TopicPartitions<'static>>, AllocError>
     ensures { IfOk result (λ topics. topic_partitions_values topics ≡ listed (in_order set.now)) }
 {
     let mut topics = Vec::new(alloc);

@@ -9,7 +9,7 @@ use group_epochs::Record;
 use group_types::{Epoch, EpochNumber, PartSet};
 
 /// Marks the member that is replied to, where it has nothing to be told now. Takes no memory.
-pub fn mark_replied(state: &mut State, outcome: &Outcome<'_>)
+pub fn mark_replied(state: &mut State, outcome: &Outcome)
     requires { AreMarked (group_of state.old) state.old.records.marks }
     ensures group { group_of state.new ≡ group_of state.old }
     ensures target { state.new.target ≡ state.old.target }

@@ -2,31 +2,30 @@
 
 ghost use Rattle.std.specs.Prelude.{◌≡◌, Some};
 
-use crate::reply_id::ReplyId;
 use crate::shown::Shown;
 use group_types::limits::HEARTBEAT_INTERVAL;
-use group_types::{Code, Epoch};
+use group_types::{Code, Epoch, MemberId};
 
-/// A reply to a heartbeat. It owns what was made for it, and lends the rest from the request.
+/// A reply to a heartbeat. It owns its member id and its partitions, so it outlives its request.
 #[derive(Drop)]
-pub struct Reply<'a> {
+pub struct Reply {
     pub code: Code,
     /// The member's id; none beside an error.
-    pub member: Option<ReplyId<'a>>,
+    pub member: Option<MemberId>,
     pub epoch: i32,
     /// Milliseconds to the next heartbeat.
     pub interval: i32,
     /// The partitions that the member may read, where they are said.
-    pub assignment: Option<Shown<'a>>,
+    pub assignment: Option<Shown>,
 }
 
-impl<'a> Reply<'a> {
+impl Reply {
     ghost use Rattle.group_types.specs.HeartbeatStep.{epoch_number, farewell, refusal};
     ghost use Rattle.group_types.specs.Limits as limits;
     ghost use Rattle.group_core.specs.Outcome.{reply_of};
 
     /// The reply that says an error and nothing else. Takes no memory.
-    pub fn refusal(code: Code) -> Reply<'a>
+    pub fn refusal(code: Code) -> Reply
         ensures { reply_of result ≡ refusal code }
     {
         Reply {
@@ -39,17 +38,13 @@ impl<'a> Reply<'a> {
     }
 
     /// The reply to an accepted join or beat. Takes no memory.
-    pub(crate) fn acceptance(
-        member: ReplyId<'a>,
-        epoch: Epoch,
-        assignment: Option<Shown<'a>>,
-    ) -> Reply<'a>
+    pub(crate) fn acceptance(member: MemberId, epoch: Epoch, assignment: Option<Shown>) -> Reply
         ensures { reply_of result ≡ record {
           code = Code.NoError;
-          member = Some member.entry;
+          member = Some member;
           epoch = epoch_number epoch;
           interval = limits.HEARTBEAT_INTERVAL;
-          assignment = assignment.entry;
+          assignment = assignment;
         } }
     {
         Reply {
@@ -65,8 +60,8 @@ impl<'a> Reply<'a> {
     }
 
     /// The reply to a member that leaves, at the member epoch of its heartbeat. Takes no memory.
-    pub(crate) fn farewell(member: ReplyId<'a>, epoch: i32) -> Reply<'a>
-        ensures { reply_of result ≡ farewell member.entry epoch }
+    pub(crate) fn farewell(member: MemberId, epoch: i32) -> Reply
+        ensures { reply_of result ≡ farewell member epoch }
     {
         Reply {
             code: Code::NoError,
@@ -80,9 +75,9 @@ impl<'a> Reply<'a> {
 
 /// What becomes of a heartbeat.
 #[derive(Drop)]
-pub enum Outcome<'a> {
+pub enum Outcome {
     /// It is answered.
-    Replied(Reply<'a>),
+    Replied(Reply),
     /// A later heartbeat of the member was accepted before: it is not answered, and its connection is to be closed.
     Overtaken,
 }

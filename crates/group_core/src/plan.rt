@@ -13,7 +13,6 @@ ghost use Rattle.group_core.specs.Stages.{AreOfView, IsPlan, IsSuccessor, shown_
 use crate::change::Renewal;
 use crate::draft::Draft;
 use crate::place::Successor;
-use crate::reply_id::ReplyId;
 use crate::reported::reported;
 use crate::shown::Shown;
 use crate::state::State;
@@ -31,24 +30,24 @@ const PARTITION_ROOM: usize = 30;
 
 /// What is made for a draft that was renewed, before anything is stored.
 #[derive(Drop)]
-pub struct Plan<'a> {
-    pub id: ReplyId<'a>,
+pub struct Plan {
+    pub id: MemberId,
     /// The partitions that are reported.
     pub owned: Option<PartSet>,
     /// The assignment of the reply, where one is said, and a copy of it to be kept as what was sent.
-    pub assignment: Option<Shown<'a>>,
+    pub assignment: Option<Shown>,
     pub sent: Option<PartSet>,
     pub successor: Option<Successor>,
 }
 
 /// Plans the reply to a member whose draft was renewed; there is room for it in `out` then. Fails where memory is short.
-pub fn plan_of<'a>(
+pub fn plan_of(
     state: &State,
     draft: &Draft,
     renewal: &Renewal,
-    request: &HeartbeatRequest<'a>,
+    request: &HeartbeatRequest<'_>,
     out: &mut Vec<u8>,
-) -> Result<Plan<'a>, AllocError>
+) -> Result<Plan, AllocError>
     requires epoch { pos 0 ≤ℤ request.now.member_epoch }
     requires owned { AreOfView (target_then state.now renewal.now).owners renewal.now.view }
     ensures plan { let q = heartbeat_of (heartbeat_request_value request.now) in IfOk result (IsPlan state.now draft.now renewal.now q) }
@@ -62,7 +61,7 @@ pub fn plan_of<'a>(
     let shown = shown_of(state, draft, renewal, &owned)?;
     let is_said = is_said(request, &draft.member.record, &shown);
     let said = said_of(alloc, shown, is_said)?;
-    let id = id_with_room(alloc, draft.told_id(), request.member_id, &said.0, out)?;
+    let id = id_with_room(alloc, draft.told_id().as_str(), &said.0, out)?;
     let successor = successor_of(alloc, &draft.member)?;
     let (assignment, sent) = said;
     Ok(Plan {
@@ -74,27 +73,21 @@ pub fn plan_of<'a>(
     })
 }
 
-/// The id in a reply, which is the request's own where that is the member's, and room in `out` for a reply with it and this
-/// assignment. Fails where memory is short.
-fn id_with_room<'a>(
+/// The id in a reply, and room in `out` for a reply with it and this assignment. Fails where memory is short.
+pub fn id_with_room(
     alloc: Global,
-    id: &MemberId,
-    named: &'a str,
-    assignment: &Option<Shown<'_>>,
+    id: &str,
+    assignment: &Option<Shown>,
     out: &mut Vec<u8>,
-) -> Result<ReplyId<'a>, AllocError>
-    requires { IfSome assignment.now (λ set. size set ≤ limits.MOST_PARTITIONS) }
+) -> Result<MemberId, AllocError>
+    requires id { length id.now ≤ limits.LONGEST_STRING }
+    requires few { IfSome assignment.now (λ set. size set ≤ limits.MOST_PARTITIONS) }
     ensures id { IfOk result (λ r. r ≡ id.now) }
     ensures room { IfOk result (λ r. room_for (Some r) assignment.now ≤ vec_capacity out.new - length out.new.items) }
     ensures out { out.new.items ≡ out.old.items }
 {
-    let id = if id.is(named) {
-        ReplyId::named(named)
-    } else {
-        ReplyId::made(id.copy(alloc)?)
-    };
-    make_room(out, id.as_str(), assignment)?;
-    Ok(id)
+    make_room(out, id, assignment)?;
+    MemberId::of(alloc, id)
 }
 
 /// What the member of a draft that was renewed is shown, where it reports so. Fails where memory is short.
@@ -112,11 +105,11 @@ fn shown_of(
 }
 
 /// The shown set, where it is said, and its copy. Fails where memory is short.
-fn said_of<'a>(
+fn said_of(
     alloc: Global,
     shown: PartSet,
     is_said: bool,
-) -> Result<(Option<Shown<'a>>, Option<PartSet>), AllocError>
+) -> Result<(Option<Shown>, Option<PartSet>), AllocError>
     ensures assignment { IfOk result (λ said. said.0 ≡ assignment_of is_said shown) }
     ensures sent { IfOk result (λ said. said.1 ≡ assignment_of is_said shown) }
 {
@@ -171,11 +164,7 @@ fn is_full(request: &HeartbeatRequest<'_>) -> bool
 }
 
 /// Makes room in `out` for a reply with this id and assignment.
-pub fn make_room(
-    out: &mut Vec<u8>,
-    id: &str,
-    assignment: &Option<Shown<'_>>,
-) -> Result<(), AllocError>
+pub fn make_room(out: &mut Vec<u8>, id: &str, assignment: &Option<Shown>) -> Result<(), AllocError>
     requires { IfSome assignment.now (λ set. size set ≤ limits.MOST_PARTITIONS) }
     ensures room { OnOk result (room_for (Some id.now) assignment.now ≤ vec_capacity out.new - length out.new.items) }
     ensures out { out.new.items ≡ out.old.items }

@@ -31,14 +31,14 @@ use std::alloc::AllocError;
 
 /// Settles the member of a draft on the target that its renewal leaves, and replies (KIP-848, "Reconciliation of the group").
 /// Where memory is short, the group is as it was.
-pub fn settle<'a>(
+pub fn settle(
     state: &mut State,
     draft: Draft,
     renewal: Renewal,
-    request: &HeartbeatRequest<'a>,
+    request: &HeartbeatRequest<'_>,
     now: Moment,
     out: &mut Vec<u8>,
-) -> Result<Outcome<'a>, AllocError>
+) -> Result<Outcome, AllocError>
     requires sound { IsSound (group_of state.old) }
     requires fit { IsFit state.old draft }
     requires idle { IfSome (heir_id draft) (HasNothing (target_then state.old renewal).owners (pairs state.old.grants)) }

@@ -10,12 +10,12 @@ use std::marker::Model;
 
 /// The set of partitions that a reply shows, listed as a message lists it. Callers see the set.
 #[derive(Drop)]
-pub struct Shown<'a> {
+pub struct Shown {
     set: PartSet,
-    topics: Array<TopicPartitions<'a>>,
+    topics: Array<TopicPartitions<'static>>,
 }
 
-impl<'a> Model for Shown<'a> {
+impl Model for Shown {
     ghost use Rattle.std.specs.Prelude.{◌≡◌};
     ghost use Rattle.group_types.specs.Sets.{in_order};
     ghost use Rattle.group_types.specs.Partition.{Partitions};
@@ -32,13 +32,13 @@ impl<'a> Model for Shown<'a> {
     ghost invariant = { λ a. topic_partitions_values a.topics ≡ listed (in_order a.set) };
 }
 
-impl<'a> Shown<'a> {
+impl Shown {
     ghost use Rattle.group_types.specs.Sets.{in_order};
     ghost use Rattle.kip_msgs.specs.Topics.{topic_partitions_values};
     ghost use Rattle.group_core.specs.Listing.{listed};
 
     /// The set with its listing. Fails where memory is short.
-    pub(crate) fn of(alloc: Global, set: PartSet) -> Result<Shown<'a>, AllocError>
+    pub(crate) fn of(alloc: Global, set: PartSet) -> Result<Shown, AllocError>
         ensures { IfOk result (λ shown. shown ≡ set) }
     {
         let topics = topics_of(alloc, &set)?;
@@ -53,8 +53,8 @@ impl<'a> Shown<'a> {
     }
 
     /// The topics by their ids' bytes, each with its indexes rising. Takes no memory.
-    pub fn into_topics(self) -> Array<TopicPartitions<'a>>
-        ensures { topic_partitions_values result ≡ listed (in_order self.entry) }
+    pub fn into_topics(self) -> Array<TopicPartitions<'static>>
+        ensures { topic_partitions_values result ≡ listed (in_order self) }
     {
         self.topics
     }

@@ -1,5 +1,6 @@
 //! A beat that gives nothing, of a member that has nothing to be told: no walk and no look at another member (ours).
-ghost use Rattle.std.specs.Prelude.{◌≡◌, ◌-◌, IfNone, IfOk, IfSome, IsSome, OnErr, IsTrue, length, vec_capacity};
+ghost use Rattle.std.specs.Prelude.{◌≡◌, ◌≤◌, ◌-◌, IfNone, IfOk, IfSome, IsSome, OnErr, IsTrue, length, vec_capacity};
+ghost use Rattle.group_types.specs.Limits.{LONGEST_STRING};
 ghost use Rattle.group_types.specs.Sound.{IsSound};
 ghost use Rattle.group_types.specs.Topics.{Topics};
 ghost use Rattle.group_types.specs.HeartbeatStep.{HeartbeatStep};
@@ -12,8 +13,7 @@ ghost use Rattle.group_core.specs.Steady.{AreMarked, IsSteadyBeat};
 
 use crate::checks;
 use crate::outcome::{Outcome, Reply};
-use crate::plan::make_room;
-use crate::reply_id::ReplyId;
+use crate::plan::id_with_room;
 use crate::state::State;
 use group_types::{Epoch, Moment, Stamp};
 use kip_msgs::HeartbeatRequest;
@@ -44,15 +44,17 @@ fn gives_nothing(request: &HeartbeatRequest<'_>) -> bool
 }
 
 /// Answers a steady beat whose member is marked at the target's epoch, where the stamp comes after its last one: the stamp and
-/// the time are stored. Has no answer for another beat, and the group is as it was. Takes no memory but room in `out`, and one look-up.
-pub fn beat_steadily<'a>(
+/// the time are stored. Has no answer for another beat, and the group is as it was. Takes the reply's id and the room in `out`, both
+/// before anything is stored, and one look-up.
+pub fn beat_steadily(
     state: &mut State,
-    request: &HeartbeatRequest<'a>,
+    request: &HeartbeatRequest<'_>,
     stamp: Stamp,
     moment: Moment,
     out: &mut Vec<u8>,
-) -> Result<Option<Outcome<'a>>, AllocError>
+) -> Result<Option<Outcome>, AllocError>
     requires group { IsGroup state.old }
+    requires id { length request.now.member_id.now ≤ LONGEST_STRING }
     requires steady { IsSteadyBeat state.old (heartbeat_of (heartbeat_request_value request.now)) }
     ensures step { (image : Topics) → IsCurrent (group_of state.old) image → IfOk result (λ answer. IfSome answer (λ outcome. HeartbeatStep (group_of state.old)
         (arrival_of (heartbeat_request_value request.now) stamp moment image) (answer_of outcome) (group_of state.new))) }
@@ -63,7 +65,7 @@ pub fn beat_steadily<'a>(
     ensures keeps { Keeps result state.old state.new out.old.items out.new.items }
     ensures holders { KeepsHolders result state.old state.new }
 {
-    make_room(out, request.member_id, &None)?;
+    let id = id_with_room(state.alloc, request.member_id, &None, out)?;
     let now = state.clock.later(moment);
     let epoch = state.target.epoch();
     if !state
@@ -73,6 +75,6 @@ pub fn beat_steadily<'a>(
         return Ok(None);
     }
     state.clock = now;
-    let reply = Reply::acceptance(ReplyId::named(request.member_id), Epoch::At(epoch), None);
+    let reply = Reply::acceptance(id, Epoch::At(epoch), None);
     Ok(Some(Outcome::Replied(reply)))
 }

@@ -28,14 +28,14 @@ use std::alloc::AllocError;
 use topic_meta::Image;
 
 /// Answers a join or a beat that the checks accept. Where memory is short, the group is as it was.
-pub fn enter<'a>(
+pub fn enter(
     state: &mut State,
-    request: &HeartbeatRequest<'a>,
+    request: &HeartbeatRequest<'_>,
     stamp: Stamp,
     moment: Moment,
     image: &Image,
     out: &mut Vec<u8>,
-) -> Result<Outcome<'a>, AllocError>
+) -> Result<Outcome, AllocError>
     requires group { IsGroup state.old }
     requires epoch { pos 0 ≤ℤ request.now.member_epoch }
     requires id { length request.now.member_id.now ≤ LONGEST_STRING }
@@ -56,14 +56,14 @@ pub fn enter<'a>(
 }
 
 /// Takes in a draft, over the node's image. Where memory is short, the group is as it was.
-fn take_in<'a>(
+fn take_in(
     state: &mut State,
     draft: Draft,
-    request: &HeartbeatRequest<'a>,
+    request: &HeartbeatRequest<'_>,
     now: Moment,
     image: &Image,
     out: &mut Vec<u8>,
-) -> Result<Outcome<'a>, AllocError>
+) -> Result<Outcome, AllocError>
     requires group { IsGroup state.old }
     requires fit { IsFit state.old draft }
     requires epoch { pos 0 ≤ℤ request.now.member_epoch }
@@ -80,7 +80,7 @@ fn take_in<'a>(
 }
 
 /// Refuses a heartbeat; there is room for the reply in `out` then.
-pub fn refuse<'a>(code: Code, out: &mut Vec<u8>) -> Result<Outcome<'a>, AllocError>
+pub fn refuse(code: Code, out: &mut Vec<u8>) -> Result<Outcome, AllocError>
     requires { code ≢ Code.NoError }
     ensures answer { IfOk result (λ outcome. answer_of outcome ≡ Replied (refusal code)) }
     ensures response { (g : Group) (image : Topics) → IfOk result (λ outcome. IsResponse (answer_of outcome) g image (vec_capacity out.new - length out.new.items)) }

@@ -280,12 +280,12 @@ fn indexes_of(alloc: Global, words: &str) -> Result<Array<i32>, AllocError> {
 }
 
 /// What the group answers. Where a growth is refused nothing may have changed, and the heartbeat is sent once more.
-fn heartbeat<'a>(
+fn heartbeat(
     told: &mut Told,
-    request: &HeartbeatRequest<'a>,
+    request: &HeartbeatRequest<'_>,
     frame: &mut Vec<u8>,
     out: &mut String,
-) -> Result<Outcome<'a>, AllocError> {
+) -> Result<Outcome, AllocError> {
     let stamp = Stamp {
         connection: 1,
         frame: told.steps,
@@ -313,7 +313,7 @@ fn numbers_of(group: &Group) -> (u32, u32, usize) {
     (group.epoch().as_u32(), target.as_u32(), group.members())
 }
 
-fn tell_outcome(outcome: &Outcome<'_>, out: &mut String) -> Result<(), AllocError> {
+fn tell_outcome(outcome: &Outcome, out: &mut String) -> Result<(), AllocError> {
     part_words(out)?;
     match outcome {
         Outcome::Overtaken => out.push_str("closes"),
@@ -321,7 +321,7 @@ fn tell_outcome(outcome: &Outcome<'_>, out: &mut String) -> Result<(), AllocErro
     }
 }
 
-fn tell_reply(reply: &Reply<'_>, out: &mut String) -> Result<(), AllocError> {
+fn tell_reply(reply: &Reply, out: &mut String) -> Result<(), AllocError> {
     let Some(member) = &reply.member else {
         return write!(out, "{:?}", reply.code);
     };

@@ -28,8 +28,8 @@ few_of : (view : Topics) (owners : Spread) (m : Text) (held : Partitions) → Ar
 few_of view owners m held image of shown is b told so =
     subst (λ o. IfSome o IsFew) (sym so) (few_told b shown (subst IsFew (sym is) (few_shown view owners m held image of)))
 
-pub id_with_room-requires : goal.id_with_room-requires
-id_with_room-requires c =
+pub id_with_room-requires-clause-few : goal.id_with_room-requires-clause-few
+id_with_room-requires-clause-few c =
     let s = c.args.state.now in
     let d = c.args.draft.now in
     let r = c.args.renewal.now in
@@ -45,7 +45,7 @@ returns-clause-plan c =
     let shown = c.in_ok-shown.shown in
     let shown_is : shown ≡ shown_then s d r (reported q) = c.in_ok-shown.ensures ∙ ap (shown_then s d r) c.in_ok-owned.ensures in
     record {
-      id = c.in_ok-id.ensures.id ∙ c.told_id.ensures;
+      id = c.in_ok-id.ensures.id ∙ c.as_str.ensures.value ∙ c.told_id.ensures;
       owned = c.in_ok-owned.ensures;
       assignment =
           c.in_ok-said.ensures.assignment ∙ ap (λ b. assignment_of b shown) c.is_said-is_said.ensures

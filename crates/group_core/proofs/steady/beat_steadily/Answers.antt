@@ -35,7 +35,7 @@ returns-clause-step c = λ image current.
     let r : Record = beat.kept in
     let now : ℕ = max s.clock c.args.moment in
     let replied : reply_of c.acceptance-reply.result ≡ acceptance a.heartbeat.member (record (beaten r c.args.stamp now) { epoch = At s.target.epoch }) None =
-    c.acceptance-reply.ensures ∙ (λ i. acceptance (c.named.ensures i) (record (beaten r c.args.stamp now) { epoch = At (c.epoch-epoch.ensures i) }) None) in
+    c.acceptance-reply.ensures ∙ (λ i. acceptance (c.in_ok-id.ensures.id i) (record (beaten r c.args.stamp now) { epoch = At (c.epoch-epoch.ensures i) }) None) in
     let stored : c.beat_marked.new.self.records ≡ finite.insert s.records.records a.heartbeat.member (beaten r c.args.stamp now) =
     c.if-not-beat_marked.ensures.records r refl beat.is_kept ∙ ap (λ t. finite.insert s.records.records a.heartbeat.member (beaten r c.args.stamp t)) c.later-now.ensures in
     let Steps : Reply → Group → Type 0 = λ reply new. HeartbeatStep (group_of s) a (Replied reply) new in

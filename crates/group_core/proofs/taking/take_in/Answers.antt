@@ -72,5 +72,5 @@ returns-in-Some-clause-keeps c =
       err = c.settle.ensures.err;
     }
 
-pub returns-clause-response : goal.returns-clause-response
-returns-clause-response c = c.refuse.ensures.response (group_of c.args.state.now) c.args.image.now
+pub returns-in-None-clause-response : goal.returns-in-None-clause-response
+returns-in-None-clause-response c = c.refuse.ensures.response (group_of c.args.state.now) c.args.image.now

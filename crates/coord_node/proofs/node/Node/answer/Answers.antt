@@ -10,6 +10,6 @@ returns-clause-at_once c = λ once.
       | inl short ↦ let no : ⊥ = omega (arith, within.0, short) in absurd no
       | inr more ↦ elim more [
         | inl long ↦ let no : ⊥ = omega (arith, within.1, long) in absurd no
-        | inr head ↦ c.answer_parsed.ensures.no_request (λ v spells. (c.of.ensures.at_once head).1 v (subst (SpellsRequest v) c.in_ok-parsed.ensures.bytes spells))
+        | inr head ↦ c.answer_fitting.ensures.no_request (λ v spells. (c.of.ensures.at_once head).1 v (subst (SpellsRequest v) c.in_ok-parsed.ensures.bytes spells))
       ]
     ]
