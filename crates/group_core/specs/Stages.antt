@@ -12,8 +12,9 @@ use Rattle.group_types.specs.Settle.{grants_after, may_settle, settled_record}
 use Rattle.group_types.specs.Group.{Group, Record, Records, Grants, held, wanted}
 use Rattle.group_target.specs.TargetState.{TargetState}
 use Rattle.group_reconcile.specs.Holders.{pairs}
+use Rattle.group_reconcile.specs.Offers.{IsSince}
 use Rattle.group_types.specs.declared.stamp.Stamp.{Stamp}
-use Rattle.group_types.specs.Request.{Heartbeat, is_full, kind_of, reported}
+use Rattle.group_types.specs.Request.{Heartbeat, is_full, kind_of}
 use Rattle.group_types.specs.Members.{members_of, with_members, with_record}
 use Rattle.group_types.specs.HeartbeatStep.{assignment_of, is_news, sent_after, verdict_on_change}
 use Rattle.group_core.specs.CodeOrder.{LateDraft, Heir, late_draft, renamed_last}
@@ -173,17 +174,23 @@ pub record HasNothing (owners : Spread) (grants : Grants) (m : Text) : Type 0 wh
 
 -- ---- what is made before it
 
+-- the member was offered its part of the target that a renewal leaves, and moves or not; of the state only the grants have changed
+pub record IsOffered (s : State) (d : Drafted) (r : Renewal) (owned : Option Partitions) (does_move : Bool) (new : State) : Type 0 where
+  pub move : does_move ≡ moves s d r owned
+  pub state : new ≡ record s { grants = new.grants }
+  pub grants : pairs new.grants ≡ grants_then s d r owned
+  pub since : IsSince s.grants new.grants d.member.id (target_then s r).epoch
+
 -- an heir, for the target and the grants
 abbrev pub IsSuccessor : Option Successor → Option Text → Type 0
 IsSuccessor None heir = heir ≡ None
 IsSuccessor (Some s) heir = (heir ≡ Some s.in_target) × (heir ≡ Some s.in_grants)
 
--- of a draft and its renewal: the id, what is reported, the assignment that is said, if any, and the heir
-pub record IsPlan (s : State) (d : Drafted) (r : Renewal) (q : Heartbeat) (p : Plan) : Type 0 where
+-- of a draft, its renewal and what is reported: the id, the assignment that is said, if any, and the heir
+pub record IsPlan (s : State) (d : Drafted) (r : Renewal) (q : Heartbeat) (owned : Option Partitions) (p : Plan) : Type 0 where
   pub id : p.id ≡ told_id d
-  pub owned : p.owned ≡ reported q
   pub assignment :
-      let shown = shown_then s d r (reported q) in
+      let shown = shown_then s d r owned in
       p.assignment ≡ assignment_of (is_full q || is_news d.member.record.sent shown) shown
   pub sent : p.sent ≡ p.assignment
   pub few : IfSome p.assignment (λ set. size set ≤ MOST_PARTITIONS)

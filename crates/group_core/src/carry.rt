@@ -38,7 +38,6 @@ pub fn carry_out(
 {
     let Plan {
         id,
-        owned: _,
         assignment,
         sent,
         successor,

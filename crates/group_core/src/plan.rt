@@ -13,7 +13,6 @@ ghost use Rattle.group_core.specs.Stages.{AreOfView, IsPlan, IsSuccessor, shown_
 use crate::change::Renewal;
 use crate::draft::Draft;
 use crate::place::Successor;
-use crate::reported::reported;
 use crate::shown::Shown;
 use crate::state::State;
 use group_epochs::{Draft as MemberDraft, Record};
@@ -32,45 +31,59 @@ const PARTITION_ROOM: usize = 30;
 #[derive(Drop)]
 pub struct Plan {
     pub id: MemberId,
-    /// The partitions that are reported.
-    pub owned: Option<PartSet>,
     /// The assignment of the reply, where one is said, and a copy of it to be kept as what was sent.
     pub assignment: Option<Shown>,
     pub sent: Option<PartSet>,
     pub successor: Option<Successor>,
 }
 
-/// Plans the reply to a member whose draft was renewed; there is room for it in `out` then. Fails where memory is short.
+/// Plans the reply to a member whose draft was renewed and that reports so; there is room for it in `out` then. Fails where memory is
+/// short.
 pub fn plan_of(
     state: &State,
     draft: &Draft,
     renewal: &Renewal,
+    owned: &Option<PartSet>,
     request: &HeartbeatRequest<'_>,
     out: &mut Vec<u8>,
 ) -> Result<Plan, AllocError>
-    requires epoch { pos 0 ≤ℤ request.now.member_epoch }
-    requires owned { AreOfView (target_then state.now renewal.now).owners renewal.now.view }
-    ensures plan { let q = heartbeat_of (heartbeat_request_value request.now) in IfOk result (IsPlan state.now draft.now renewal.now q) }
+    requires { AreOfView (target_then state.now renewal.now).owners renewal.now.view }
+    ensures plan { IfOk result (IsPlan state.now draft.now renewal.now (heartbeat_of (heartbeat_request_value request.now)) owned.now) }
     ensures room { IfOk result (λ plan. room_for (Some plan.id) plan.assignment ≤ vec_capacity out.new - length out.new.items) }
     ensures out { out.new.items ≡ out.old.items }
 {
-    // so that the view is known to have no more partitions than an image
-    let _ = renewal.view.topics();
     let alloc = state.alloc;
-    let owned = reported(alloc, request)?;
-    let shown = shown_of(state, draft, renewal, &owned)?;
-    let is_said = is_said(request, &draft.member.record, &shown);
-    let said = said_of(alloc, shown, is_said)?;
+    let said = assignment_of(state, draft, renewal, owned, request)?;
     let id = id_with_room(alloc, draft.told_id().as_str(), &said.0, out)?;
     let successor = successor_of(alloc, &draft.member)?;
     let (assignment, sent) = said;
     Ok(Plan {
         id,
-        owned,
         assignment,
         sent,
         successor,
     })
+}
+
+/// The assignment in the reply to the member of a draft that was renewed, where one is said, and its copy. Fails where memory is short.
+fn assignment_of(
+    state: &State,
+    draft: &Draft,
+    renewal: &Renewal,
+    owned: &Option<PartSet>,
+    request: &HeartbeatRequest<'_>,
+) -> Result<(Option<Shown>, Option<PartSet>), AllocError>
+    requires { AreOfView (target_then state.now renewal.now).owners renewal.now.view }
+    ensures said { let shown = shown_then state.now draft.now renewal.now owned.now in
+        let is_said = is_full (heartbeat_of (heartbeat_request_value request.now)) || is_news draft.now.member.record.sent shown in
+        IfOk result (λ said. (said.0 ≡ assignment_of is_said shown) × (said.1 ≡ said.0)) }
+    ensures few { IfOk result (λ said. IfSome said.0 (λ set. size set ≤ limits.MOST_PARTITIONS)) }
+{
+    // so that the view is known to have no more partitions than an image
+    let _ = renewal.view.topics();
+    let shown = shown_of(state, draft, renewal, owned)?;
+    let is_said = is_said(request, &draft.member.record, &shown);
+    said_of(state.alloc, shown, is_said)
 }
 
 /// The id in a reply, and room in `out` for a reply with it and this assignment. Fails where memory is short.

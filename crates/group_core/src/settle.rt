@@ -1,27 +1,24 @@
 //! Settles a draft whose target was renewed, and replies to it.
-ghost use Rattle.std.specs.Prelude.{◌≡◌, ◌≤ℤ◌, ◌-◌, IfOk, IfSome, OnErr, OnOk, Option, length, pos, vec_capacity};
-ghost use Rattle.std.specs.FinMap as finite;
+ghost use Rattle.std.specs.Prelude.{◌≡◌, ◌≤◌, ◌≤ℤ◌, ◌-◌, IfOk, OnErr, OnOk, Some, length, pos, vec_capacity};
 ghost use Rattle.group_types.specs.Topics.{Topics};
-ghost use Rattle.group_types.specs.Renewal.{Renews, view_for};
-ghost use Rattle.group_core.specs.CodeOrder.{LateStages};
+ghost use Rattle.group_types.specs.Request.{reported};
+ghost use Rattle.group_core.specs.CodeOrder.{TakesInLate};
 ghost use Rattle.kip_msgs.specs.Views.{heartbeat_request_value};
 ghost use Rattle.group_epochs.specs.Request.{heartbeat_of};
-ghost use Rattle.group_types.specs.Sound.{IsSound};
 ghost use Rattle.group_reconcile.specs.Holders.{pairs};
 ghost use Rattle.group_reconcile.specs.Offers.{AreIndexed, IsSince};
-ghost use Rattle.group_types.specs.Group.{Group, wanted};
+ghost use Rattle.group_types.specs.Group.{wanted};
 ghost use Rattle.group_types.specs.Settle.{grants_after, may_settle};
-ghost use Rattle.group_epochs.specs.Records.{KeepsMarks};
-ghost use Rattle.group_core.specs.GroupView.{KeepsHolders, group_of};
-ghost use Rattle.group_core.specs.Outcome.{answer_of, HasFewPartitions, HasRoomFor, IsCurrent};
-ghost use Rattle.group_core.specs.Stages.{AreOfView, HasNothing, IsFit, draft_in, group_then, heir_id, renewed_by, target_then};
-ghost use Rattle.group_types.specs.Partition.{Partitions};
+ghost use Rattle.group_core.specs.GroupView.{IsGroup, Keeps, KeepsHolders, group_of};
+ghost use Rattle.group_core.specs.Outcome.{answer_of, IsResponse, room_for};
+ghost use Rattle.group_core.specs.Stages.{AreOfView, IsFit, IsOffered, IsPlan, IsRenewalOf, draft_in, target_then};
 
 use crate::carry::carry_out;
 use crate::change::Renewal;
 use crate::draft::Draft;
 use crate::outcome::Outcome;
-use crate::plan::{plan_of, target_of};
+use crate::plan::{Plan, plan_of, target_of};
+use crate::reported::reported;
 use crate::state::State;
 use group_reconcile::{Grants, Verdict};
 use group_target::Target;
@@ -39,29 +36,46 @@ pub fn settle(
     now: Moment,
     out: &mut Vec<u8>,
 ) -> Result<Outcome, AllocError>
-    requires sound { IsSound (group_of state.old) }
+    requires group { IsGroup state.old }
     requires fit { IsFit state.old draft }
-    requires idle { IfSome (heir_id draft) (HasNothing (target_then state.old renewal).owners (pairs state.old.grants)) }
-    requires owned { AreOfView (target_then state.old renewal).owners renewal.view }
+    requires renewal { (image : Topics) × IsRenewalOf state.old draft image renewal }
     requires epoch { pos 0 ≤ℤ request.now.member_epoch }
-    ensures settles { IfOk result (λ outcome. (changed : Group) → Renews changed (renewed_by state.old draft now renewal)
-        → LateStages changed (draft_in (group_of state.old) draft now) (heartbeat_of (heartbeat_request_value request.now)) (answer_of outcome) (group_of state.new)) }
-    ensures current { OnOk result ((image : Topics) → renewal.view ≡ view_for image (finite.insert state.old.records.records draft.member.id draft.member.record)
-        → IsCurrent (group_of state.new) image) }
-    ensures few { IfOk result (λ outcome. HasFewPartitions (answer_of outcome)) }
-    ensures room { IfOk result (λ outcome. HasRoomFor (answer_of outcome) (vec_capacity out.new - length out.new.items)) }
-    ensures out { out.new.items ≡ out.old.items }
-    ensures group { OnOk result ((owned sent : Option Partitions) × (group_of state.new ≡ group_then state.old draft now renewal owned sent)) }
-    ensures marks { OnOk result (KeepsMarks state.old.records state.new.records draft.member.id) }
-    ensures err { OnErr result (group_of state.new ≡ group_of state.old) }
-    ensures same { OnErr result (state.new.records.marks ≡ state.old.records.marks) }
+    ensures step { (image : Topics) → IsRenewalOf state.old draft image renewal → IfOk result (λ outcome. TakesInLate (group_of state.old)
+        (draft_in (group_of state.old) draft now) (heartbeat_of (heartbeat_request_value request.now)) image (answer_of outcome) (group_of state.new)) }
+    ensures response { (image : Topics) → IsRenewalOf state.old draft image renewal → IfOk result (λ outcome.
+        IsResponse (answer_of outcome) (group_of state.new) image (vec_capacity out.new - length out.new.items)) }
+    ensures keeps { Keeps result state.old state.new out.old.items out.new.items }
     ensures holders { KeepsHolders result state.old state.new }
 {
-    let plan = plan_of(state, &draft, &renewal, request, out)?;
-    let target = target_of(&renewal.target, &state.target);
-    let moves = offered(&mut state.grants, target, &draft.member.id, &plan.owned)?;
+    let (plan, moves) = prepare(state, &draft, &renewal, request, out)?;
     let reply = carry_out(state, draft, renewal, plan, moves, now);
     Ok(Outcome::Replied(reply))
+}
+
+/// Makes all that the reply to a draft needs of memory, and offers the draft's member its part of the target, which is the last that
+/// may fail. Says whether the member moves. Where memory is short, the state is as it was.
+fn prepare(
+    state: &mut State,
+    draft: &Draft,
+    renewal: &Renewal,
+    request: &HeartbeatRequest<'_>,
+    out: &mut Vec<u8>,
+) -> Result<(Plan, bool), AllocError>
+    requires owned { AreOfView (target_then state.old renewal.now).owners renewal.now.view }
+    requires epoch { pos 0 ≤ℤ request.now.member_epoch }
+    ensures plan { let q = heartbeat_of (heartbeat_request_value request.now) in
+        IfOk result (λ made. IsPlan state.old draft.now renewal.now q (reported q) made.0) }
+    ensures offer { let q = heartbeat_of (heartbeat_request_value request.now) in
+        IfOk result (λ made. IsOffered state.old draft.now renewal.now (reported q) made.1 state.new) }
+    ensures room { IfOk result (λ made. room_for (Some made.0.id) made.0.assignment ≤ vec_capacity out.new - length out.new.items) }
+    ensures out { out.new.items ≡ out.old.items }
+    ensures err { OnErr result (state.new ≡ state.old) }
+{
+    let owned = reported(state.alloc, request)?;
+    let plan = plan_of(state, draft, renewal, &owned, request, out)?;
+    let target = target_of(&renewal.target, &state.target);
+    let moves = offered(&mut state.grants, target, &draft.member.id, &owned)?;
+    Ok((plan, moves))
 }
 
 /// Offers its part of the target to a member, and says whether it moves.
