@@ -1,13 +1,12 @@
 -- What every answer comes with.
-use Rattle.std.proofs.Common.{◌≡◌, ◌≢◌, ◌≤ℤ◌, arith, ℕ, pos, negsuc, Result, Ok, Err, sym, subst}
-use Rattle.std.specs.Result.{IfOk, OnOk}
+use Rattle.std.proofs.Common.{◌≡◌, ◌≢◌, ◌≤ℤ◌, arith, ℕ, pos, negsuc, sym, subst}
 use Rattle.group_types.specs.declared.code.Code.{Code}
 use Rattle.group_types.specs.declared.code.Code.TheVariants.{NoError}
 use Rattle.group_types.specs.Text.{Text}
 use Rattle.group_types.specs.Topics.{Topics}
 use Rattle.group_types.specs.Group.{Group}
 use Rattle.group_types.specs.HeartbeatStep.{Answer, Replied, farewell, refusal}
-use Rattle.group_core.specs.Outcome.{HasFewPartitions, HasRoomFor, IsCurrent, IsCurrentAfter, IsResponse}
+use Rattle.group_core.specs.Outcome.{HasFewPartitions, HasRoomFor, IsCurrentAfter, IsResponse}
 
 module _ (a : Answer) (g : Group) (image : Topics) (room : ℕ) (fits : HasRoomFor a room) where
   pub of_refusal : (code : Code) → code ≢ NoError → a ≡ Replied (refusal code) → IsResponse a g image room
@@ -25,13 +24,3 @@ module _ (a : Answer) (g : Group) (image : Topics) (room : ℕ) (fits : HasRoomF
         current = subst (λ (x : Answer). IsCurrentAfter x g image) (sym is) (λ none above. let below : pos 0 ≤ℤ negsuc n = above in absurd (omega (arith, below)));
         room = fits;
       }
-
--- an acceptance, over whose image the view is
-pub of_acceptance : {X E : Type 0} (r : Result X E) (answer : X → Answer) (g : Group) (image : Topics) (room : ℕ) (P : Type 0) → (P → IsCurrent g image)
-    → IfOk r (λ o. HasFewPartitions (answer o)) → OnOk r P → IfOk r (λ o. HasRoomFor (answer o) room) → IfOk r (λ o. IsResponse (answer o) g image room)
-of_acceptance (Ok o) answer g image room P so few current fits = record { few = few; current = by (answer o); room = fits }
-  where
-    by : (a : Answer) → IsCurrentAfter a g image
-    by (Replied r) = λ none above. so current
-    by Rattle.group_types.specs.HeartbeatStep.Closes = tt
-of_acceptance (Err e) answer g image room P so few current fits = few

@@ -1,16 +1,11 @@
 -- Two facts of a call that returned.
 use Rattle.std.proofs.Common.{Result, Ok, Err}
-use Rattle.std.specs.Result.{IfOk, OnErr, OnOk}
+use Rattle.std.specs.Result.{IfOk, OnErr}
 
 -- what follows from two facts of what a call gave
 pub IfOk-both : {X E : Type 0} (r : Result X E) (P Q S : X → Type 0) → ((x : X) → P x → Q x → S x) → IfOk r P → IfOk r Q → IfOk r S
 IfOk-both (Ok x) P Q S so p q = so x p q
 IfOk-both (Err e) P Q S so p q = p
-
--- what follows in either case
-pub either_way : {X E : Type 0} (r : Result X E) (P Q R S T : Type 0) → (P → Q → T) → (R → S → T) → OnOk r P → OnOk r Q → OnErr r R → OnErr r S → T
-either_way (Ok x) P Q R S T ok err p q _ _ = ok p q
-either_way (Err e) P Q R S T ok err _ _ r s = err r s
 
 -- what holds in any case
 pub on_err : {X E : Type 0} (r : Result X E) (P : Type 0) → P → OnErr r P

@@ -139,6 +139,12 @@ grants_then s d r owned = grants_after (moves s d r owned) (pairs s.grants) d.me
 abbrev pub shown_then : State → Drafted → Renewal → Option Partitions → Partitions
 shown_then s d r owned = common (held (grants_then s d r owned) d.member.id) (part_of s d r)
 
+-- the assignment in the reply, where one is said
+abbrev pub assignment_then : State → Drafted → Renewal → Heartbeat → Option Partitions → Option Partitions
+assignment_then s d r q owned =
+    let shown = shown_then s d r owned in
+    assignment_of (is_full q || is_news d.member.record.sent shown) shown
+
 -- ---- the end: the record is stored
 
 -- a member's record stands under its id, or its heir has it
@@ -189,9 +195,7 @@ IsSuccessor (Some s) heir = (heir ≡ Some s.in_target) × (heir ≡ Some s.in_g
 -- of a draft, its renewal and what is reported: the id, the assignment that is said, if any, and the heir
 pub record IsPlan (s : State) (d : Drafted) (r : Renewal) (q : Heartbeat) (owned : Option Partitions) (p : Plan) : Type 0 where
   pub id : p.id ≡ told_id d
-  pub assignment :
-      let shown = shown_then s d r owned in
-      p.assignment ≡ assignment_of (is_full q || is_news d.member.record.sent shown) shown
+  pub assignment : p.assignment ≡ assignment_then s d r q owned
   pub sent : p.sent ≡ p.assignment
   pub few : IfSome p.assignment (λ set. size set ≤ MOST_PARTITIONS)
   pub successor : IsSuccessor p.successor (heir_id d)

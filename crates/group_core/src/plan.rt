@@ -1,14 +1,14 @@
 //! What a member is to be told, and all that its reply needs of memory.
-ghost use Rattle.std.specs.Prelude.{◌≡◌, ◌≤ℤ◌, pos, ◌||◌, unwrap_or, ◌≤◌, ◌-◌, IfOk, IfSome, None, OnOk, Some, length, vec_capacity};
+ghost use Rattle.std.specs.Prelude.{◌≡◌, ◌||◌, unwrap_or, ◌≤◌, ◌-◌, IfOk, IfSome, None, OnOk, Some, length, vec_capacity};
 ghost use Rattle.group_types.specs.Limits as limits;
-ghost use Rattle.group_types.specs.Request.{is_full, reported};
+ghost use Rattle.group_types.specs.Request.{is_full};
 ghost use Rattle.group_types.specs.HeartbeatStep.{assignment_of, is_news};
 ghost use Rattle.group_types.specs.Sets.{size};
 ghost use Rattle.kip_msgs.specs.Views.{heartbeat_request_value};
 ghost use Rattle.group_epochs.specs.Drafts.{placed_heir};
 ghost use Rattle.group_epochs.specs.Request.{heartbeat_of};
 ghost use Rattle.group_core.specs.Outcome.{room_for};
-ghost use Rattle.group_core.specs.Stages.{AreOfView, IsPlan, IsSuccessor, shown_then, target_then};
+ghost use Rattle.group_core.specs.Stages.{AreOfView, IsPlan, IsSuccessor, assignment_then, shown_then, target_then};
 
 use crate::change::Renewal;
 use crate::draft::Draft;
@@ -74,9 +74,8 @@ fn assignment_of(
     request: &HeartbeatRequest<'_>,
 ) -> Result<(Option<Shown>, Option<PartSet>), AllocError>
     requires { AreOfView (target_then state.now renewal.now).owners renewal.now.view }
-    ensures said { let shown = shown_then state.now draft.now renewal.now owned.now in
-        let is_said = is_full (heartbeat_of (heartbeat_request_value request.now)) || is_news draft.now.member.record.sent shown in
-        IfOk result (λ said. (said.0 ≡ assignment_of is_said shown) × (said.1 ≡ said.0)) }
+    ensures said { let q = heartbeat_of (heartbeat_request_value request.now) in
+        IfOk result (λ said. (said.0 ≡ assignment_then state.now draft.now renewal.now q owned.now) × (said.1 ≡ said.0)) }
     ensures few { IfOk result (λ said. IfSome said.0 (λ set. size set ≤ limits.MOST_PARTITIONS)) }
 {
     // so that the view is known to have no more partitions than an image

@@ -1,14 +1,10 @@
 //! Settles a draft whose target was renewed, and replies to it.
-ghost use Rattle.std.specs.Prelude.{◌≡◌, ◌≤◌, ◌≤ℤ◌, ◌-◌, IfOk, OnErr, OnOk, Some, length, pos, vec_capacity};
+ghost use Rattle.std.specs.Prelude.{◌≡◌, ◌≤◌, ◌≤ℤ◌, ◌-◌, IfOk, OnErr, Some, length, pos, vec_capacity};
 ghost use Rattle.group_types.specs.Topics.{Topics};
 ghost use Rattle.group_types.specs.Request.{reported};
 ghost use Rattle.group_core.specs.CodeOrder.{TakesInLate};
 ghost use Rattle.kip_msgs.specs.Views.{heartbeat_request_value};
 ghost use Rattle.group_epochs.specs.Request.{heartbeat_of};
-ghost use Rattle.group_reconcile.specs.Holders.{pairs};
-ghost use Rattle.group_reconcile.specs.Offers.{AreIndexed, IsSince};
-ghost use Rattle.group_types.specs.Group.{wanted};
-ghost use Rattle.group_types.specs.Settle.{grants_after, may_settle};
 ghost use Rattle.group_core.specs.GroupView.{IsGroup, Keeps, KeepsHolders, group_of};
 ghost use Rattle.group_core.specs.Outcome.{answer_of, IsResponse, room_for};
 ghost use Rattle.group_core.specs.Stages.{AreOfView, IsFit, IsOffered, IsPlan, IsRenewalOf, draft_in, target_then};
@@ -20,9 +16,8 @@ use crate::outcome::Outcome;
 use crate::plan::{Plan, plan_of, target_of};
 use crate::reported::reported;
 use crate::state::State;
-use group_reconcile::{Grants, Verdict};
-use group_target::Target;
-use group_types::{MemberId, Moment, PartSet};
+use group_reconcile::Verdict;
+use group_types::{Moment, PartSet};
 use kip_msgs::HeartbeatRequest;
 use std::alloc::AllocError;
 
@@ -73,25 +68,24 @@ fn prepare(
 {
     let owned = reported(state.alloc, request)?;
     let plan = plan_of(state, draft, renewal, &owned, request, out)?;
-    let target = target_of(&renewal.target, &state.target);
-    let moves = offered(&mut state.grants, target, &draft.member.id, &owned)?;
+    let moves = offered(state, draft, renewal, &owned)?;
     Ok((plan, moves))
 }
 
-/// Offers its part of the target to a member, and says whether it moves.
+/// Offers the draft's member its part of the target, and says whether it moves.
 fn offered(
-    grants: &mut Grants,
-    target: &Target,
-    id: &MemberId,
+    state: &mut State,
+    draft: &Draft,
+    renewal: &Renewal,
     owned: &Option<PartSet>,
 ) -> Result<bool, AllocError>
-    requires { AreIndexed (wanted target.now.owners id.now) }
-    ensures moves { IfOk result (λ moves. moves ≡ may_settle (pairs grants.old) id.now (wanted target.now.owners id.now) owned.now) }
-    ensures grants { OnOk result (pairs grants.new
-        ≡ grants_after (may_settle (pairs grants.old) id.now (wanted target.now.owners id.now) owned.now) (pairs grants.old) id.now (wanted target.now.owners id.now)) }
-    ensures since { OnOk result (IsSince grants.old grants.new id.now target.now.epoch) }
-    ensures err { OnErr result (grants.new ≡ grants.old) }
+    requires { AreOfView (target_then state.old renewal.now).owners renewal.now.view }
+    ensures offer { IfOk result (λ moves. IsOffered state.old draft.now renewal.now owned.now moves state.new) }
+    ensures err { OnErr result (state.new ≡ state.old) }
 {
+    let id = &draft.member.id;
+    let target = target_of(&renewal.target, &state.target);
+    let grants = &mut state.grants;
     let verdict = grants.offer(id, &target.of(id.as_str()), owned.as_ref())?;
     Ok(matches!(verdict, Verdict::Moves))
 }

@@ -1,7 +1,6 @@
 //! A beat that gives nothing, of a member that has nothing to be told: no walk and no look at another member (ours).
-ghost use Rattle.std.specs.Prelude.{◌≡◌, ◌≤◌, ◌-◌, IfNone, IfOk, IfSome, IsSome, OnErr, IsTrue, length, vec_capacity};
+ghost use Rattle.std.specs.Prelude.{◌≡◌, ◌≤◌, ◌-◌, IfNone, IfOk, IfSome, IsSome, IsTrue, length, vec_capacity};
 ghost use Rattle.group_types.specs.Limits.{LONGEST_STRING};
-ghost use Rattle.group_types.specs.Sound.{IsSound};
 ghost use Rattle.group_types.specs.Topics.{Topics};
 ghost use Rattle.group_types.specs.HeartbeatStep.{HeartbeatStep};
 ghost use Rattle.kip_msgs.specs.Views.{heartbeat_request_value};
@@ -9,7 +8,7 @@ ghost use Rattle.group_epochs.specs.Records.{GivesNothing, IsMarkedBeat};
 ghost use Rattle.group_epochs.specs.Request.{arrival_of, heartbeat_of};
 ghost use Rattle.group_core.specs.GroupView.{IsGroup, Keeps, KeepsHolders, group_of};
 ghost use Rattle.group_core.specs.Outcome.{answer_of, IsCurrent, IsResponse};
-ghost use Rattle.group_core.specs.Steady.{AreMarked, IsSteadyBeat};
+ghost use Rattle.group_core.specs.Steady.{IsSteadyBeat};
 
 use crate::checks;
 use crate::outcome::{Outcome, Reply};

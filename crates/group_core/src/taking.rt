@@ -1,6 +1,6 @@
 //! A join or a beat (KIP-848, "Consumer Group Heartbeat", member epochs from 0 on): its draft, its change, its renewal, its settling and
 //! its reply.
-ghost use Rattle.std.specs.Prelude.{◌≡◌, ◌≢◌, ◌≤◌, ◌≤ℤ◌, ◌-◌, IfOk, MatchOption, length, pos, vec_capacity};
+ghost use Rattle.std.specs.Prelude.{◌≡◌, ◌≢◌, ◌≤◌, ◌≤ℤ◌, ◌-◌, IfOk, length, pos, vec_capacity};
 ghost use Rattle.group_types.specs.Limits.{LONGEST_STRING};
 ghost use Rattle.group_types.specs.Request.{kind_of};
 ghost use Rattle.group_types.specs.Checks.{Accepted, sender_of, verdict_on};
@@ -12,8 +12,7 @@ ghost use Rattle.kip_msgs.specs.Views.{heartbeat_request_value};
 ghost use Rattle.group_epochs.specs.Request.{arrival_of, heartbeat_of};
 ghost use Rattle.group_core.specs.GroupView.{IsGroup, Keeps, KeepsHolders, group_of};
 ghost use Rattle.group_core.specs.Outcome.{answer_of, IsResponse};
-ghost use Rattle.group_core.specs.Steady.{AreMarked};
-ghost use Rattle.group_core.specs.Stages.{CannotRise, IsFit, IsRenewalOf, draft_in};
+ghost use Rattle.group_core.specs.Stages.{IsFit, draft_in};
 
 use crate::change::renewal_of;
 use crate::draft::Draft;

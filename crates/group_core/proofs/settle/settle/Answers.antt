@@ -1,7 +1,6 @@
 use Rattle.std.proofs.Common.{◌≡◌, ◌||◌, ◌-◌, length, vec_capacity, Bool, ℕ, Option, sym, subst, ap, ◌∙◌, refl}
 use Rattle.std.specs.FinMap as finite
 use Rattle.std.specs.Option.{IfSome}
-use Rattle.group_types.specs.Topics.{Topics}
 use Rattle.group_types.specs.Partition.{Partitions}
 use Rattle.group_types.specs.Group.{Grants, Group}
 use Rattle.group_types.specs.Request.{Heartbeat, is_full, reported}
