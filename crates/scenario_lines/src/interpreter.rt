@@ -201,7 +201,7 @@ impl LineWorker for Interpreter {
 
 impl Explains for Interpreter {
     fn reason(&self, line: &[u8]) -> Result<String, AllocError> {
-        reasons::of_reply_line(self.alloc, line, self.stamps.coming())
+        reasons::of_reply_line(self.alloc, line, &self.node, self.stamps.coming())
     }
 }
 

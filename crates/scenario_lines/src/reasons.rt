@@ -3,9 +3,10 @@
 use crate::command_line::escaped;
 use crate::fault::LineFault;
 use crate::{frame, words};
+use coord_node::Node;
 use group_types::Stamp;
 use group_types::limits::{LARGEST_BODY, SMALLEST_BODY};
-use kip_msgs::read_request;
+use kip_msgs::{Request, read_request};
 use std::alloc::{AllocError, Global};
 
 /// The lines of `coord reply`: what each begins with, and its form.
@@ -46,10 +47,15 @@ const OVERTAKEN: &str =
 
 const NO_HEX: &str = "a frame is one word of hex, two digits a byte";
 
-/// Why a line of `coord reply` is bad or closes, if it does, where the next request has this stamp.
-pub fn of_reply_line(alloc: Global, line: &[u8], stamp: Stamp) -> Result<String, AllocError> {
+/// Why a line of `coord reply` is bad or closes, if it does, where the next request comes to this node with this stamp.
+pub fn of_reply_line(
+    alloc: Global,
+    line: &[u8],
+    node: &Node,
+    stamp: Stamp,
+) -> Result<String, AllocError> {
     match argument_of(line, "req ") {
-        Some(word) => of_request(alloc, word, stamp),
+        Some(word) => of_request(alloc, word, node, stamp),
         None => of_line(alloc, line, REPLY_FORMS),
     }
 }
@@ -115,27 +121,59 @@ fn of_words(alloc: Global, text: &str, forms: &[(&str, &str)]) -> Result<String,
     format!(in alloc; "unknown word \"{word}\"")
 }
 
-/// Why a word is no frame, or its request isn't answered with a stamp.
-fn of_request(alloc: Global, word: &str, stamp: Stamp) -> Result<String, AllocError> {
-    let reason = of_hex(alloc, word, SMALLEST_BODY, LARGEST_BODY)?;
+/// Why a word is no frame, or a node doesn't answer its request with a stamp.
+fn of_request(alloc: Global, word: &str, node: &Node, stamp: Stamp) -> Result<String, AllocError> {
+    let frame = match words::bytes_of(alloc, word) {
+        Ok(frame) => frame,
+        Err(fault) => return of_word(alloc, fault),
+    };
+    let reason = of_frame(alloc, frame.as_slice(), SMALLEST_BODY, LARGEST_BODY)?;
     if !reason.is_empty() {
         return Ok(reason);
     }
-    let (connection, frame) = (stamp.connection, stamp.frame);
-    format!(in alloc;
-        "the heartbeat was overtaken: its stamp ({connection}, {frame}) is not above the last one of its member"
-    )
+    let (connection, number) = (stamp.connection, stamp.frame);
+    match last_stamp(alloc, frame.as_slice(), node)? {
+        Some(last) => {
+            let (former_connection, former_number) = (last.connection, last.frame);
+            format!(in alloc;
+                "the heartbeat was overtaken: its stamp ({connection}, {number}) is not above ({former_connection}, {former_number})"
+            )
+        }
+        None => Ok(reason),
+    }
+}
+
+/// The stamp of the last heartbeat that a node accepted from the member whose heartbeat is in a frame, if it is one.
+fn last_stamp(alloc: Global, frame: &[u8], node: &Node) -> Result<Option<Stamp>, AllocError> {
+    let Some(body) = frame::framed(frame) else {
+        return Ok(None);
+    };
+    match read_request(alloc, body) {
+        Ok(Request::Heartbeat(_, message)) => Ok(
+            node.group(message.group_id)
+                .and_then(|group| group.last_stamp(message.member_id)),
+        ),
+        _ => Ok(None),
+    }
 }
 
 /// Why a word is no frame of a request with a body of `least` to `most` bytes, or nothing where it is one.
 fn of_hex(alloc: Global, word: &str, least: usize, most: usize) -> Result<String, AllocError> {
     match words::bytes_of(alloc, word) {
         Ok(frame) => of_frame(alloc, frame.as_slice(), least, most),
-        Err(LineFault::BadLine) => String::from_str(alloc, NO_HEX),
-        Err(LineFault::NoMemory) => Err(AllocError),
+        Err(fault) => of_word(alloc, fault),
     }
 }
 
+/// Why a word has no bytes.
+fn of_word(alloc: Global, fault: LineFault) -> Result<String, AllocError> {
+    match fault {
+        LineFault::BadLine => String::from_str(alloc, NO_HEX),
+        LineFault::NoMemory => Err(AllocError),
+    }
+}
+
+/// Why bytes are no frame of a request with a body of `least` to `most` bytes, or nothing where they are one.
 fn of_frame(alloc: Global, bytes: &[u8], least: usize, most: usize) -> Result<String, AllocError> {
     let Some(body) = frame::framed(bytes) else {
         return of_size(alloc, bytes);
