@@ -26,13 +26,19 @@ RunBy-push Steps (e ∷ es) [] c d n event answer run step = absurd run
 RunBy-push Steps (e ∷ es) (a ∷ answers) c d n event answer run step =
     (run.0, run.1, RunBy-push Steps es answers run.0 d n event answer run.2 step)
 
-pub RunsTo-push : (salt : ℕ) (entries : List Entry) (e : Entry) (given : Answer) (d n : Coordinator)
-    → RunsTo salt entries d → Step d (node_event e.event) given n → RunsTo salt (entries ++ e ∷ []) n
-RunsTo-push salt entries e given d n runs step =
-    let ev : Entry → Event = λ (x : Entry). node_event x.event in (
-      runs.0 ++ given ∷ [],
-      rw (map-append ev entries (e ∷ [])) (RunBy-push Step (map ev entries) runs.0 _ d n (node_event e.event) given runs.1 step),
-    )
+pub RunsTo-push : (shards salt home : ℕ) (entries : List Entry) (e : Entry) (given : Answer) (d n : Coordinator)
+    → IsHome shards e.event home → RunsTo shards salt home entries d → Step d (node_event e.event) given n
+    → RunsTo shards salt home (entries ++ e ∷ []) n
+RunsTo-push shards salt home entries e given d n is_home runs step =
+    let ev : Entry → Event = λ (x : Entry). node_event x.event in
+    let (answers, run) = runs.run in
+    record {
+      at_home = All-push (λ (x : Entry). IsHome shards x.event home) entries e runs.at_home is_home;
+      run = (
+        answers ++ given ∷ [],
+        rw (map-append ev entries (e ∷ [])) (RunBy-push Step (map ev entries) answers _ d n (node_event e.event) given run step),
+      );
+    }
 
 -- ---- the counts
 
@@ -81,15 +87,13 @@ few-push cap kept e false is few room =
 pub Replay-push : (s : ShardState) (e : Entry) (given : Answer) (after : Coordinator)
     → e.seat < length s.counts → IsHome s.shards e.event s.number → Step s.present (node_event e.event) given after → Replay s
     → Replay (record s { present = after; kept = kept_with s.cap s.kept e; counts = one_more s.counts e.seat })
-Replay-push s e given after seat home step (entries, is) = (
-  entries ++ e ∷ [],
-  record {
-    at_home = All-push (λ (x : Entry). IsHome s.shards x.event s.number) entries e is.at_home home;
-    counted = counted-push s.counts entries e seat is.counted;
-    run = RunsTo-push s.salt entries e given s.present after is.run step;
-    kept = ap (λ kept. kept_with s.cap kept e) is.kept ∙ kept-push (s.cap == 0) entries e;
-  },
-)
+Replay-push s e given after seat home step is =
+    record {
+      entries = is.entries ++ e ∷ [];
+      run = RunsTo-push s.shards s.salt s.number is.entries e given s.present after home is.run step;
+      counted = counted-push s.counts is.entries e seat is.counted;
+      kept = ap (λ kept. kept_with s.cap kept e) is.kept ∙ kept-push (s.cap == 0) is.entries e;
+    }
 
 -- a shard that has room and goes on is a shard
 pub IsShard-push : (s : ShardState) (e : Entry) (given : Answer) (after : Coordinator)
@@ -125,7 +129,6 @@ pub goes-is : (old : ShardState) (e : Entry) (given : Answer) (after : Coordinat
 goes-is old e given after kept seat home room step is shard = (
   subst (λ (k : List Entry). IsShard (record old { present = after; kept = k; counts = one_more old.counts e.seat })) (sym is) (IsShard-push old e given after seat home room step shard),
   record {
-    after = after;
     step = step;
     leaves = λ i. record old { present = after; kept = is i; counts = one_more old.counts e.seat };
     total = sum-one_more old.counts e.seat (subst (λ n. e.seat < n) (sym shard.seats) seat);

@@ -1,5 +1,5 @@
 -- What the shards and the seats come to at the end.
-use Rattle.std.specs.Prelude.{◌≡◌, ◌==◌, ◌<◌, ℕ, List, All, map, sum, slice_index}
+use Rattle.std.specs.Prelude.{◌≡◌, ◌==◌, ◌<◌, ℕ, List, map, sum, slice_index}
 use Rattle.std.specs.List.{filter}
 use Rattle.coord_shards.specs.declared.shard.Entry.{Entry}
 use Rattle.coord_shards.specs.declared.seat.Sent.{Sent}
@@ -19,10 +19,6 @@ events_to shard sent = map (λ s. s.event) (filter (λ s. s.shard == shard) sent
 pub record Agrees (cap : ℕ) (shard : ShardState) (seat : SeatState) : Type 0 where
   pub counts : slice_index shard.counts seat.number ≡ slice_index seat.by_shard shard.number
   pub events : 0 < cap → events_from seat.number shard.kept ≡ events_to shard.number seat.sent
-
--- each seat agrees with a shard
-abbrev pub AgreesWithAll : ℕ → List SeatState → ShardState → Type 0
-AgreesWithAll cap seats shard = All (λ seat. Agrees cap shard seat) seats
 
 -- how many entries were made in a shard
 abbrev pub entries_of : ShardState → ℕ

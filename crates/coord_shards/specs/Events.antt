@@ -1,8 +1,7 @@
 -- The events and answers of shards, as those of a node.
-use Rattle.std.specs.Prelude.{◌≡◌, List, ℕ, ◌++◌, Option, Some, None}
+use Rattle.std.specs.Prelude.{◌≡◌, List, ℕ, ◌++◌, Option, Some, None, MatchOption}
 use Rattle.coord_node.specs.Answers.{IsAnswered}
 use Rattle.coord_node.specs.Coordinator as node
-use Rattle.coord_node.specs.Coordinator.{bytes_of}
 use Rattle.coord_shards.specs.declared.event.Event.{Event}
 use Rattle.coord_shards.specs.declared.event.Event.TheVariants as events
 use Rattle.coord_shards.specs.declared.event.Answer.{Answer}
@@ -25,6 +24,10 @@ node_answer answers.Closes = Some node.Closes
 node_answer (answers.Done removed) = Some (node.Done removed)
 node_answer answers.Refused = None
 
+-- where the event was refused nothing changes, and otherwise this holds of the node's answer
+abbrev pub UnlessRefused : {State : Type 0} → Answer → State → State → (node.Answer → Type 0) → Type 0
+UnlessRefused answer old new Holds = MatchOption (node_answer answer) (new ≡ old) Holds
+
 -- the event that is on its way
 abbrev pub event_of : Incoming → Event
 event_of (lent.Frame body stamp moment) = events.Frame body stamp moment
@@ -33,5 +36,9 @@ event_of (lent.Image shard image) = events.Image shard image.now
 
 -- what became of an event, with the bytes that were appended, is the node's answer
 abbrev pub IsGiven : Outcome → List ℕ → List ℕ → node.Answer → Type 0
-IsGiven (outcomes.Answered kind) before after given = IsAnswered kind given × (after ≡ before ++ bytes_of given)
+IsGiven (outcomes.Answered kind) before after given = IsAnswered kind given × (after ≡ before ++ node.bytes_of given)
 IsGiven (outcomes.Done removed) before after given = (given ≡ node.Done removed) × (after ≡ before)
+
+-- what became of an event, with the bytes that were appended, is a node's answer of which this holds
+abbrev pub Gives : Outcome → List ℕ → List ℕ → (node.Answer → Type 0) → Type 0
+Gives outcome before after Holds = (given : node.Answer) × IsGiven outcome before after given × Holds given

@@ -1,4 +1,4 @@
--- The home of an event: the number of the one shard, of so many, that it is for (ours).
+-- The home of an event: the number of the one shard that it is for (ours).
 use Rattle.std.specs.Prelude.{◌≡◌, ◌⊎◌, ◌%◌, ℕ, List, sum, nat_lt, if◌then◌else◌}
 use Rattle.kip_msgs.specs.Values.{RequestValue}
 use Rattle.kip_msgs.specs.Spelling.{SpellsRequest}
@@ -14,7 +14,7 @@ shard_of_group shards group = sum group % shards
 abbrev pub shard_numbered : ℕ → ℕ → ℕ
 shard_numbered shards number = if nat_lt number shards then number else 0
 
--- Of so many shards, the event's is the one with this number. A frame's is that of its group, and where it can't be read, shard 0.
+-- Of `shards` shards, the event's is the one with this number. A frame's is that of its group, and where it can't be read, shard 0.
 abbrev pub IsHome : ℕ → Event → ℕ → Type 0
 IsHome shards (Frame body stamp moment) number =
     ((v : RequestValue) × SpellsRequest v body × (number ≡ shard_of_group shards (group_named v)))

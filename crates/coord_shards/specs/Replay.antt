@@ -1,45 +1,36 @@
 -- What a step of a shard does, and what a shard's entries come to: run through the machine from the opening state, they give the shard.
-use Rattle.std.specs.Prelude.{◌≡◌, ℕ, ◌+◌, ◌<◌, ◌≤◌, ◌==◌, List, [], All, if◌then◌else◌, map, length, count_by, slice_index, sum, MatchOption}
+use Rattle.std.specs.Prelude.{◌≡◌, ℕ, ◌+◌, ◌<◌, ◌≤◌, ◌==◌, List, [], All, if◌then◌else◌, map, length, count_by, slice_index, sum}
 use Rattle.coord_node.specs.Coordinator.{Coordinator, Answer, opening}
 use Rattle.coord_node.specs.Steps.{Run, Step}
 use Rattle.coord_shards.specs.declared.shard.Entry.{Entry}
-use Rattle.coord_shards.specs.declared.event.Answer as shards
 use Rattle.coord_shards.specs.declared.shard.Shard.TheInside.{Inside}
 use Rattle.coord_shards.specs.Limits.{MOST_SEATS}
-use Rattle.coord_shards.specs.Events.{node_event, node_answer}
+use Rattle.coord_shards.specs.Events.{node_event}
 use Rattle.coord_shards.specs.Home.{IsHome}
 use Rattle.coord_shards.specs.Shard.{ShardState, kept_with, one_more}
 
 -- The node goes on by one step of the machine, which gives the answer; the entry is the last; and the count of its seat
 -- rises by one, and so does that of all entries.
 pub record GoesOn (old : ShardState) (entry : Entry) (given : Answer) (new : ShardState) : Type 0 where
-  pub after : Coordinator
-  pub step : Step old.present (node_event entry.event) given after
-  pub leaves : new ≡ record old { present = after; kept = kept_with old.cap old.kept entry; counts = one_more old.counts entry.seat }
+  pub step : Step old.present (node_event entry.event) given new.present
+  pub leaves : new ≡ record old { present = new.present; kept = kept_with old.cap old.kept entry; counts = one_more old.counts entry.seat }
   pub total : sum new.counts ≡ sum old.counts + 1
-
--- what a step does, by its answer: where the event is refused nothing changes
-abbrev pub ShardStep : ShardState → Entry → shards.Answer → ShardState → Type 0
-ShardStep old entry answer new = MatchOption (node_answer answer) (new ≡ old) (λ given. GoesOn old entry given new)
 
 -- a journal with as many entries as it may keep; at cap 0 it never is
 abbrev pub IsFull : ShardState → Type 0
 IsFull s = (0 < s.cap) × (s.cap ≤ length s.kept)
 
--- from the opening state the entries' events, one after the other, lead to a state
-abbrev pub RunsTo : ℕ → List Entry → Coordinator → Type 0
-RunsTo salt entries state =
-    (answers : List Answer) × Run (opening salt) (map (λ e. node_event e.event) entries) answers state
+-- From the opening state the events of these entries, all of one home, lead to a state, one after the other.
+pub record RunsTo (shards salt home : ℕ) (entries : List Entry) (state : Coordinator) : Type 0 where
+  pub at_home : All (λ e. IsHome shards e.event home) entries
+  pub run : (answers : List Answer) × Run (opening salt) (map (λ e. node_event e.event) entries) answers state
 
--- the entries are all that was made in a shard
-pub record IsReplay (s : ShardState) (entries : List Entry) : Type 0 where
-  pub at_home : All (λ e. IsHome s.shards e.event s.number) entries
+-- All entries that were made in a shard: they lead to its present state, its counts are theirs, and above cap 0 it keeps them.
+pub record Replay (s : ShardState) : Type 0 where
+  pub entries : List Entry
+  pub run : RunsTo s.shards s.salt s.number entries s.present
   pub counted : (seat : ℕ) → slice_index s.counts seat ≡ count_by (λ e. e.seat == seat) entries
-  pub run : RunsTo s.salt entries s.present
   pub kept : s.kept ≡ (if s.cap == 0 then [] else entries)
-
-abbrev pub Replay : ShardState → Type 0
-Replay s = (entries : List Entry) × IsReplay s entries
 
 -- what is so of every shard
 pub record IsShard (s : ShardState) : Type 0 where

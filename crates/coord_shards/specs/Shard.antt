@@ -3,7 +3,7 @@ use Rattle.std.specs.Prelude.{ℕ, List, ◌==◌, ◌+◌, [], ◌∷◌, ◌++
 use Rattle.coord_node.specs.Coordinator.{Coordinator}
 use Rattle.coord_shards.specs.declared.shard.Entry.{Entry}
 
--- its number among so many shards, the salt of its ids, how many entries its journal may keep, the present state of its node,
+-- its number, the number of shards, the salt of its ids, how many entries its journal may keep, the present state of its node,
 -- the entries that are kept, and how many entries each seat made
 pub record ShardState : Type 0 where
   pub number : ℕ

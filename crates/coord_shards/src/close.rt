@@ -1,7 +1,7 @@
 //! The end of shards.
 ghost use Rattle.std.specs.Prelude.{◌≡◌, ◌⊎◌, ◌≤◌, All, IfOk, IfErr, IsErrOf, OnOk, sum_by, length, vec_len, vec_capacity};
 ghost use Rattle.coord_shards.specs.Seat.{calls_of};
-ghost use Rattle.coord_shards.specs.Close.{AgreesWithAll, entries_of};
+ghost use Rattle.coord_shards.specs.Close.{Agrees, entries_of};
 
 use crate::compare::all_agree;
 use crate::fault::ShardFault;
@@ -35,7 +35,7 @@ impl<A: Ledger, C: Ledger, G> Shards<A, C, G> {
     where
         G: Drop,
         ensures number { IfOk result (λ shards. vec_len shards ≡ self.shards) }
-        ensures agree { IfOk result (λ shards. All (AgreesWithAll self.cap seats.items) shards.items) }
+        ensures agree { IfOk result (λ shards. All (λ shard. All (Agrees self.cap shard) seats.items) shards.items) }
         ensures total { IfOk result (λ shards. sum_by entries_of shards.items ≡ sum_by calls_of seats.items) }
         ensures handed_back { IfErr result (λ kept. (kept.shards ≡ self) × (kept.seats.items ≡ seats.items)) }
         ensures faults { IfErr result (λ kept. (kept.fault ≡ ShardFault.NoSeat)
@@ -80,10 +80,10 @@ fn room_for<A: Ledger, C: Ledger>(
     seats: &[Seat<C>],
 ) -> Result<Vec<Shard>, ShardFault>
     ensures empty { IfOk result (λ closed. (vec_len closed ≡ 0) × (length held.now ≤ vec_capacity closed)) }
-    ensures agree { OnOk result ((given ≡ length seats.now) × All (λ h. AgreesWithAll cap seats.now h.shard) held.now) }
+    ensures agree { OnOk result ((given ≡ length seats.now) × All (λ h. All (Agrees cap h.shard) seats.now) held.now) }
     ensures faults { IfErr result (λ fault. (fault ≡ ShardFault.NoSeat)
         ⊎ ((fault ≡ ShardFault.NoMemory) ⊎ (fault ≡ ShardFault.Unequal))) }
-    ensures unequal { IsErrOf result ShardFault.Unequal → ¬ (All (λ h. AgreesWithAll cap seats.now h.shard) held.now) }
+    ensures unequal { IsErrOf result ShardFault.Unequal → ¬ (All (λ h. All (Agrees cap h.shard) seats.now) held.now) }
 {
     let Ok(closed) = Vec::with_capacity(alloc, held.len()) else {
         return Err(ShardFault::NoMemory);

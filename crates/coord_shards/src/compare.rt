@@ -1,6 +1,6 @@
 //! Whether what seats sent is what shards took.
 ghost use Rattle.std.specs.Prelude.{◌≡◌, ◌↔◌, ◌<◌, [], ◌∷◌, All, IsTrue, IfSome, IfNone, length};
-ghost use Rattle.coord_shards.specs.Close.{events_from, events_to, Agrees, AgreesWithAll};
+ghost use Rattle.coord_shards.specs.Close.{events_from, events_to, Agrees};
 
 use crate::event::Event;
 use crate::held::Held;
@@ -14,7 +14,7 @@ pub(crate) fn all_agree<A: Ledger, C: Ledger>(
     held: &[Held<A, C>],
     seats: &[Seat<C>],
 ) -> bool
-    ensures { IsTrue result ↔ (All (λ h. AgreesWithAll cap seats.now h.shard) held.now) }
+    ensures { IsTrue result ↔ (All (λ h. All (Agrees cap h.shard) seats.now) held.now) }
 {
     held.iter()
         .all(|held| agrees_with_all(cap, &held.shard, seats))
@@ -22,7 +22,7 @@ pub(crate) fn all_agree<A: Ledger, C: Ledger>(
 
 /// Whether all seats agree with a shard.
 fn agrees_with_all<C: Ledger>(cap: usize, shard: &Shard, seats: &[Seat<C>]) -> bool
-    ensures { IsTrue result ↔ (AgreesWithAll cap seats.now shard.now) }
+    ensures { IsTrue result ↔ (All (Agrees cap shard.now) seats.now) }
 {
     seats.iter().all(|seat| agrees(cap, shard, seat))
 }

@@ -1,8 +1,7 @@
 //! What lies under the lock of a shard.
 ghost use Rattle.std.specs.Prelude.{◌≡◌, ◌+◌, ◌<◌, ◌≤◌, ◌^◌, sum, IfOk, OnOk, OnErr};
-ghost use Rattle.coord_node.specs.Coordinator.{Answer as GivenAnswer};
 ghost use Rattle.coord_shards.specs.declared.limits.TheConstants.{MOST_SHARDS};
-ghost use Rattle.coord_shards.specs.Events.{event_of, IsGiven};
+ghost use Rattle.coord_shards.specs.Events.{event_of, Gives};
 ghost use Rattle.coord_shards.specs.Home.{IsHome};
 ghost use Rattle.coord_shards.specs.Seat.{calls_of, most_entries};
 ghost use Rattle.coord_shards.specs.Replay.{GoesOn};
@@ -41,9 +40,8 @@ impl<A: Ledger, C: Ledger> Held<A, C> {
         requires few { self.old.shard.shards ≤ MOST_SHARDS }
         requires fits { calls_of seat.old + 1 < 2 ^ 64 }
         requires all_calls { all_calls.now.amount ≡ most_entries }
-        ensures step { IfOk result (λ outcome. (given : GivenAnswer)
-            × IsGiven outcome out.old.items out.new.items given
-            × GoesOn self.old.shard (record { seat = seat.old.number; event = event_of event.now }) given self.new.shard) }
+        ensures step { IfOk result (λ outcome. Gives outcome out.old.items out.new.items
+            (λ given. GoesOn self.old.shard (record { seat = seat.old.number; event = event_of event.now }) given self.new.shard)) }
         ensures seat { OnOk result (Rises seat.old self.old.shard.number seat.new) }
         ensures err { OnErr result ((seat.new ≡ seat.old) × (out.new.items ≡ out.old.items)) }
     {

@@ -6,7 +6,7 @@ use crate::event::Event;
 use crate::incoming::Incoming;
 use std::alloc::{AllocError, Global};
 
-/// The number of the shard that an event is for, of so many shards.
+/// The number of the shard that an event is for, of `shards` shards.
 ///
 /// A frame's is the sum of the bytes of its request's group id, modulo the number of shards; a frame that can't be read
 /// is for shard 0, and so is an event for a shard that isn't there. Fails where memory is too short to read the frame.
@@ -18,7 +18,7 @@ pub fn home(alloc: Global, event: &Event, shards: usize) -> Result<usize, AllocE
     Ok(Incoming::of(alloc, event)?.home(shards))
 }
 
-/// The shard of a group, of so many shards.
+/// The shard of a group, of `shards` shards.
 pub(crate) fn shard_of_group(group: &str, shards: usize) -> usize
     requires { 0 < shards }
     ensures home { result ≡ shard_of_group shards group.now }
@@ -31,7 +31,7 @@ pub(crate) fn shard_of_group(group: &str, shards: usize) -> usize
     (sum % shards as u128) as usize
 }
 
-/// The shard with a number, of so many, or shard 0 where there is none.
+/// The shard with a number, of `shards` shards, or shard 0 where there is none.
 pub(crate) fn shard_numbered(number: usize, shards: usize) -> usize
     requires { 0 < shards }
     ensures home { result ≡ shard_numbered shards number }

@@ -1,9 +1,8 @@
 //! Events on their way to a shard.
 ghost use Rattle.std.specs.Prelude.{◌≡◌, ◌<◌, IfOk, OnErr};
-ghost use Rattle.coord_node.specs.Coordinator.{Answer as GivenAnswer};
 ghost use Rattle.coord_node.specs.Steps.{Step};
 ghost use Rattle.coord_shards.specs.Home.{IsHome};
-ghost use Rattle.coord_shards.specs.Events.{node_event, event_of, IsGiven};
+ghost use Rattle.coord_shards.specs.Events.{node_event, event_of, Gives};
 
 use crate::event::Event;
 use crate::homes::{shard_numbered, shard_of_group};
@@ -69,7 +68,7 @@ impl<'a> Incoming<'a> {
         }
     }
 
-    /// The number of the shard that the event is for, of so many.
+    /// The number of the shard that the event is for, of `shards` shards.
     pub(crate) fn home(&self, shards: usize) -> usize
         requires { 0 < shards }
         ensures home { IsHome shards (event_of self.now) result }
@@ -89,9 +88,8 @@ impl<'a> Incoming<'a> {
     /// Does at a node what the machine does at the event, and appends the bytes of the answer. Where memory is short nothing has
     /// changed.
     pub(crate) fn act(&self, node: &mut Node, out: &mut Vec<u8>) -> Result<Outcome, AllocError>
-        ensures acts { IfOk result (λ outcome. (given : GivenAnswer)
-            × IsGiven outcome out.old.items out.new.items given
-            × Step node.old (node_event (event_of self.now)) given node.new) }
+        ensures acts { IfOk result (λ outcome. Gives outcome out.old.items out.new.items
+            (λ given. Step node.old (node_event (event_of self.now)) given node.new)) }
         ensures err { OnErr result ((node.new ≡ node.old) × (out.new.items ≡ out.old.items)) }
     {
         match self {

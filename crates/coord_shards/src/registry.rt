@@ -33,7 +33,7 @@ impl<A: Ledger, C: Ledger> Registry<A, C> {
     }
 }
 
-/// Enters as many units for a share as all seats can make calls.
+/// Enters a unit for each call that all seats can make, and adds these units to a share.
 pub(crate) fn fill<L: Ledger>(book: &mut Book<L>, share: &mut Share<L>)
     requires { 0 < share.old.parts }
     ensures total { book.new.total ≡ book.old.total + most_entries }

@@ -12,8 +12,8 @@ use std::sync::ledger::{Ledger, Share, Total};
 
 /// Puts the parts of both ledgers together, and gives the shards, last ones first, in a list that has room for them.
 ///
-/// For each call that was handed over a shard has one unit of its entries less left: so many did all of them enter, one for each
-/// entry.
+/// For each call that was handed over to a shard, the shard has one unit less left of the entries' ledger. It entered just these
+/// units, one for each of its entries. So there are as many entries as calls.
 pub(crate) fn settle<A: Ledger, C: Ledger>(
     registry: Registry<A, C>,
     entries: &Total<A>,

@@ -1,10 +1,9 @@
 //! A node with its journal.
 ghost use Rattle.std.specs.Prelude.{◌≡◌, ◌↔◌, ◌<◌, ◌-◌, ◌^◌, IfOk, OnOk, OnErr, IsErr, IsTrue, slice_index, sum};
-ghost use Rattle.coord_node.specs.Coordinator.{Answer as GivenAnswer};
-ghost use Rattle.coord_shards.specs.Events.{event_of, IsGiven};
+ghost use Rattle.coord_shards.specs.Events.{event_of, Gives, UnlessRefused};
 ghost use Rattle.coord_shards.specs.Home.{IsHome};
 ghost use Rattle.coord_shards.specs.Shard.{kept_with};
-ghost use Rattle.coord_shards.specs.Replay.{Replay, IsFull, GoesOn, ShardStep};
+ghost use Rattle.coord_shards.specs.Replay.{Replay, IsFull, GoesOn};
 
 use crate::counts::no_counts;
 use crate::event::{Answer, Event};
@@ -64,7 +63,7 @@ impl Model for Shard {
 }
 
 impl Shard {
-    /// The shard with a number, of so many, before anything came to it. Takes no memory.
+    /// The shard with a number, of `shards` shards, before anything came to it. Takes no memory.
     pub(crate) fn new(alloc: Global, number: usize, shards: usize, plan: Plan) -> Shard
         requires { number < shards }
         ensures number { result.number ≡ number }
@@ -118,7 +117,7 @@ impl Shard {
         }
     }
 
-    /// Whether this is the shard with a number, of so many, and with a salt.
+    /// Whether this is the shard with this number, of `shards` shards, and with this salt.
     pub fn is_itself(&self, number: usize, shards: usize, salt: u64) -> bool
         ensures itself { IsTrue result ↔ ((self.now.number ≡ number) × (self.now.shards ≡ shards) × (self.now.salt ≡ salt)) }
         ensures replay { Replay self.now }
@@ -134,7 +133,8 @@ impl Shard {
     pub fn step(&mut self, seat: usize, event: Event) -> Answer
         requires seat { seat < MOST_SEATS }
         requires home { IsHome self.old.shards event self.old.number }
-        ensures step { ShardStep self.old (record { seat = seat; event = event }) result self.new }
+        ensures step { UnlessRefused result self.old self.new
+            (λ given. GoesOn self.old (record { seat = seat; event = event }) given self.new) }
         ensures full { IsFull self.old → result ≡ Answer.Refused }
         ensures spent { slice_index self.old.counts seat ≡ 2 ^ 64 - 1 → result ≡ Answer.Refused }
     {
@@ -156,9 +156,8 @@ impl Shard {
     ) -> Result<Outcome, AllocError>
         requires seat { seat < MOST_SEATS }
         requires home { IsHome self.old.shards (event_of event.now) self.old.number }
-        ensures step { IfOk result (λ outcome. (given : GivenAnswer)
-            × IsGiven outcome out.old.items out.new.items given
-            × GoesOn self.old (record { seat = seat; event = event_of event.now }) given self.new) }
+        ensures step { IfOk result (λ outcome. Gives outcome out.old.items out.new.items
+            (λ given. GoesOn self.old (record { seat = seat; event = event_of event.now }) given self.new)) }
         ensures err { OnErr result ((self.new ≡ self.old) × (out.new.items ≡ out.old.items)) }
         ensures full { IsFull self.old → IsErr result }
         ensures spent { slice_index self.old.counts seat ≡ 2 ^ 64 - 1 → IsErr result }

@@ -2,9 +2,8 @@
 ghost use Rattle.std.specs.Prelude.{◌≡◌, ◌⊎◌, ◌↔◌, ◌+◌, ◌*◌, ◌<◌, ◌≤◌, ◌^◌, ℕ, IfOk, IfErr, OnOk, OnErr, IsErrOf, vec_len};
 ghost use Rattle.coord_shards.specs.Home.{IsHome};
 ghost use Rattle.coord_shards.specs.Seat.{IsNewSeat, calls_of, most_entries};
-ghost use Rattle.coord_shards.specs.Calls.{SeatCalls, TakesFrame, IsTaken, IsAnsweredInARun, Rises};
-ghost use Rattle.coord_shards.specs.Events.{event_of, IsGiven};
-ghost use Rattle.coord_node.specs.Coordinator.{Answer as GivenAnswer};
+ghost use Rattle.coord_shards.specs.Calls.{SeatCalls, IsTaken, IsAnsweredInARun, Rises};
+ghost use Rattle.coord_shards.specs.Events.{event_of, Gives};
 
 use crate::event::{Answer, Event};
 use crate::fault::ShardFault;
@@ -22,7 +21,7 @@ use std::marker::Model;
 use std::sync::ledger::{Blank, Book, Ledger, Share, Total};
 use std::sync::{Mutex, Wait};
 
-/// So many shards, each behind a lock of its own.
+/// Shards, each behind a lock of its own.
 ///
 /// Threads share them by reference, each with a [`Seat`]. What a call does to a shard is one [`Shard::step`] under its lock;
 /// no other lock is taken for it.
@@ -57,7 +56,8 @@ impl<A: Ledger, C: Ledger, G> Model for Shards<A, C, G> {
 }
 
 impl<A: Ledger, C: Ledger, G> Shards<A, C, G> {
-    /// So many shards, of which none has met an event: 1 to 64 of them, with a journal of at most 65,536 entries each.
+    /// Makes `shards` shards, 1 to 64 of them, none of which has met an event. The journal of each may keep `cap` entries, at most
+    /// 65,536.
     ///
     /// The blanks become the ledgers: that of the entries has two parts for each shard, and that of the calls one part for each
     /// shard and one for each seat that there can be.
@@ -166,8 +166,8 @@ impl<A: Ledger, C: Ledger, G> Shards<A, C, G> {
     where
         G: Gate,
         // The frame is taken as `call` takes the event that it is, and the bytes of the answer are appended.
-        ensures taken { IfOk result (λ kind.
-            TakesFrame self.now seat.old (Event.Frame body.now stamp moment) kind seat.new out.old.items out.new.items) }
+        ensures taken { IfOk result (λ kind. Gives (Outcome.Answered kind) out.old.items out.new.items
+            (λ given. IsTaken self.now seat.old (Event.Frame body.now stamp moment) given seat.new)) }
         ensures err { OnErr result ((seat.new ≡ seat.old) × (out.new.items ≡ out.old.items)) }
     {
         let body = ParsedBody::of(alloc, body)?;
@@ -190,9 +190,8 @@ impl<A: Ledger, C: Ledger, G> Shards<A, C, G> {
     ) -> Result<Outcome, AllocError>
     where
         G: Gate,
-        ensures taken { IfOk result (λ outcome. (given : GivenAnswer)
-            × IsGiven outcome out.old.items out.new.items given
-            × IsTaken self.now seat.old (event_of event.entry) given seat.new) }
+        ensures taken { IfOk result (λ outcome. Gives outcome out.old.items out.new.items
+            (λ given. IsTaken self.now seat.old (event_of event.entry) given seat.new)) }
         ensures err { OnErr result ((seat.new ≡ seat.old) × (out.new.items ≡ out.old.items)) }
     {
         self.send(rt, alloc, seat, &event, out)
@@ -209,9 +208,8 @@ impl<A: Ledger, C: Ledger, G> Shards<A, C, G> {
     ) -> Result<Outcome, AllocError>
     where
         G: Gate,
-        ensures taken { IfOk result (λ outcome. (given : GivenAnswer)
-            × IsGiven outcome out.old.items out.new.items given
-            × IsTaken self.now seat.old (event_of event.now) given seat.new) }
+        ensures taken { IfOk result (λ outcome. Gives outcome out.old.items out.new.items
+            (λ given. IsTaken self.now seat.old (event_of event.now) given seat.new)) }
         ensures err { OnErr result ((seat.new ≡ seat.old) × (out.new.items ≡ out.old.items)) }
     {
         let number = event.home(self.shards.len());
@@ -238,9 +236,8 @@ impl<A: Ledger, C: Ledger, G> Shards<A, C, G> {
         requires home { IsHome self.now.shards (event_of event.now) number }
         requires there { number < self.now.shards }
         requires fits { calls_of seat.old + 1 < 2 ^ 64 }
-        ensures answered { IfOk result (λ outcome. (given : GivenAnswer)
-            × IsGiven outcome out.old.items out.new.items given
-            × IsAnsweredInARun self.now number (event_of event.now) given) }
+        ensures answered { IfOk result (λ outcome. Gives outcome out.old.items out.new.items
+            (λ given. IsAnsweredInARun self.now number (event_of event.now) given)) }
         ensures seat { OnOk result (Rises seat.old number seat.new) }
         ensures err { OnErr result ((seat.new ≡ seat.old) × (out.new.items ≡ out.old.items)) }
     {
@@ -257,8 +254,8 @@ impl<A: Ledger, C: Ledger, G> Shards<A, C, G> {
     }
 }
 
-/// So many new shards behind locks. Each has two parts of the entries' ledger, one of which is filled with as many entries as all seats
-/// can make calls, and one empty part of the calls' ledger, which has a part for each seat beside them.
+/// Makes `shards` new shards behind locks. Each has two parts of the entries' ledger, one of which is filled with a unit for each call
+/// that all seats can make, and one empty part of the calls' ledger, which has a part for each seat beside them.
 fn locked<A: Ledger, C: Ledger>(
     alloc: Global,
     shards: usize,

@@ -99,7 +99,7 @@ fn put_shards(
     out.push_str(" closed")
 }
 
-/// So many seats.
+/// Gives out `count` seats.
 fn seats_of<A: Ledger, C: Ledger, R: Wait>(
     rt: &R,
     alloc: Global,

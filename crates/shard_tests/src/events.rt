@@ -73,7 +73,7 @@ pub fn event_of(alloc: Global, frame: u64, words: &str) -> Result<Event, AllocEr
     }
 }
 
-/// An image of a topic `t` of so many partitions, or of no topic.
+/// An image of a topic `t` of `count` partitions, or of no topic where `count` isn't above 0.
 fn image_of(alloc: Global, count: i32) -> Result<Image, AllocError> {
     let mut topics = Vec::new(alloc);
     if count > 0 {

@@ -15,11 +15,12 @@ use test_support::tables::{cut, number, part_words};
 /// A question begins with the number of shards and the most entries that a journal keeps. Its steps are parted by `; `, and
 /// step N has the stamp (1, N) and comes at 0 ms.
 ///
-/// - `seats N`: so many seats are given out, numbered from 0.
+/// - `seats N`: N seats are given out, numbered from 0.
 /// - `SEAT join GROUP`: a join of topic `t` is sent from the seat.
 /// - `SEAT bad`: a frame that can't be read is sent from the seat.
 /// - `SEAT ask GROUP`, `SEAT ask`: the same two, as the bodies of frames that are no events.
-/// - `SEAT tick SHARD MS`, `SEAT image SHARD COUNT`: the time of a shard goes on, and a topic `t` of so many partitions comes to it.
+/// - `SEAT tick SHARD MS`, `SEAT image SHARD COUNT`: the time of a shard goes on to MS ms, and a topic `t` of COUNT partitions comes to
+///   it.
 ///
 /// The answer has for each event `CODE@EPOCH:SHOWN` of a reply, with the number of partitions that it shows, `closes`, `done:N`
 /// or `refused`; and the number of a fault where no shards or no seat are to be had. Behind `|` stands what each seat tells
@@ -158,7 +159,7 @@ fn send_all<A: Ledger, C: Ledger, R: Wait>(
     Ok(seats)
 }
 
-/// Gives out so many seats, up to the first that isn't to be had.
+/// Gives out `count` seats. For each that isn't to be had the fault is written.
 fn sit<A: Ledger, C: Ledger, R: Wait>(
     rt: &R,
     alloc: Global,

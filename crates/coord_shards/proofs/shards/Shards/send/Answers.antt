@@ -1,5 +1,5 @@
 use Rattle.std.proofs.Common.{◌≡◌, ℕ, subst, ap, ◌∙◌}
-use Rattle.coord_shards.specs.Events.{event_of, IsGiven}
+use Rattle.coord_shards.specs.Events.{event_of}
 use Rattle.coord_shards.specs.Home.{IsHome}
 use Rattle.coord_shards.specs.Calls.{Shape}
 use Rattle.coord_shards.specs.Seat.{SeatState}
@@ -20,6 +20,5 @@ returns-else-is_err-clause-taken g c =
     let noted_with : Shape → SeatState =
     λ shape. record c.args.seat.now { sent = kept_with shape.cap c.args.seat.now.sent (record { shard = c.home-number.result; event = event }) } in
     let noted = c.in_ok-note.ensures.noted ∙ ap noted_with c.self.view_is in
-    IsTaken-rises (λ outcome. IsGiven outcome c.args.out.now.items c.take_at-taken.new.out.items) c.args.self.now c.args.seat.now c.note.new.self c.take_at-taken.new.seat
-    event c.home-number.result c.take_at-taken.result
-    noted home c.take_at-taken.ensures.answered c.take_at-taken.ensures.seat
+    IsTaken-rises c.args.self.now c.args.seat.now c.note.new.self c.take_at-taken.new.seat event c.home-number.result
+    c.args.out.now.items c.take_at-taken.new.out.items c.take_at-taken.result noted home c.take_at-taken.ensures.answered c.take_at-taken.ensures.seat
