@@ -146,7 +146,7 @@ class Build:
         """Says how a crate came out, and whether it is proved."""
         self.free.append(task.lane)
         self.finished.append(task.crate)
-        self.progress.done(task.crate)
+        self.progress.done(task.crate, ran.processor)
         title = f"{len(self.finished)} of {len(self.names)}, {task.crate}"
         if ran.status:
             tell(f"{title}: failed")

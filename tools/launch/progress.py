@@ -1,6 +1,5 @@
 """How long a build takes on this machine, by what it took elsewhere."""
 
-import time
 from typing import Dict, Iterable, List
 
 from gate import crates
@@ -30,18 +29,19 @@ SECONDS: Dict[str, int] = {
 }
 # What a crate is taken for that was never measured, in seconds a line of code and of definitions and proofs.
 LINE_SECONDS, ANTT_LINE_SECONDS = 0.09, 0.02
-# What part of that time a build takes where each crate gets the processors that no other one waits for.
+# What part of the bound below a build takes, since a crate gets the processors that no other one waits for.
 PACE = 0.5
 
 
 class Progress:
-    """What is left of a build, and how fast it goes."""
+    """What is left of a build, and how fast this machine is."""
 
     def __init__(self, tree: crates.Tree, names: List[str], lanes: int) -> None:
         self.tree, self.lanes = tree, lanes
         self.left = {it: seconds_of(tree, it) for it in names}
         self.below = {it: {*tree.below(it)} for it in names}
-        self.began, self.all = time.monotonic(), self.bound()
+        # The processor time of the crates that are done: here, and by `SECONDS`.
+        self.spent = self.known = 0.0
 
     def chains(self) -> Dict[str, float]:
         """For each crate that is left, the time of the longest chain that begins with it, each crate resting on the one before."""
@@ -55,17 +55,17 @@ class Progress:
         """The least time that what is left takes, with one processor a crate."""
         return max([*self.chains().values(), sum(self.left.values()) / self.lanes])
 
-    def done(self, crate: str) -> None:
-        self.left.pop(crate)
+    def done(self, crate: str, processor: float) -> None:
+        """Takes out a crate that took so much processor time."""
+        self.known += self.left.pop(crate)
+        self.spent += processor
 
     def minutes_left(self) -> str:
         return minutes(self.seconds_left())
 
     def seconds_left(self) -> float:
-        """How long the rest takes at the pace so far."""
-        left, spent = self.bound(), time.monotonic() - self.began
-        gone = self.all - left
-        return left * (spent / gone if gone > 0 else PACE)
+        """How long the rest takes where its crates are as fast or slow as those that are done."""
+        return PACE * self.bound() * (self.spent / self.known if self.known else 1)
 
 
 def seconds_of(tree: crates.Tree, crate: str) -> float:
