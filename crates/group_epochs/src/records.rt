@@ -438,7 +438,7 @@ impl Records {
 
     /// The rank of the first member, in the order of the members' ids, whose deadline has come (KIP-848, "Session Management"); none
     /// where no deadline has come. Where the clock is before every deadline no record is looked at. A search at the moment of the last
-    /// one goes on from where that came to, unless a record was stored since. Takes no memory.
+    /// one goes on from where that came to, unless a record was stored or left by its id since. Takes no memory.
     pub fn due(&mut self, clock: Moment) -> Option<usize>
         ensures first { MatchOption result (NoneIsDue self.old.records clock) (λ rank. IsFirstRank self.old.records clock rank) }
         ensures same { self.new ≡ self.old }
