@@ -43,14 +43,14 @@ class Ran:
         return self.output.decode(errors="replace").rstrip("\n").split("\n")
 
 
-def run(words, folder=None, given=b"", limit=None, merged=True):
-    """Runs a program to its end, or for at most `limit` seconds. Where `merged`, its errors go into `output`."""
+def run(words, folder=None, given=b"", limit=None, merged=True, nice=0):
+    """Runs a program to its end, or for at most `limit` seconds. Where `merged`, its errors go into `output`. `nice`: see `start`."""
     with contextlib.ExitStack() as files:
         given_file, output, errors = (files.enter_context(tempfile.TemporaryFile()) for _ in range(3))
         given_file.write(given)
         given_file.seek(0)
         began = time.monotonic()
-        child = start(words, folder, given_file, output, subprocess.STDOUT if merged else errors)
+        child = start(words, folder, given_file, output, subprocess.STDOUT if merged else errors, nice)
         with time_limit(child, limit) as was_cut:
             status, processor = wait_for(child)
         wall = time.monotonic() - began
@@ -60,13 +60,18 @@ def run(words, folder=None, given=b"", limit=None, merged=True):
         return Ran(status, contents(output), contents(errors), wall, processor, was_cut.is_set())
 
 
-def start(words, folder, given, output, errors):
-    """Starts a program in a session of its own."""
+def start(words, folder, given, output, errors, nice=0):
+    """Starts a program in a session of its own. The higher `nice` is, up to 19, the more it leaves the processors to others."""
     if stopping.is_set():
         raise Stopped
+    words = ["nice", "-n", str(nice), *words] if nice else words
     child = subprocess.Popen(
         words, cwd=folder, stdin=given, stdout=output, stderr=errors, start_new_session=True
     )
+    if nice:
+        # Linux shares the processors out to sessions first, by a value of theirs (sched(7), "The autogroup feature").
+        with contextlib.suppress(OSError), open(f"/proc/{child.pid}/autogroup", "w", encoding="ascii") as value:
+            value.write(str(nice))
     if stopping.is_set():
         end(child)
     return child

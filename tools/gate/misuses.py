@@ -15,12 +15,14 @@ It passes only where the source compiles, and with the misuse is refused by an e
 other error. Nothing is proved: what the types refuse is refused before any proof.
 """
 
+import concurrent.futures
 import dataclasses
 import os
 import re
 import shutil
+import tempfile
 
-from gate import commands, edits
+from gate import commands, edits, schedule
 
 FOLDER = "must-not-compile"
 CRATE = "misuse"
@@ -66,7 +68,9 @@ def read_misuse(path):
 
 def run_all(tree, root, room, say):
     """Tries every misuse; says each that fails. Returns how many passed and failed."""
-    faults = {name: fault_of(tree, f"{root}/{FOLDER}/{name}", room) for name in names_in(root)}
+    names = names_in(root)
+    with concurrent.futures.ThreadPoolExecutor(schedule.processors()) as pool:
+        faults = dict(zip(names, pool.map(lambda it: fault_of(tree, f"{root}/{FOLDER}/{it}", room), names)))
     for name, fault in faults.items():
         say(f"{FOLDER}/{name}: {fault or 'refused by its error'}")
     failed = sum(it is not None for it in faults.values())
@@ -93,8 +97,8 @@ def fault_of(tree, path, room):
 
 def errors_in(tree, uses, source, room):
     """The errors that the front end finds in a library with this source."""
-    folder = f"{room}/{CRATE}"
-    os.makedirs(f"{folder}/src")
+    folder = tempfile.mkdtemp(prefix=f"{CRATE}-", dir=room)
+    os.mkdir(f"{folder}/src")
     with open(f"{folder}/{SOURCE}", "w", encoding="utf-8") as file:
         file.write(source)
     words = tree.check_words(CRATE, uses, SOURCE)

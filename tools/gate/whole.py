@@ -6,9 +6,11 @@ launcher, the documents, the server and the rest from outside, the misuses, the 
 of the crates that changed last, for as long as there is time.
 """
 
+import concurrent.futures
 import os
 import re
 import subprocess
+import threading
 
 from gate import cases, commands, crates, edits, kept, misuses, schedule, sweep
 
@@ -17,17 +19,17 @@ EDIT_MINUTES_NAME, EDIT_MINUTES = "GATE_EDIT_MINUTES", 8
 LAST_BEGIN = 80
 # How long one of the scripts may take, in seconds.
 SCRIPT_SECONDS = 1_800
-# The scripts that are run, and whether each takes the built program.
-SCRIPTS = (
+# The scripts that are run one after the other, since they serve or take times, and those that build, which are run beside the misuses
+# and the edits for tests. Each with whether it takes the built program.
+ALONE = (
     ("check-launcher", True),
-    ("check-readme", True),
     ("check-model", False),
     ("check-pictures", True),
     ("check-server", True),
     ("check-broker", True),
     ("check-conversations", True),
-    ("check-library", False),
 )
+BESIDE = (("check-readme", True), ("check-library", False))
 # What a check says where all is well; everything else that `rt ci` writes is shown as it comes.
 NOISE = re.compile(
     r"checked \S+, \d|so far: |statements |crate \S+: modules|logic |logic=proved |by-macro: |empty contracts: 0 "
@@ -49,6 +51,7 @@ class Gate:
         self.tree = crates.Tree(root, crates.kit_folder(), is_proved=True)
         self.passed = self.failed = 0
         self.left, self.faults = [], []
+        self.counting = threading.Lock()
         self.is_anything_new = True
 
     def say(self, line):
@@ -56,19 +59,26 @@ class Gate:
         print(f"[{seconds // 60:3}:{seconds % 60:02}] {line}", flush=True)
 
     def count(self, what, passed, failed):
-        self.passed, self.failed = self.passed + passed, self.failed + failed
+        with self.counting:
+            self.passed, self.failed = self.passed + passed, self.failed + failed
+            if failed:
+                self.faults.append(f"{what}: {failed} failed")
         self.say(f"{what}: {passed} passed, {failed} failed")
-        if failed:
-            self.faults.append(f"{what}: {failed} failed")
 
     def run(self, command):
         """Runs every step with `command` as the prover of the whole tree, and returns the exit status."""
         is_proved, known = self.prove(command)
         self.run_cases(is_proved)
-        self.run_scripts()
+        for script in ALONE:
+            self.run_script(*script)
+        with concurrent.futures.ThreadPoolExecutor(len(BESIDE)) as pool:
+            beside = [pool.submit(self.run_script, *it) for it in BESIDE]
+            if is_proved:
+                self.count("misuses", *misuses.run_all(self.tree, self.root, self.room, self.say))
+                self.try_edits("edits for tests", edits.TEST_FOLDER, self.tree.uses, known, None)
+            for it in beside:
+                it.result()
         if is_proved:
-            self.count("misuses", *misuses.run_all(self.tree, self.root, self.room, self.say))
-            self.try_edits("edits for tests", edits.TEST_FOLDER, self.tree.uses, known, None)
             self.try_further_edits(known)
         else:
             self.say("no misuse and no edit was tried, since not every crate is proved")
@@ -114,20 +124,18 @@ class Gate:
         """Where the program stands once it is built."""
         return f"{self.tree.folder(cases.PROGRAM_CRATE)}/out/{cases.PROGRAM_CRATE}"
 
-    def run_scripts(self):
-        """Runs the scripts that check from outside."""
-        for script, takes_program in SCRIPTS:
-            words = [self.program()] * takes_program
-            if not all(map(os.path.isfile, words)):
-                self.say(f"{script} was not run, since the program was not built")
-                continue
-            ran = commands.run([f"{self.root}/tools/{script}", *words], self.root, limit=SCRIPT_SECONDS)
-            last = LAST_LINE.match(ran.lines()[-1])
-            passed, failed = (int(last[1]), int(last[2])) if last else (0, 1)
-            is_told = [it for it in ran.lines() if failed or ran.status or "not run" in it]
-            for line in is_told:
-                self.say(f"{script}: {line}")
-            self.count(script, passed, max(failed, int(ran.status != 0)))
+    def run_script(self, script, takes_program):
+        """Runs a script that checks from outside."""
+        words = [self.program()] * takes_program
+        if not all(map(os.path.isfile, words)):
+            self.say(f"{script} was not run, since the program was not built")
+            return
+        ran = commands.run([f"{self.root}/tools/{script}", *words], self.root, limit=SCRIPT_SECONDS)
+        last = LAST_LINE.match(ran.lines()[-1])
+        passed, failed = (int(last[1]), int(last[2])) if last else (0, 1)
+        for line in (it for it in ran.lines() if failed or ran.status or "not run" in it):
+            self.say(f"{script}: {line}")
+        self.count(script, passed, max(failed, int(ran.status != 0)))
 
     def try_further_edits(self, known):
         """Tries the edits beside must-fail/ of the crates that changed last, as long as there is time."""

@@ -24,6 +24,8 @@ MOST_LANES = 6
 BUILT = ("rlib", "incremental")
 # How many lines are shown of what is said of a crate that isn't proved.
 SHOWN = 20
+# How nice a crate is to the longest chain.
+BESIDE = 10
 
 
 def tell(text: str) -> None:
@@ -63,9 +65,8 @@ class Task:
     crate: str
     lane: crates.Tree
     memory: float
-    # Its share of the processors, and the jobs that it is begun with.
-    share: int
     jobs: int
+    nice: int
 
 
 class Build:
@@ -108,29 +109,26 @@ class Build:
         return True
 
     def begin(self, pool: concurrent.futures.Executor) -> None:
-        """Begins those crates that are ready, as many as there are processors and memory for."""
+        """Begins those crates that are ready, as many as there is memory for."""
         begun = [*self.finished, *(it.crate for it in self.running.values())]
-        ready = [it for it in self.order if it not in begun and {*self.tree.below(it)} <= {*self.finished}]
-        for number, crate in enumerate(ready):
-            task = self.task(crate, len(ready) - number)
-            if task is not None:
-                self.running[pool.submit(self.prove, task)] = task
+        for crate in self.order:
+            if crate not in begun and {*self.tree.below(crate)} <= {*self.finished}:
+                task = self.task(crate)
+                if task is not None:
+                    self.running[pool.submit(self.prove, task)] = task
 
-    def task(self, crate: str, sharers: int) -> Optional[Task]:
-        """The crate with a lane and its share of what is free, or nothing where there is no room for it now."""
-        idle = self.processors - sum(it.share for it in self.running.values())
+    def task(self, crate: str) -> Optional[Task]:
+        """The crate with a lane and its jobs, or nothing where there is no room for it now."""
         room = self.memory - sum(it.memory for it in self.running.values())
         need = schedule.need_of(self.tree, crate)
-        if not self.free or self.running and (idle < 1 or room < need):
+        if not self.free or self.running and room < need:
             return None
         fitting = 1 + int(max(room / need - 1, 0) / schedule.JOB_MEMORY)
-        # The longest chain comes first, and gets what can't be shared out. A shorter one leaves half of the processors to what comes next.
+        # The longest chain gets all processors when it wants them, and the others what it leaves: where it comes to its last functions, say.
         is_first = all(self.chains[it.crate] <= self.chains[crate] for it in self.running.values())
         most = min(self.processors, schedule.MOST_JOBS) if is_first else max(1, self.processors // 2)
-        share = max(1, min(-(-idle // sharers), fitting, most))
-        # The number of jobs stays until the crate is proved. So the longest chain has some beyond its share, for when the others have ended.
-        jobs = max(share, min(fitting, most)) if is_first else share
-        return Task(crate, self.free.pop(), need * (1 + schedule.JOB_MEMORY * (jobs - 1)), share, jobs)
+        jobs = min(fitting, most)
+        return Task(crate, self.free.pop(), need * (1 + schedule.JOB_MEMORY * (jobs - 1)), jobs, 0 if is_first else BESIDE)
 
     def prove(self, task: Task) -> commands.Ran:
         """Proves a crate in its lane."""
@@ -140,7 +138,7 @@ class Build:
         # A program is built by running it: over no lines, it prints nothing.
         words = ["rt", "run", *jobs, "--", "reply"] if crate == sources.CRATE else ["rt", "lib", *jobs]
         with moved(f"{self.tree.folder(crate)}/out", f"{lane.folder(crate)}/out"):
-            return commands.run(words, lane.folder(crate))
+            return commands.run(words, lane.folder(crate), nice=task.nice)
 
     def end(self, task: Task, ran: commands.Ran) -> bool:
         """Says how a crate came out, and whether it is proved."""
