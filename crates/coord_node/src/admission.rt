@@ -44,6 +44,7 @@ pub(crate) fn admit(
     if succeeds(&outcome) {
         admit_success(alloc, groups, name, kept, outcome)
     } else {
+        drop(kept);
         Ok(outcome)
     }
 }
@@ -83,9 +84,16 @@ fn keep(
     ensures full { result ≡ Err NotKept.Full → MOST ≤ finite.len (groups_of groups.old.entries) }
     ensures err { OnErr result (groups.new.entries ≡ groups.old.entries) }
 {
-    let key = key_for(alloc, groups, name)?;
-    insert(groups, key, kept);
-    Ok(())
+    match key_for(alloc, groups, name) {
+        Ok(key) => {
+            insert(groups, key, kept);
+            Ok(())
+        }
+        Err(why) => {
+            drop(kept);
+            Err(why)
+        }
+    }
 }
 
 /// The name as a key, and room for it in the table, where one more group may be kept. The groups are the same.
@@ -128,7 +136,7 @@ fn insert(groups: &mut IndexMap<String, Kept, RandomState>, key: String, kept: K
     ensures { groups.new.entries ≡ groups.old.entries ++ (key, kept) ∷ [] }
 {
     match groups.insert(key, kept) {
-        Ok(_) => {}
+        Ok(old) => drop(old),
         Err(_) => unreachable!(),
     }
 }

@@ -44,7 +44,9 @@ pub(crate) fn put(alloc: Global, out: &mut Vec<u8>, correlation: i32, reply: Rep
         assignment: assignment_of(alloc, assignment),
         tags: TaggedFields::new(alloc),
     };
-    frame::put(out, &Message::Heartbeat(header, message));
+    let reply = Message::Heartbeat(header, message);
+    frame::put(out, &reply);
+    drop(reply);
 }
 
 /// The text of an id, where there is one.

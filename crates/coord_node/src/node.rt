@@ -313,14 +313,19 @@ impl Node {
         ensures err { OnErr result (self.new ≡ self.old) }
     {
         let mut kept = Kept::new(self.alloc, self.salt, self.hasher);
-        let outcome = kept.heartbeat(request, stamp, now, &self.image, self.generation, out)?;
-        admit(
-            self.alloc,
-            &mut self.groups,
-            request.group_id,
-            kept,
-            outcome,
-        )
+        match kept.heartbeat(request, stamp, now, &self.image, self.generation, out) {
+            Ok(outcome) => admit(
+                self.alloc,
+                &mut self.groups,
+                request.group_id,
+                kept,
+                outcome,
+            ),
+            Err(error) => {
+                drop(kept);
+                Err(error)
+            }
+        }
     }
 }
 

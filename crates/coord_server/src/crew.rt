@@ -165,7 +165,10 @@ where
             future,
             bell,
         }),
-        Err(fault) => Err(fault),
+        Err(fault) => {
+            drop(runtime);
+            Err(fault)
+        }
     }
 }
 
@@ -234,10 +237,15 @@ where
     D: Timed,
     R: Clock,
 {
-    let ticks = ticks_of(clock, runtime.handle().time())?;
-    Ok(OwnLoop {
-        runtime,
-        future: Expiry::new(desk, ticks),
-        bell,
-    })
+    match ticks_of(clock, runtime.handle().time()) {
+        Ok(ticks) => Ok(OwnLoop {
+            runtime,
+            future: Expiry::new(desk, ticks),
+            bell,
+        }),
+        Err(error) => {
+            drop(runtime);
+            Err(error.into())
+        }
+    }
 }

@@ -52,6 +52,7 @@ impl<'a, B: Future<Output = Outcome>> OwnLoop<'a, B> {
             bell,
         } = self;
         let ended = end_of(runtime.block_on(rt, future));
+        drop(runtime);
         bell.ring(ended.is_err());
         ended
     }

@@ -50,12 +50,17 @@ impl Stops {
             future,
             bell,
         } = own;
-        let future = self.stoppable(alloc, future)?;
-        Ok(OwnLoop {
-            runtime,
-            future,
-            bell,
-        })
+        match self.stoppable(alloc, future) {
+            Ok(future) => Ok(OwnLoop {
+                runtime,
+                future,
+                bell,
+            }),
+            Err(fault) => {
+                drop(runtime);
+                Err(fault)
+            }
+        }
     }
 }
 

@@ -73,7 +73,10 @@ impl Event {
     pub fn copy(&self, alloc: Global) -> Result<Event, AllocError>
         ensures { IfOk result (λ event. event ≡ self.now) }
     {
-        Incoming::of(alloc, self)?.copy(alloc)
+        let lent = Incoming::of(alloc, self)?;
+        let copied = lent.copy(alloc);
+        drop(lent);
+        copied
     }
 
     /// Whether the two are the same event.

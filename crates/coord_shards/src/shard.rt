@@ -143,6 +143,7 @@ impl Shard {
             return Answer::Refused;
         };
         let taken = self.take(seat, &event, &mut out);
+        drop(event);
         Answer::of(taken, out)
     }
 

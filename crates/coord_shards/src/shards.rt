@@ -194,7 +194,9 @@ impl<A: Ledger, C: Ledger, G> Shards<A, C, G> {
             (λ given. IsTaken self.now seat.old (event_of event.entry) given seat.new)) }
         ensures err { OnErr result ((seat.new ≡ seat.old) × (out.new.items ≡ out.old.items)) }
     {
-        self.send(rt, alloc, seat, &event, out)
+        let taken = self.send(rt, alloc, seat, &event, out);
+        drop(event);
+        taken
     }
 
     /// Sends an event that is lent: its seat notes it, and the shard that is its home takes it, as [`Shards::take`] says.

@@ -107,8 +107,9 @@ where
         port: service.port,
     };
     let log = EndLog::new(if service.logs { Some(told) } else { None });
-    let served = serve_socket(rt, service, keys, socket, moments, listening, &log)?;
-    Ok(print(writer, "served", served)?)
+    let served = serve_socket(rt, service, keys, socket, moments, listening, &log);
+    drop(log);
+    Ok(print(writer, "served", served?)?)
 }
 
 /// Listens on a port of 127.0.0.1.
@@ -170,7 +171,9 @@ where
     ensures { IfOk result (λ served. served ≡ service.now.connections) }
 {
     let shards = shards_of::<A, C>(rt.alloc(), service.shards, salt, keys, entries, calls)?;
-    serve_shards(rt, service, &shards, socket, moments, announce, log)
+    let served = serve_shards(rt, service, &shards, socket, moments, announce, log);
+    drop(shards);
+    served
 }
 
 /// Gives the shards their topics, and serves the connections of a socket over them. Gives their number.
@@ -249,8 +252,9 @@ where
     E: Write,
 {
     let mut desk = ShardsDesk::new(rt, rt.alloc(), shards, moments.clone()?, log)?;
-    desk.set_image(image)?;
-    Ok(())
+    let is_set = desk.set_image(image);
+    drop(desk);
+    Ok(is_set?)
 }
 
 /// Prints that the server listens on a port.

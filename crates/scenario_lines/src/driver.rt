@@ -41,17 +41,17 @@ pub trait LineWorker {
 
 /// Does the lines of the reader in order and prints what they answer, up to the first that can't be done. A fault is told.
 /// Gives the program's status: 0 where all lines are done, 2 at a bad line, 1 after the other faults.
-pub fn run<L: LineWorker, R: Read, W: Write, E: Write>(
+pub fn run<L: LineWorker + Drop, R: Read, W: Write, E: Write>(
     alloc: Global,
-    worker: &mut L,
+    mut worker: L,
     reader: &mut R,
     writer: &mut W,
     faults: &mut E,
 ) -> u8
-    ensures { RunsScript L.does L.takes L.closes worker.old (R.remaining reader.old)
+    ensures { RunsScript L.does L.takes L.closes worker (R.remaining reader.old)
         (W.contents writer.old, W.contents writer.new) (E.contents faults.old, E.contents faults.new) result }
 {
-    match do_lines(alloc, worker, reader, writer) {
+    match do_lines(alloc, &mut worker, reader, writer) {
         Ok(()) => 0,
         Err(fault) => tell(alloc, fault, faults),
     }

@@ -42,9 +42,9 @@ pub fn explained_reply_lines<R: Read, W: Write, E: Write>(
         (W.contents writer.old, W.contents writer.new) (E.contents faults.old, E.contents faults.new) result }
     ensures too_long { IsTooLong (R.remaining reader.old) → (result ≡ 1) × Keeps (W.contents writer.old) (W.contents writer.new) }
 {
-    let mut interpreter = Interpreter::new(alloc, hasher);
-    let mut again = Interpreter::new(alloc, hasher);
-    explained_lines(alloc, &mut interpreter, &mut again, reader, writer, faults)
+    let interpreter = Interpreter::new(alloc, hasher);
+    let again = Interpreter::new(alloc, hasher);
+    explained_lines(alloc, interpreter, again, reader, writer, faults)
 }
 
 /// Does what [`run_lines`](crate::run_lines) does, and tells then of each line that closed, was refused or was bad why.
@@ -59,9 +59,9 @@ pub fn explained_run_lines<R: Read, W: Write, E: Write>(
         (W.contents writer.old, W.contents writer.new) (E.contents faults.old, E.contents faults.new) result }
     ensures too_long { IsTooLong (R.remaining reader.old) → (result ≡ 1) × Keeps (W.contents writer.old) (W.contents writer.new) }
 {
-    let mut player = Player::new(alloc, hasher);
-    let mut again = Player::new(alloc, hasher);
-    explained_lines(alloc, &mut player, &mut again, reader, writer, faults)
+    let player = Player::new(alloc, hasher);
+    let again = Player::new(alloc, hasher);
+    explained_lines(alloc, player, again, reader, writer, faults)
 }
 
 /// Does what [`frame_lines`](crate::frame_lines) does, and tells then of each line that had a fault or was bad why.
@@ -75,27 +75,34 @@ pub fn explained_frame_lines<R: Read, W: Write, E: Write>(
         (W.contents writer.old, W.contents writer.new) (E.contents faults.old, E.contents faults.new) result }
     ensures too_long { IsTooLong (R.remaining reader.old) → (result ≡ 1) × Keeps (W.contents writer.old) (W.contents writer.new) }
 {
-    let mut reporter = Reporter::new(alloc);
-    let mut again = Reporter::new(alloc);
-    explained_lines(alloc, &mut reporter, &mut again, reader, writer, faults)
+    let reporter = Reporter::new(alloc);
+    let again = Reporter::new(alloc);
+    explained_lines(alloc, reporter, again, reader, writer, faults)
 }
 
 /// Does the lines of the reader with one worker, and then again with another that is at the same place, which tells of each line
 /// that comes to nothing why.
-fn explained_lines<L: Explains, R: Read, W: Write, E: Write>(
+fn explained_lines<L: Explains + Drop, R: Read, W: Write, E: Write>(
     alloc: Global,
-    worker: &mut L,
-    again: &mut L,
+    mut worker: L,
+    mut again: L,
     reader: &mut R,
     writer: &mut W,
     faults: &mut E,
 ) -> u8
-    ensures ends { ExplainsScript L.does L.takes L.closes worker.old (R.remaining reader.old)
+    ensures ends { ExplainsScript L.does L.takes L.closes worker (R.remaining reader.old)
         (W.contents writer.old, W.contents writer.new) (E.contents faults.old, E.contents faults.new) result }
     ensures too_long { IsTooLong (R.remaining reader.old) → (result ≡ 1) × Keeps (W.contents writer.old) (W.contents writer.new) }
 {
     match read_whole(alloc, reader) {
-        Ok(input) => explained_input(alloc, worker, again, input.as_slice(), writer, faults),
+        Ok(input) => explained_input(
+            alloc,
+            &mut worker,
+            &mut again,
+            input.as_slice(),
+            writer,
+            faults,
+        ),
         Err(fault) => tell(alloc, fault, faults),
     }
 }

@@ -29,8 +29,8 @@ pub fn frame_lines<R: Read, W: Write, E: Write>(
     ensures { RunsLines (DoesFrameLine {State = Reporter}) SpellsBytes (new_reporter alloc) (R.remaining reader.old)
         (W.contents writer.old, W.contents writer.new) (E.contents faults.old, E.contents faults.new) result }
 {
-    let mut reporter = Reporter::new(alloc);
-    driver::run(alloc, &mut reporter, reader, writer, faults)
+    let reporter = Reporter::new(alloc);
+    driver::run(alloc, reporter, reader, writer, faults)
 }
 
 /// Prints the report of each line's frame.

@@ -28,8 +28,8 @@ pub fn reply_frame_lines<R: Read, W: Write, E: Write>(
     ensures { RunsLines DoesReplyFrameLine SpellsBytes (new_reply_reporter alloc api) (R.remaining reader.old)
         (W.contents writer.old, W.contents writer.new) (E.contents faults.old, E.contents faults.new) result }
 {
-    let mut reporter = ReplyReporter::new(alloc, api);
-    driver::run(alloc, &mut reporter, reader, writer, faults)
+    let reporter = ReplyReporter::new(alloc, api);
+    driver::run(alloc, reporter, reader, writer, faults)
 }
 
 /// Prints the report of each line's frame.

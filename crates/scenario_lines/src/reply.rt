@@ -23,6 +23,6 @@ pub fn reply_lines<R: Read, W: Write, E: Write>(
     ensures { RunsLines DoesReplyLine IsReplyLine (new_interpreter alloc) (R.remaining reader.old)
         (W.contents writer.old, W.contents writer.new) (E.contents faults.old, E.contents faults.new) result }
 {
-    let mut interpreter = Interpreter::new(alloc, hasher);
-    driver::run(alloc, &mut interpreter, reader, writer, faults)
+    let interpreter = Interpreter::new(alloc, hasher);
+    driver::run(alloc, interpreter, reader, writer, faults)
 }

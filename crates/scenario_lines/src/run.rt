@@ -23,6 +23,6 @@ pub fn run_lines<R: Read, W: Write, E: Write>(
     ensures { RunsScript DoesScriptLine IsScriptLine PrintsStandings new_play (R.remaining reader.old)
         (W.contents writer.old, W.contents writer.new) (E.contents faults.old, E.contents faults.new) result }
 {
-    let mut player = Player::new(alloc, hasher);
-    driver::run(alloc, &mut player, reader, writer, faults)
+    let player = Player::new(alloc, hasher);
+    driver::run(alloc, player, reader, writer, faults)
 }

@@ -2,16 +2,16 @@ use Rattle.std.proofs.Common.{◌∷◌, [], ◌++◌, length, ap, ◌∙◌, ar
 use Rattle.coord_node.specs.NodeView.{Entries}
 use Rattle.coord_node.proofs.admission.keep.Goals as goal
 
-pub returns-clause-kept : goal.returns-clause-kept
-returns-clause-kept c =
+pub returns-in-Ok-clause-kept : goal.returns-in-Ok-clause-kept
+returns-in-Ok-clause-kept c =
     record {
-      key = c.in_ok-key.key;
-      named = c.in_ok-key.ensures.key.0;
-      entries = c.insert.ensures ∙ ap (λ (es : Entries). es ++ (c.in_ok-key.key, c.args.kept) ∷ []) c.in_ok-key.ensures.entries;
+      key = c.in-Ok.key;
+      named = c.in-Ok.ensures.key.0;
+      entries = c.insert.ensures ∙ ap (λ (es : Entries). es ++ (c.in-Ok.key, c.args.kept) ∷ []) c.in-Ok.ensures.entries;
     }
 
-pub returns-clause-room : goal.returns-clause-room
-returns-clause-room c = (
-  c.in_ok-key.ensures.room.0,
-  omega (arith, c.in_ok-key.ensures.room.1, ap length c.insert.ensures, ap length c.in_ok-key.ensures.entries, length-append c.key_for.new.groups.entries ((c.in_ok-key.key, c.args.kept) ∷ [])),
+pub returns-in-Ok-clause-room : goal.returns-in-Ok-clause-room
+returns-in-Ok-clause-room c = (
+  c.in-Ok.ensures.room.0,
+  omega (arith, c.in-Ok.ensures.room.1, ap length c.insert.ensures, ap length c.in-Ok.ensures.entries, length-append c.key_for.new.groups.entries ((c.in-Ok.key, c.args.kept) ∷ [])),
 )

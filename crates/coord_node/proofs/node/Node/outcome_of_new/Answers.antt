@@ -30,20 +30,20 @@ pub invariant_of-self : goal.invariant_of-self
 invariant_of-self c =
     record {
       kept = still_of_each (HasRightNumber c.self.inside.generation c.self.inside.image) c.self.inside.groups.entries c.admit.new.groups.entries c.args.request.now.group_id.now
-          c.heartbeat.new.self (answer_of c.in_ok-outcome.outcome) answer_of c.admit.result c.self.invariant.kept c.in_ok-outcome.ensures.kept c.admit.ensures.admitted c.admit.ensures.err;
+          c.heartbeat.new.self (answer_of c.in-Ok.outcome) answer_of c.admit.result c.self.invariant.kept c.in-Ok.ensures.kept c.admit.ensures.admitted c.admit.ensures.err;
       few = c.admit.ensures.few c.self.invariant.few;
     }
 
-pub returns-clause-step : goal.returns-clause-step
-returns-clause-step c =
+pub returns-in-Ok-clause-step : goal.returns-in-Ok-clause-step
+returns-in-Ok-clause-step c =
     let n = c.args.self.now in
     let v = heartbeat_request_value c.args.request.now in
     let h : Arrival = arrival_of v c.args.stamp c.args.now n.image in
-    let given = answer_of c.in_ok-outcome.outcome in
+    let given = answer_of c.in-Ok.outcome in
     let new = c.heartbeat.new.self in
     let entries = c.admit.new.groups.entries in
     let step : HeartbeatStep c.new-kept.result.group.state h given new.group.state =
-    subst (λ (image : Topics). HeartbeatStep c.new-kept.result.group.state (arrival_of v c.args.stamp c.args.now image) given new.group.state) (ap (λ (x : Coordinator). x.image) c.self.view_is) c.in_ok-outcome.ensures.step in
+    subst (λ (image : Topics). HeartbeatStep c.new-kept.result.group.state (arrival_of v c.args.stamp c.args.now image) given new.group.state) (ap (λ (x : Coordinator). x.image) c.self.view_is) c.in-Ok.ensures.step in
     let is : (record n { groups = groups_of entries }) ≡ (record { salt = c.self.inside.salt; groups = groups_of entries; image = c.self.inside.image }) =
     ap (λ (x : Coordinator). record x { groups = groups_of entries }) (sym c.self.view_is) in
     IfOk-weaker c.admit.result _ _
