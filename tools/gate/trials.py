@@ -9,6 +9,7 @@ import collections
 import os
 import re
 import shutil
+import tempfile
 import threading
 
 from gate import cases, commands, crates, functions, schedule
@@ -29,6 +30,7 @@ class Trials:
 
     def __init__(self, tree, room, tests, say, clock):
         self.tree, self.room, self.say, self.clock = tree, room, say, clock
+        self.rt = f"{kit_without_hints(tree.kit, tempfile.mkdtemp(prefix='kit-', dir=room))}/bin/rt"
         self.tests = collections.defaultdict(set)
         for crate, _, test in (it.partition("::") for it in tests):
             self.tests[crate].add(test)
@@ -89,7 +91,7 @@ class Trials:
             raise NotRun(f"crates.txt names no {test_crate}")
         folder = self.laid(label, crate, texts)
         leave_out_tests(f"{folder}/crates/{test_crate}/src", {it.rpartition("::")[2] for it in tests})
-        lines = self.tried(["rt", "try", "--test"], f"{folder}/crates/{test_crate}", label).lines()
+        lines = self.tried([self.rt, "try", "--test"], f"{folder}/crates/{test_crate}", label).lines()
         shutil.rmtree(folder, ignore_errors=True)
         found = {it[1]: it[2] for it in (re.match(r"test (\S+) \.\.\. (\w+)", line) for line in lines) if it}
         if not found:
@@ -103,7 +105,7 @@ class Trials:
         except (cases.BadCase, OSError) as why:
             raise NotRun(f"{label}: {why}") from None
         folder = self.laid(what, crate, texts)
-        words = ["rt", "try", "--", *case.words]
+        words = [self.rt, "try", "--", *case.words]
         ran = self.tried(words, f"{folder}/crates/{cases.PROGRAM_CRATE}", what, case.given)
         shutil.rmtree(folder, ignore_errors=True)
         ended = re.search(rb"^run=ended status=(\d+) .*proved=no\n\Z", ran.errors, re.M)
@@ -119,6 +121,27 @@ class Trials:
             raise schedule.OutOfTime
         self.say(f"   {what}: built and run: {ran.processor:.0f} s of processor time, {ran.wall:.0f} s")
         return ran
+
+
+def kit_without_hints(kit, folder, scripts=None):
+    """Fills a folder with links to the parts of the toolchain, and with scripts in place of those that are named. Returns the folder.
+
+    The checker is an empty script: all that it does in a try is to look for hints, for about as long as the build takes.
+    """
+    scripts = {"bin/rattle": "#!/bin/sh\n", **(scripts or {})}
+    for part in ("", "bin/", "toolchain/", "toolchain/bin/"):
+        os.makedirs(f"{folder}/{part}", exist_ok=True)
+        for name in (it for it in os.listdir(f"{kit}/{part}") if f"{part}{it}" not in ("bin", "toolchain", "toolchain/bin")):
+            source, target = f"{kit}/{part}{name}", f"{folder}/{part}{name}"
+            if f"{part}{name}" in scripts:
+                write(target, scripts[f"{part}{name}"])
+                os.chmod(target, 0o755)
+            elif name in ("rt", "rtlib.py"):
+                # (these find the toolchain by where they lie)
+                shutil.copy(source, target)
+            else:
+                os.symlink(source, target)
+    return folder
 
 
 def told(lines):

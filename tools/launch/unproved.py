@@ -5,13 +5,12 @@ for the compiler: it keeps what it is to compile. The real compiler then makes a
 the toolchain promises this way, so the launcher says that it goes it, and falls back to a plain `rt try` where it fails.
 """
 
-import os
 import pathlib
 import shlex
 import sys
 from typing import List, Optional
 
-from gate import commands, crates
+from gate import commands, crates, trials
 from launch import build, sources
 
 TARGET = "x86_64-unknown-linux-gnu"
@@ -54,7 +53,9 @@ def native(tree: crates.Tree, kept: sources.Kept) -> bool:
 
 def native_of(copied: crates.Tree, kit: str, folder: str) -> Optional[pathlib.Path]:
     """A native program of the sources, in this folder, where one can be made."""
-    ran = commands.run([f"{stand_in_kit(kit, folder)}/bin/rt", "try", "--", "reply"], copied.folder(sources.CRATE))
+    places = {"folder": shlex.quote(folder), "compiler": shlex.quote(f"{kit}/toolchain/bin/clang")}
+    own = trials.kit_without_hints(kit, f"{folder}/kit", {"toolchain/bin/clang": STAND_IN.format(checked=CHECKED, **places)})
+    ran = commands.run([f"{own}/bin/rt", "try", "--", "reply"], copied.folder(sources.CRATE))
     try:
         words = pathlib.Path(folder, "words").read_text().splitlines()
     except OSError:
@@ -73,28 +74,6 @@ def native_of(copied: crates.Tree, kit: str, folder: str) -> Optional[pathlib.Pa
         if commands.run(step, folder).status:
             return None
     return pathlib.Path(folder, "coord")
-
-
-def stand_in_kit(kit: str, folder: str) -> str:
-    """A folder like the toolchain's, with links to all but the compiler."""
-    own = f"{folder}/kit"
-    for part in ("", "/bin", "/toolchain", "/toolchain/bin"):
-        os.mkdir(own + part)
-        for name in os.listdir(kit + part):
-            if f"{part}/{name}" not in ("/bin", "/toolchain", "/toolchain/bin", "/bin/rt", "/bin/rtlib.py", "/bin/rattle", "/toolchain/bin/clang"):
-                os.symlink(f"{kit}{part}/{name}", f"{own}{part}/{name}")
-    # `rt` finds the toolchain by where its own files lie. The checker only gives hints in a try, which nobody sees here.
-    for name in ("rt", "rtlib.py"):
-        write_script(f"{own}/bin/{name}", pathlib.Path(f"{kit}/bin/{name}").read_text())
-    write_script(f"{own}/bin/rattle", "#!/bin/sh\n")
-    places = {"folder": shlex.quote(folder), "compiler": shlex.quote(f"{kit}/toolchain/bin/clang")}
-    write_script(f"{own}/toolchain/bin/clang", STAND_IN.format(checked=CHECKED, **places))
-    return own
-
-
-def write_script(path: str, text: str) -> None:
-    pathlib.Path(path).write_text(text)
-    os.chmod(path, 0o755)
 
 
 def tried(tree: crates.Tree, words: List[str]) -> int:
