@@ -24,7 +24,7 @@ MOST_LANES = 6
 BUILT = ("rlib", "incremental")
 # How many lines are shown of what is said of a crate that isn't proved.
 SHOWN = 20
-# How nice a crate is to the longest chain.
+# The `nice` of a crate that runs beside one of a longer chain.
 BESIDE = 10
 
 
