@@ -104,15 +104,21 @@ class Rounds:
                 self.try_alone(edit)
 
     def functions_of(self, change):
-        """The functions that a change turns, by their names in a verdict; None where a line is in no known one."""
-        found = {}
+        """The functions that a change turns, by their names in a verdict; None where a line is in no known one.
+
+        A line of a function's own proof files is the function's.
+        """
+        found, proofs = {}, set()
         for path, line in change.lines:
+            if path.startswith("proofs/"):
+                proofs.add("::".join([self.bench.crate, *path.split("/")[1:-1]]))
+                continue
             inside = [it for it in functions.functions_in(path, self.bench.read(path)) if it.has(path, line)]
             name = functions.name_in(self.bench.crate, inside[0], self.known) if inside else None
             if name is None or not path.startswith("src/"):
                 return None
             found[name] = inside[0]
-        return found
+        return found if proofs <= {*found} else None
 
     def picked(self, waiting):
         """As many edits as turn different functions, and the others."""
