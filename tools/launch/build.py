@@ -24,8 +24,8 @@ MOST_LANES = 6
 BUILT = ("rlib", "incremental")
 # How many lines are shown of what is said of a crate that isn't proved.
 SHOWN = 20
-# The `nice` of a crate that runs beside one of a longer chain.
-BESIDE = 10
+# A chain of at least this part of the longest is taken for as long, and the `nice` of a crate of a shorter one.
+NEAR, BESIDE = 0.9, 10
 
 
 def tell(text: str) -> None:
@@ -110,25 +110,29 @@ class Build:
 
     def begin(self, pool: concurrent.futures.Executor) -> None:
         """Begins those crates that are ready, as many as there is memory for."""
-        begun = [*self.finished, *(it.crate for it in self.running.values())]
-        for crate in self.order:
-            if crate not in begun and {*self.tree.below(crate)} <= {*self.finished}:
-                task = self.task(crate)
-                if task is not None:
-                    self.running[pool.submit(self.prove, task)] = task
+        running = [it.crate for it in self.running.values()]
+        begun = {*self.finished, *running}
+        ready = [it for it in self.order if it not in begun and {*self.tree.below(it)} <= {*self.finished}]
+        longest = max((self.chains[it] for it in (*running, *ready)), default=0)
+        foremost = [it for it in (*running, *ready) if self.chains[it] >= NEAR * longest]
+        for crate in ready:
+            task = self.task(crate, foremost)
+            if task is not None:
+                self.running[pool.submit(self.prove, task)] = task
 
-    def task(self, crate: str) -> Optional[Task]:
-        """The crate with a lane and its jobs, or nothing where there is no room for it now."""
+    def task(self, crate: str, foremost: List[str]) -> Optional[Task]:
+        """The crate with a lane and its jobs, or nothing where there is no room for it now.
+
+        The longest chains share the processors, and the others have what they leave: where one comes to its last functions, say.
+        """
         room = self.memory - sum(it.memory for it in self.running.values())
         need = schedule.need_of(self.tree, crate)
         if not self.free or self.running and room < need:
             return None
         fitting = 1 + int(max(room / need - 1, 0) / schedule.JOB_MEMORY)
-        # The longest chain gets all processors when it wants them, and the others what it leaves: where it comes to its last functions, say.
-        is_first = all(self.chains[it.crate] <= self.chains[crate] for it in self.running.values())
-        most = min(self.processors, schedule.MOST_JOBS) if is_first else max(1, self.processors // 2)
-        jobs = min(fitting, most)
-        return Task(crate, self.free.pop(), need * (1 + schedule.JOB_MEMORY * (jobs - 1)), jobs, 0 if is_first else BESIDE)
+        sharers = min(len(foremost), 2) if crate in foremost else 2
+        jobs = min(fitting, schedule.MOST_JOBS, max(1, self.processors // sharers))
+        return Task(crate, self.free.pop(), need * (1 + schedule.JOB_MEMORY * (jobs - 1)), jobs, 0 if crate in foremost else BESIDE)
 
     def prove(self, task: Task) -> commands.Ran:
         """Proves a crate in its lane."""
