@@ -69,12 +69,25 @@ def start(words, folder, given, output, errors, nice=0):
         words, cwd=folder, stdin=given, stdout=output, stderr=errors, start_new_session=True
     )
     if nice:
-        # Linux shares the processors out to sessions first, by a value of theirs (sched(7), "The autogroup feature").
-        with contextlib.suppress(OSError), open(f"/proc/{child.pid}/autogroup", "w", encoding="ascii") as value:
-            value.write(str(nice))
+        set_nice_of_session(child.pid, nice)
     if stopping.is_set():
         end(child)
     return child
+
+
+def set_nice_of_session(leader, nice):
+    """Linux shares the processors out to sessions first, by a value of theirs (sched(7), "The autogroup feature")."""
+    for _ in range(10):
+        try:
+            with open(f"/proc/{leader}/autogroup", "w", encoding="ascii") as value:
+                value.write(str(nice))
+        except BlockingIOError:
+            # Who isn't root may set one such value in a tenth of a second.
+            time.sleep(0.1)
+            continue
+        except OSError:
+            pass
+        return
 
 
 @contextlib.contextmanager
