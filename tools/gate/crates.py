@@ -60,13 +60,13 @@ class Tree:
         with open(f"{self.folder(crate)}/{path}", encoding="utf-8") as file:
             return file.read()
 
-    def check_words(self, crate, uses=None, root_file=None):
+    def check_words(self, crate, uses=None, root_file=None, verb="check"):
         """The words that check a crate, in a folder that has its files, over the tree's built libraries.
 
-        `uses` and `root_file` are given for code that is no crate of the tree.
+        `uses` and `root_file` are given for code that is no crate of the tree. The verb `build` wants more words behind these.
         """
         uses = self.uses[crate] if uses is None else uses
-        words = [f"{self.kit}/bin/rattle", "check", "--crate-name", crate]
+        words = [f"{self.kit}/bin/rattle", verb, "--crate-name", crate]
         words.append(root_file or self.root_file(crate))
         own = [it for it in uses if it in self.uses]
         for name in ["std", *(it for it in uses if it not in self.uses)]:

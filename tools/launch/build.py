@@ -1,7 +1,7 @@
 """Proves the crates that the program is made of, side by side, and builds the program.
 
-Two `rt` can't work side by side over one copy of a library, so each lane of the build has a copy of the sources of its own. What is
-proved of a crate is moved back into its folder out, and the lanes of the crates above it get its library by links.
+A crate is checked over the statements of the libraries below it, as `rt ci` does, and not over their proofs: that is faster the more stands
+below it. What is proved of a library is kept in its folder out/proved, with a checksum of all that it was made of.
 """
 
 import concurrent.futures
@@ -11,17 +11,18 @@ import fcntl
 import os
 import pathlib
 import shutil
+import signal
 import sys
 import time
-from typing import Dict, Iterator, List, Optional, Tuple
+from typing import Dict, Iterator, List, Optional
 
 from gate import commands, crates, schedule, whole
 from launch import progress, sources
 
 # More crates than this are never ready at one time.
 MOST_LANES = 6
-# What `rt` keeps of a crate in its folder out: the library, and the work that a later proof begins with.
-BUILT = ("rlib", "incremental")
+# What the program is linked for.
+TARGET = "x86_64-unknown-linux-gnu"
 # How many lines are shown of what is said of a crate that isn't proved.
 SHOWN = 20
 # A chain of at least this part of the longest is taken for as long, and the `nice` of a crate of a shorter one.
@@ -58,28 +59,61 @@ def room(tree: crates.Tree) -> Iterator[str]:
         yield folder
 
 
+class Over(crates.Tree):
+    """A copy of the sources, which later edits don't reach, over the libraries that are kept in the tree itself."""
+
+    def __init__(self, home: crates.Tree, copied: crates.Tree, kit: str) -> None:
+        super().__init__(copied.root, kit)
+        self.home = home
+
+    def library(self, crate: str) -> str:
+        return f"{self.home.folder(crate)}/out/proved/{crate}.rlib"
+
+    def note(self, crate: str) -> pathlib.Path:
+        return pathlib.Path(f"{self.library(crate)}.sum")
+
+    def sum_of(self, crate: str) -> str:
+        return sources.sum_of(self, crate, self.kit)
+
+    def is_kept(self, crate: str) -> bool:
+        """Whether there is a library of the crate's sources and of those below it as they are in the copy."""
+        try:
+            return os.path.isdir(self.library(crate)) and self.note(crate).read_text() == self.sum_of(crate)
+        except OSError:
+            return False
+
+    def build_words(self, crate: str, program: str) -> List[str]:
+        """The words that prove a crate and build it: a library for the crates above, or what is linked into the program."""
+        if crate == sources.CRATE:
+            made = ["--toolchain", f"{self.kit}/toolchain", "-o", f"{program}.o"]
+        else:
+            made = ["--statements", "-o", self.library(crate)]
+        return [*self.check_words(crate, verb="build"), *made]
+
+
 @dataclasses.dataclass
 class Task:
     """A crate that is being proved."""
 
     crate: str
-    lane: crates.Tree
     memory: float
     jobs: int
     nice: int
 
 
 class Build:
-    """One build: the lanes, and what is left to do."""
+    """One build: what is left to do, and what runs."""
 
     def __init__(self, tree: crates.Tree, folder: str) -> None:
-        self.tree, self.names = tree, sources.crates_of(tree)
+        copied = sources.copy(tree, f"{folder}/sources")
+        self.over, self.program = Over(tree, copied, crates.kit_folder()), f"{folder}/{sources.CRATE}"
+        self.made_of = sources.sum_of(copied)
         self.processors, self.memory = schedule.processors(), schedule.USED_MEMORY * schedule.free_memory()
-        first = sources.copy(tree, f"{folder}/0")
-        self.made_of = sources.sum_of(first)
-        count = min(self.processors, MOST_LANES, len(self.names))
-        self.free = [first, *(sources.copy(first, f"{folder}/{it}") for it in range(1, count))]
-        self.progress = progress.Progress(tree, self.names, count)
+        self.every = sources.crates_of(tree)
+        # Statements fit the very libraries that they were made over.
+        self.names = self.over.above([it for it in self.every if it == sources.CRATE or not self.over.is_kept(it)])
+        self.lanes = min(self.processors, MOST_LANES, len(self.names))
+        self.progress = progress.Progress(tree, self.names, self.lanes)
         self.chains = self.progress.chains()
         self.order = sorted(self.names, key=lambda it: self.chains[it], reverse=True)
         self.running: Dict["concurrent.futures.Future[commands.Ran]", Task] = {}
@@ -88,9 +122,10 @@ class Build:
     def run(self) -> bool:
         """Proves every crate. Whether all are proved."""
         began = time.monotonic()
-        minutes = self.progress.minutes_left()
-        tell(f"building the program: its {len(self.names)} crates are proved first, side by side; {minutes} from nothing on this machine")
-        with concurrent.futures.ThreadPoolExecutor(len(self.free)) as pool:
+        left, count = len(self.names), len(self.every)
+        which = f"its {count} crates are" if left == count else f"{left} of its {count} crates {'is' if left == 1 else 'are'}"
+        tell(f"building the program: {which} proved first, side by side; {self.progress.minutes_left()} on this machine")
+        with concurrent.futures.ThreadPoolExecutor(self.lanes) as pool:
             try:
                 is_proved = self.prove_all(pool)
             finally:
@@ -111,8 +146,8 @@ class Build:
     def begin(self, pool: concurrent.futures.Executor) -> None:
         """Begins those crates that are ready, as many as there is memory for."""
         running = [it.crate for it in self.running.values()]
-        begun = {*self.finished, *running}
-        ready = [it for it in self.order if it not in begun and {*self.tree.below(it)} <= {*self.finished}]
+        waits = {*self.names} - {*self.finished}
+        ready = [it for it in self.order if it in waits and it not in running and not waits & {*self.over.below(it)}]
         longest = max((self.chains[it] for it in (*running, *ready)), default=0)
         foremost = [it for it in (*running, *ready) if self.chains[it] >= NEAR * longest]
         for crate in ready:
@@ -121,32 +156,35 @@ class Build:
                 self.running[pool.submit(self.prove, task)] = task
 
     def task(self, crate: str, foremost: List[str]) -> Optional[Task]:
-        """The crate with a lane and its jobs, or nothing where there is no room for it now.
+        """The crate with its jobs, or nothing where there is no room for it now.
 
         The longest chains share the processors, and the others have what they leave: where one comes to its last functions, say.
         """
         room = self.memory - sum(it.memory for it in self.running.values())
-        need = schedule.need_of(self.tree, crate)
-        if not self.free or self.running and room < need:
+        need = schedule.need_of(self.over, crate)
+        if len(self.running) >= self.lanes or self.running and room < need:
             return None
         fitting = 1 + int(max(room / need - 1, 0) / schedule.JOB_MEMORY)
         sharers = min(len(foremost), 2) if crate in foremost else 2
         jobs = min(fitting, schedule.MOST_JOBS, max(1, self.processors // sharers))
-        return Task(crate, self.free.pop(), need * (1 + schedule.JOB_MEMORY * (jobs - 1)), jobs, 0 if crate in foremost else BESIDE)
+        return Task(crate, need * (1 + schedule.JOB_MEMORY * (jobs - 1)), jobs, 0 if crate in foremost else BESIDE)
 
     def prove(self, task: Task) -> commands.Ran:
-        """Proves a crate in its lane."""
-        lane, crate, jobs = task.lane, task.crate, ["--jobs", str(task.jobs)]
-        for below in self.tree.below(crate):
-            link(f"{self.tree.folder(below)}/out/rlib", f"{lane.folder(below)}/out/rlib")
-        # A program is built by running it: over no lines, it prints nothing.
-        words = ["rt", "run", *jobs, "--", "reply"] if crate == sources.CRATE else ["rt", "lib", *jobs]
-        with moved(f"{self.tree.folder(crate)}/out", f"{lane.folder(crate)}/out"):
-            return commands.run(words, lane.folder(crate), nice=task.nice)
+        """Proves and builds a crate. Where its jobs are too much for the memory, one has to do."""
+        os.makedirs(os.path.dirname(self.over.library(task.crate)), exist_ok=True)
+        for jobs in dict.fromkeys((task.jobs, 1)):
+            words = [*self.over.build_words(task.crate, self.program), "--jobs", str(jobs)]
+            ran = commands.run(words, self.over.folder(task.crate), nice=task.nice)
+            if ran.status != -signal.SIGKILL:
+                break
+        if ran.status == 0 and task.crate == sources.CRATE:
+            return commands.run(link_words(self.over.kit, f"{self.program}.o", self.program))
+        if ran.status == 0:
+            self.over.note(task.crate).write_text(self.over.sum_of(task.crate))
+        return ran
 
     def end(self, task: Task, ran: commands.Ran) -> bool:
         """Says how a crate came out, and whether it is proved."""
-        self.free.append(task.lane)
         self.finished.append(task.crate)
         self.progress.done(task.crate, ran.processor)
         title = f"{len(self.finished)} of {len(self.names)}, {task.crate}"
@@ -165,37 +203,10 @@ def said_of(ran: commands.Ran) -> List[str]:
     return [*said, *[f"rt was ended by signal {-ran.status}"] * (ran.status < 0)]
 
 
-def link(source: str, target: str) -> None:
-    """Gives the files of a library further names: `rt` replaces such a file, and changes none. Other disks get copies."""
-    if not os.path.exists(target):
-        shutil.copytree(source, target, copy_function=link_or_copy)
-
-
-def link_or_copy(source: str, target: str) -> None:
-    try:
-        os.link(source, target)
-    except OSError:
-        shutil.copyfile(source, target)
-
-
-@contextlib.contextmanager
-def moved(home: str, away: str) -> Iterator[None]:
-    """Has what was built of a crate elsewhere for a while, and brings back all that is then there."""
-    move([f"{home}/{it}" for it in BUILT], away)
-    try:
-        yield
-    finally:
-        if os.path.isdir(away):
-            move([it.path for it in os.scandir(away)], home)
-
-
-def move(paths: List[str], folder: str) -> None:
-    """Moves what there is of these files and folders into a folder, in place of what has the same name there."""
-    os.makedirs(folder, exist_ok=True)
-    for path in filter(os.path.exists, paths):
-        target = f"{folder}/{os.path.basename(path)}"
-        shutil.rmtree(target, ignore_errors=True)
-        shutil.move(path, target)
+def link_words(kit: str, module: str, program: str) -> List[str]:
+    """The words that link a compiled module into a program."""
+    libraries = [f"{kit}/c/libos_c.a", f"{kit}/c/liblibc_c.a"]
+    return [f"{kit}/bin/rattle-link", "--target", TARGET, "--toolchain", f"{kit}/toolchain", "-o", program, module, *libraries]
 
 
 def build(tree: crates.Tree, kept: sources.Kept) -> bool:
@@ -212,7 +223,7 @@ def made(tree: crates.Tree, kept: sources.Kept) -> bool:
             if not build_of.run():
                 tell("the program was not built")
                 return False
-            kept.keep(kept.out / sources.CRATE, build_of.made_of)
+            kept.keep(pathlib.Path(build_of.program), build_of.made_of)
     except SystemExit:
         tell("interrupted, and the program was not built")
         raise

@@ -18,13 +18,13 @@ SECONDS: Dict[str, int] = {
     "group_epochs": 430,
     "offset_guard": 135,
     "group_core": 350,
-    "coord_node": 300,
-    "coord_shards": 390,
+    "coord_node": 200,
+    "coord_shards": 350,
     "member_core": 180,
     "link_futures": 520,
-    "coord_server": 650,
+    "coord_server": 550,
     "world_sim": 365,
-    "scenario_lines": 910,
+    "scenario_lines": 780,
     # (with the building of the program)
     "scenario_cli": 365,
 }

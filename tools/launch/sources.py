@@ -4,6 +4,7 @@ Beside a kept program NAME stand two notes. NAME.sum has the checksum of the sou
 `list-sources` printed when these agreed: while it still prints the same, nothing has changed, and no file needs to be read.
 """
 
+import contextlib
 import hashlib
 import os
 import pathlib
@@ -86,10 +87,12 @@ def crates_of(tree: crates.Tree) -> List[str]:
     return [*tree.below(CRATE), CRATE]
 
 
-def sum_of(tree: crates.Tree) -> str:
-    """A checksum of all that the program is made of."""
+def sum_of(tree: crates.Tree, name: str = CRATE, kit: str = "") -> str:
+    """A checksum of all that a crate is made of, the program's if none is named: its sources, those below it, and the toolchain where given."""
     made = hashlib.sha256()
-    for crate in crates_of(tree):
+    with contextlib.suppress(OSError):
+        made.update(pathlib.Path(kit, "KIT-ID").read_bytes() if kit else b"")
+    for crate in [*tree.below(name), name]:
         made.update(repr((crate, tree.uses[crate])).encode())
         for path in tree.sources(crate):
             content = pathlib.Path(tree.folder(crate), path).read_bytes()

@@ -13,7 +13,6 @@ from typing import List, Optional
 from gate import commands, crates, trials
 from launch import build, sources
 
-TARGET = "x86_64-unknown-linux-gnu"
 # How a try compiles the program, and how it is compiled here: for speed, and without the checks that a try is for.
 TRIED, CHECKED, FAST = "-O0", "-fsanitize=address", "-O2"
 # The status of `rt try` where it doesn't come to the compiler, since the sources are no program.
@@ -63,11 +62,9 @@ def native_of(copied: crates.Tree, kit: str, folder: str) -> Optional[pathlib.Pa
             raise Refused("\n".join(ran.lines())) from None
         return None
     words = [FAST if it == TRIED else it for it in words if it != CHECKED]
-    linked = ["module.o", f"{kit}/c/libos_c.a", f"{kit}/c/liblibc_c.a"]
-    toolchain = f"{kit}/toolchain"
     for step in (
-        [f"{toolchain}/bin/clang", *words],
-        [f"{kit}/bin/rattle-link", "--target", TARGET, "--toolchain", toolchain, "-o", "coord", *linked],
+        [f"{kit}/toolchain/bin/clang", *words],
+        build.link_words(kit, "module.o", "coord"),
         # Over no lines, it prints nothing.
         ["./coord", "reply"],
     ):
