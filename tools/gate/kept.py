@@ -1,4 +1,4 @@
-"""What edits came to before on this machine.
+"""What edits came to before on this machine, and the names in the verdicts on crates.
 
 An entry's name is the sum of all that its verdict rests on: the toolchain, the edit, the sources of its crate and of
 those below, the sources of its test's crate and of those below that, and these tools. So it is never stale. Only
@@ -51,10 +51,24 @@ class Kept:
         return (word, why) if word else None
 
     def keep(self, edit, answer):
+        self.write(self.name(edit), "\n".join(answer))
+
+    def names(self, crate):
+        """The names in the verdict on a crate, where it was proved before over the same files."""
+        return {*read(f"{FOLDER}/{self.names_entry(crate)}").decode(errors="replace").split()}
+
+    def keep_names(self, crate, names):
+        self.write(self.names_entry(crate), "\n".join(sorted(names)))
+
+    def names_entry(self, crate):
+        return sum_of([self.tools, b"names", self.crate(crate)]).decode()
+
+    @staticmethod
+    def write(name, text):
         with contextlib.suppress(OSError):
-            place = f"{FOLDER}/{self.name(edit)}"
+            place = f"{FOLDER}/{name}"
             with open(f"{place}.{os.getpid()}", "w", encoding="utf-8") as file:
-                file.write("\n".join(answer))
+                file.write(text)
             os.replace(f"{place}.{os.getpid()}", place)
 
 

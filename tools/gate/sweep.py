@@ -16,11 +16,11 @@ class Sweep:
 
     `known` has for each crate the names in its verdict, where `rt ci` has just proved the tree's very files and built
     its libraries. Without it a check of each crate as it stands comes first, over what its own checks have kept.
-    `kept`, where it is given, has what edits came to before.
+    `kept`, where it is given, has what edits came to before, and `ahead` what tests and cases come to with edits that are tried already.
     """
 
-    def __init__(self, tree, room, say, clock, known=None, kept=None):
-        self.tree, self.room, self.clock, self.known, self.kept = tree, room, clock, known, kept
+    def __init__(self, tree, room, say, clock, known=None, kept=None, ahead=None):
+        self.tree, self.room, self.clock, self.known, self.kept, self.ahead = tree, room, clock, known, kept, ahead
         self.lanes, self.printing, self.say_line = schedule.Lanes(), threading.Lock(), say
         self.named, self.trials = {}, None
 
@@ -93,7 +93,8 @@ class Sweep:
         if self.clock.is_over():
             return LEFT_OUT, ""
         try:
-            outcome = self.trials.outcome(edit, texts)
+            asked = self.ahead if self.ahead and self.ahead.has(edit) else self.trials
+            outcome = asked.outcome(edit, texts)
         except trials.NotRun as why:
             return rounds.BAD_EDIT, str(why)
         except schedule.OutOfTime:

@@ -18,7 +18,7 @@ PASSES, FAILS = "passes", "fails"
 # What the tests' program says of a test.
 OUTCOMES = {"ok": PASSES, "FAILED": FAILS}
 # How long a build with its run may take, in seconds.
-LIMIT = 1200
+LIMIT = 2400
 
 
 class NotRun(Exception):
@@ -26,10 +26,10 @@ class NotRun(Exception):
 
 
 class Trials:
-    """Runs single tests and cases over a tree with changed texts. `tests` are all that will be asked for."""
+    """Runs single tests and cases over a tree with changed texts. `tests` are all that will be asked for. `nice`: see `commands.start`."""
 
-    def __init__(self, tree, room, tests, say, clock):
-        self.tree, self.room, self.say, self.clock = tree, room, say, clock
+    def __init__(self, tree, room, tests, say, clock, nice=0):
+        self.tree, self.room, self.say, self.clock, self.nice = tree, room, say, clock, nice
         self.rt = f"{kit_without_hints(tree.kit, tempfile.mkdtemp(prefix='kit-', dir=room))}/bin/rt"
         self.tests = collections.defaultdict(set)
         for crate, _, test in (it.partition("::") for it in tests):
@@ -71,8 +71,7 @@ class Trials:
 
     def laid(self, label, crate, texts):
         """A copy of the tree's sources, with these texts in the crate."""
-        folder = f"{self.room}/try-{re.sub(r'[^a-z0-9]+', '-', label.lower())}"
-        os.makedirs(folder)
+        folder = tempfile.mkdtemp(prefix=f"try-{re.sub(r'[^a-z0-9]+', '-', label.lower())}-", dir=self.room)
         for name in ("crates.txt", "HANDLES"):
             if os.path.isfile(f"{self.tree.root}/{name}"):
                 shutil.copyfile(f"{self.tree.root}/{name}", f"{folder}/{name}")
@@ -116,7 +115,7 @@ class Trials:
 
     def tried(self, words, folder, what, given=b""):
         limit = min(LIMIT, self.clock.seconds_left() or LIMIT)
-        ran = commands.run(words, folder, given, limit, merged="--test" in words)
+        ran = commands.run(words, folder, given, limit, merged="--test" in words, nice=self.nice)
         if ran.was_cut and self.clock.is_over():
             raise schedule.OutOfTime
         self.say(f"   {what}: built and run: {ran.processor:.0f} s of processor time, {ran.wall:.0f} s")

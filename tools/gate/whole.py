@@ -12,7 +12,7 @@ import re
 import subprocess
 import threading
 
-from gate import cases, commands, crates, edits, kept, misuses, schedule, sweep
+from gate import ahead, cases, commands, crates, edits, kept, misuses, schedule, sweep
 
 # How many minutes the further edits may take, and from what minute on none of them is begun at all.
 EDIT_MINUTES_NAME, EDIT_MINUTES = "GATE_EDIT_MINUTES", 8
@@ -51,6 +51,7 @@ class Gate:
         self.tree = crates.Tree(root, crates.kit_folder(), is_proved=True)
         self.passed = self.failed = 0
         self.left, self.faults = [], []
+        self.kept = kept.Kept(self.tree)
         self.counting = threading.Lock()
         self.is_anything_new = True
 
@@ -67,6 +68,7 @@ class Gate:
 
     def run(self, command):
         """Runs every step with `command` as the prover of the whole tree, and returns the exit status."""
+        tests = self.tests_ahead()
         is_proved, known = self.prove(command)
         self.run_cases(is_proved)
         for script in ALONE:
@@ -75,7 +77,8 @@ class Gate:
             beside = [pool.submit(self.run_script, *it) for it in BESIDE]
             if is_proved:
                 self.count("misuses", *misuses.run_all(self.tree, self.root, self.room, self.say))
-                self.try_edits("edits for tests", edits.TEST_FOLDER, self.tree.uses, known, None)
+                self.try_edits("edits for tests", edits.TEST_FOLDER, self.tree.uses, known, None, tests)
+            tests.stop()
             for it in beside:
                 it.result()
         if is_proved:
@@ -83,6 +86,12 @@ class Gate:
         else:
             self.say("no misuse and no edit was tried, since not every crate is proved")
         return self.sum_up()
+
+    def tests_ahead(self):
+        """Begins with the tests and cases of the edits for tests that weren't tried before."""
+        tried, _, _ = sweep.gathered(self.tree.folder, self.tree.uses, lambda _: None, (edits.TEST_FOLDER,))
+        left = [it for each in tried.values() for it in each if not self.kept.answer(it)]
+        return ahead.Ahead(self.tree, self.room, self.say, left)
 
     def prove(self, command):
         """Runs `rt ci` over the tree. Returns whether all passed, and the names in its verdicts, by crate."""
@@ -108,7 +117,9 @@ class Gate:
         is_proved = status == 0 and failed == 0
         if is_proved:
             os.environ["GATE_PROVED"] = "1"
-        return is_proved, known
+            for crate, names in known.items():
+                self.kept.keep_names(crate, names)
+        return is_proved, {it: known.get(it) or self.kept.names(it) for it in self.tree.uses}
 
     def run_cases(self, is_proved):
         """Runs the cases with the program as each of the two compilers has built it."""
@@ -153,12 +164,12 @@ class Gate:
             self.say(f"not refused: {fault}")
         self.failed, self.faults = failed, faults
 
-    def try_edits(self, what, folder, names, known, until):
+    def try_edits(self, what, folder, names, known, until, tests=None):
         """Tries the edits of one kind of these crates, those that weren't tried before, in an order that changes from commit to commit."""
         tried, named, bad = sweep.gathered(self.tree.folder, names, self.say, (folder,))
         tried = {crate: schedule.shuffled(self.root, each, crate) for crate, each in tried.items()}
         clock = schedule.Clock(until, self.clock.began)
-        runner = sweep.Sweep(self.tree, self.room, self.say, clock, known, kept.Kept(self.tree))
+        runner = sweep.Sweep(self.tree, self.room, self.say, clock, known, self.kept, tests)
         answers, tally = runner.run(tried, named)
         self.left += sorted(edit.label for edit, answer in answers.items() if answer[0] == sweep.LEFT_OUT)
         self.count(what, tally.passed, tally.failed + bad)
