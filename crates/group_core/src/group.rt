@@ -22,9 +22,15 @@ use std::marker::Model;
 use topic_meta::{Image, View};
 
 /// One consumer group, with its whole state.
-#[derive(Drop)]
 pub struct Group {
     state: State,
+}
+
+/// Its parts are dropped here, so that a crate that drops a group goes through none of them in its proofs.
+impl Drop for Group {
+    fn drop(self) {
+        let Group { state: _ } = self;
+    }
 }
 
 impl Model for Group {

@@ -16,15 +16,15 @@ pub trait Course {
 
 /// The rows of which something else comes than is wanted, each with that. A row is a step, ` = `, and what is wanted; a line
 /// without ` = ` is no row.
-pub fn wrong_steps<C: Course>(
+pub fn wrong_steps<C: Course + Drop>(
     alloc: Global,
-    course: &mut C,
+    mut course: C,
     table: &str,
 ) -> Result<String, AllocError> {
     let mut wrong = String::new(alloc);
     for line in table.lines() {
         if let Some((step, wanted)) = line.split_once(" = ") {
-            look(alloc, course, step, wanted, &mut wrong)?;
+            look(alloc, &mut course, step, wanted, &mut wrong)?;
         }
     }
     Ok(wrong)

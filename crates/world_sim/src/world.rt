@@ -30,9 +30,15 @@ use std::marker::Model;
 
 /// A world: one coordinator, its clients, and every message that was ever sent between them. Contracts see it as a world
 /// of `specs/World.antt`, to which some list of acts led from clients that hadn't asked for anything.
-#[derive(Drop)]
 pub struct World {
     scene: Scene,
+}
+
+/// Its parts are dropped here, so that a crate that drops a world goes through none of them in its proofs.
+impl Drop for World {
+    fn drop(self) {
+        let World { scene: _ } = self;
+    }
 }
 
 impl Model for World {

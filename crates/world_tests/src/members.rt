@@ -165,8 +165,7 @@ fn large_requests_are_made_or_refused(rt: HostRuntime) -> Result<(), Fail> {
 
 /// The steps of a table of which something else comes, each with that.
 fn wrong_of(alloc: Global, table: &str) -> Result<String, AllocError> {
-    let mut standing = Standing::nobody(alloc);
-    wrong_steps(alloc, &mut standing, table)
+    wrong_steps(alloc, Standing::nobody(alloc), table)
 }
 
 impl Course for Standing {

@@ -182,7 +182,7 @@ fn large_joins_are_sent_or_refused(rt: HostRuntime) -> Result<(), Fail> {
 fn wrong_acts(alloc: Global, hasher: RandomState, play: &Play) -> Result<String, AllocError> {
     let clients = clients_of(alloc, play.clients)?;
     let world = World::new(alloc, 0, hasher, clients).map_err(|_| AllocError)?;
-    wrong_steps(alloc, &mut Played { world }, play.steps)
+    wrong_steps(alloc, Played { world }, play.steps)
 }
 
 /// What each client is made with.

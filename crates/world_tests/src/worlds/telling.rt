@@ -75,7 +75,23 @@ fn tell_reply(
     out: &mut String,
 ) -> Result<(), AllocError> {
     let body = world.reply(number).unwrap_or(&[]);
-    let Ok(Reply::Heartbeat(_, reply)) = read_reply(alloc, Api::Heartbeat, body) else {
+    match read_reply(alloc, Api::Heartbeat, body) {
+        Ok(reply) => {
+            let told = tell_heartbeat(alloc, number, &reply, out);
+            drop(reply);
+            told
+        }
+        Err(_) => Err(AllocError),
+    }
+}
+
+fn tell_heartbeat(
+    alloc: Global,
+    number: usize,
+    reply: &Reply<'_>,
+    out: &mut String,
+) -> Result<(), AllocError> {
+    let Reply::Heartbeat(_, reply) = reply else {
         return Err(AllocError);
     };
     write!(
@@ -114,7 +130,18 @@ fn set_of(alloc: Global, topics: &[TopicPartitions<'_>]) -> Result<PartSet, Allo
 
 /// Appends the codes of the reply to a commit.
 fn tell_codes(alloc: Global, body: &[u8], out: &mut String) -> Result<(), AllocError> {
-    let Ok(Reply::Commit(_, reply)) = read_reply(alloc, Api::Commit, body) else {
+    match read_reply(alloc, Api::Commit, body) {
+        Ok(reply) => {
+            let told = tell_commit(&reply, out);
+            drop(reply);
+            told
+        }
+        Err(_) => Err(AllocError),
+    }
+}
+
+fn tell_commit(reply: &Reply<'_>, out: &mut String) -> Result<(), AllocError> {
+    let Reply::Commit(_, reply) = reply else {
         return Err(AllocError);
     };
     out.push_str("code")?;
