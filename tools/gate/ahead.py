@@ -12,14 +12,17 @@ NICE = 10
 
 
 class Ahead:
-    """Builds and runs the test or case of each of these edits, one after the other."""
+    """Builds and runs the test or case of each of these edits, one after the other, from `begin` on."""
 
     def __init__(self, tree, room, say, tried):
-        self.tree = tree
+        self.tree, self.tried, self.found = tree, tried, {}
         tests = [it.test for it in tried if it.test]
         self.trials = trials.Trials(tree, room, tests, say, schedule.Clock(), NICE)
         self.pool = concurrent.futures.ThreadPoolExecutor(1)
-        self.found = {it: self.pool.submit(self.try_one, it) for it in tried}
+
+    def begin(self):
+        if not self.found:
+            self.found = {it: self.pool.submit(self.try_one, it) for it in self.tried}
 
     def try_one(self, edit):
         try:

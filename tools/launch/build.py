@@ -27,6 +27,8 @@ TARGET = "x86_64-unknown-linux-gnu"
 SHOWN = 20
 # A chain of at least this part of the longest is taken for as long, and the `nice` of a crate of a shorter one.
 NEAR, BESIDE = 0.9, 10
+# A crate whose chain is shorter than this part of the longest has time: it is begun where at most so many others run.
+SHORT, FEW = 0.7, 1
 
 
 def tell(text: str) -> None:
@@ -120,19 +122,19 @@ class Build:
         self.finished: List[str] = []
 
     def run(self) -> bool:
-        """Proves every crate. Whether all are proved."""
+        """Proves every crate, and links the program. Whether there is one."""
         began = time.monotonic()
         left, count = len(self.names), len(self.every)
         which = f"its {count} crates are" if left == count else f"{left} of its {count} crates {'is' if left == 1 else 'are'}"
         tell(f"building the program: {which} proved first, side by side; {self.progress.minutes_left()} on this machine")
         with concurrent.futures.ThreadPoolExecutor(self.lanes) as pool:
             try:
-                is_proved = self.prove_all(pool)
+                is_built = self.prove_all(pool) and self.link()
             finally:
                 commands.end_all()
-        if is_proved:
+        if is_built:
             tell(f"built in {time.monotonic() - began:.0f} s")
-        return is_proved
+        return is_built
 
     def prove_all(self, pool: concurrent.futures.Executor) -> bool:
         """Proves crate after crate, up to the first that isn't proved."""
@@ -151,7 +153,8 @@ class Build:
         longest = max((self.chains[it] for it in (*running, *ready)), default=0)
         foremost = [it for it in (*running, *ready) if self.chains[it] >= NEAR * longest]
         for crate in ready:
-            task = self.task(crate, foremost)
+            has_time = self.chains[crate] < SHORT * longest and len(self.running) > FEW
+            task = None if has_time else self.task(crate, foremost)
             if task is not None:
                 self.running[pool.submit(self.prove, task)] = task
 
@@ -177,11 +180,16 @@ class Build:
             ran = commands.run(words, self.over.folder(task.crate), nice=task.nice)
             if ran.status != -signal.SIGKILL:
                 break
-        if ran.status == 0 and task.crate == sources.CRATE:
-            return commands.run(link_words(self.over.kit, f"{self.program}.o", self.program))
-        if ran.status == 0:
+        if ran.status == 0 and task.crate != sources.CRATE:
             self.over.note(task.crate).write_text(self.over.sum_of(task.crate))
         return ran
+
+    def link(self) -> bool:
+        """Links the program. Whether that succeeds."""
+        ran = commands.run(link_words(self.over.kit, f"{self.program}.o", self.program))
+        if ran.status:
+            print(*said_of(ran), sep="\n", file=sys.stderr)
+        return ran.status == 0
 
     def end(self, task: Task, ran: commands.Ran) -> bool:
         """Says how a crate came out, and whether it is proved."""
@@ -200,7 +208,7 @@ class Build:
 def said_of(ran: commands.Ran) -> List[str]:
     """The last lines of what was said of a crate that isn't proved, without those of what is."""
     said = [it for it in ran.lines() if not whole.NOISE.match(it)][-SHOWN:] or ran.lines()[-SHOWN:]
-    return [*said, *[f"rt was ended by signal {-ran.status}"] * (ran.status < 0)]
+    return [*said, *[f"the toolchain was ended by signal {-ran.status}"] * (ran.status < 0)]
 
 
 def link_words(kit: str, module: str, program: str) -> List[str]:
