@@ -13,6 +13,7 @@ import pathlib
 import shutil
 import signal
 import sys
+import threading
 import time
 from typing import Dict, Iterator, List, Optional
 
@@ -120,6 +121,7 @@ class Build:
         self.order = sorted(self.names, key=lambda it: self.chains[it], reverse=True)
         self.running: Dict["concurrent.futures.Future[commands.Ran]", Task] = {}
         self.finished: List[str] = []
+        self.is_over = threading.Event()
 
     def run(self) -> bool:
         """Proves every crate, and links the program. Whether there is one."""
@@ -131,6 +133,7 @@ class Build:
             try:
                 is_built = self.prove_all(pool) and self.link()
             finally:
+                self.is_over.set()
                 commands.end_all()
         if is_built:
             tell(f"built in {time.monotonic() - began:.0f} s")
@@ -178,7 +181,7 @@ class Build:
         for jobs in dict.fromkeys((task.jobs, 1)):
             words = [*self.over.build_words(task.crate, self.program), "--jobs", str(jobs)]
             ran = commands.run(words, self.over.folder(task.crate), nice=task.nice)
-            if ran.status != -signal.SIGKILL:
+            if ran.status != -signal.SIGKILL or self.is_over.is_set():
                 break
         if ran.status == 0 and task.crate != sources.CRATE:
             self.over.note(task.crate).write_text(self.over.sum_of(task.crate))

@@ -110,6 +110,7 @@ def copy(tree: crates.Tree, folder: str) -> crates.Tree:
     lines = [f"{it}: {' '.join(tree.uses[it])}\n" for it in crates_of(tree)]
     pathlib.Path(folder, "crates.txt").write_text("".join(lines))
     for crate in crates_of(tree):
+        os.makedirs(f"{folder}/crates/{crate}")
         for part in crates.PARTS:
             if os.path.isdir(f"{tree.folder(crate)}/{part}"):
                 shutil.copytree(f"{tree.folder(crate)}/{part}", f"{folder}/crates/{crate}/{part}", symlinks=True)
