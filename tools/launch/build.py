@@ -143,7 +143,8 @@ class Build:
         """Proves crate after crate, up to the first that isn't proved."""
         while len(self.finished) < len(self.names):
             self.begin(pool)
-            for it in concurrent.futures.wait(self.running, return_when=concurrent.futures.FIRST_COMPLETED).done:
+            # A signal that comes right before a wait is seen at its end, so that this has one.
+            for it in concurrent.futures.wait(self.running, 1, concurrent.futures.FIRST_COMPLETED).done:
                 if not self.end(self.running.pop(it), it.result()):
                     return False
         return True
