@@ -28,8 +28,6 @@ TARGET = "x86_64-unknown-linux-gnu"
 SHOWN = 20
 # A chain of at least this part of the longest is taken for as long, and the `nice` of a crate of a shorter one.
 NEAR, BESIDE = 0.9, 10
-# A crate whose chain is shorter than this part of the longest has time: it is begun where at most so many others run.
-SHORT, FEW = 0.7, 1
 
 
 def tell(text: str) -> None:
@@ -157,8 +155,7 @@ class Build:
         longest = max((self.chains[it] for it in (*running, *ready)), default=0)
         foremost = [it for it in (*running, *ready) if self.chains[it] >= NEAR * longest]
         for crate in ready:
-            has_time = self.chains[crate] < SHORT * longest and len(self.running) > FEW
-            task = None if has_time else self.task(crate, foremost)
+            task = self.task(crate, foremost)
             if task is not None:
                 self.running[pool.submit(self.prove, task)] = task
 
