@@ -17,7 +17,7 @@ USED_MEMORY, JOB_MEMORY = 0.85, 0.3
 # More jobs than this seldom make a check faster, nor do more than one for FUNCTIONS_A_JOB functions: each reads all libraries.
 MOST_JOBS, FUNCTIONS_A_JOB = 4, 20
 # How long a round that was begun in time may run on, in seconds.
-GRACE = 300
+GRACE = 60
 # The commits of the last hours, up to the last one, are one landing.
 LANDING_HOURS = 4
 # Where a control group says how much processor time (quota and period) and memory (limit and use) there is.

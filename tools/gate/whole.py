@@ -15,12 +15,12 @@ import threading
 from gate import ahead, cases, commands, crates, edits, kept, misuses, schedule, sweep
 
 # How many minutes the further edits may take, and from what minute on none of them is begun at all.
-EDIT_MINUTES_NAME, EDIT_MINUTES = "GATE_EDIT_MINUTES", 8
+EDIT_MINUTES_NAME, EDIT_MINUTES = "GATE_EDIT_MINUTES", 5
 LAST_BEGIN = 80
 # How long one of the scripts may take, in seconds.
 SCRIPT_SECONDS = 1_800
 # The scripts that are run one after the other, since they serve or take times, and those that build, which are run beside the misuses
-# and the edits for tests. Each with whether it takes the built program.
+# and the edits. Each with whether it takes the built program.
 ALONE = (
     ("check-launcher", True),
     ("check-model", False),
@@ -77,13 +77,12 @@ class Gate:
             beside = [pool.submit(self.run_script, *it) for it in BESIDE]
             if is_proved:
                 self.count("misuses", *misuses.run_all(self.tree, self.root, self.room, self.say))
-                self.try_edits("edits for tests", edits.TEST_FOLDER, self.tree.uses, known, None, tests)
+                self.try_edits_for_tests(known, tests)
+                self.try_further_edits(known)
             tests.stop()
             for it in beside:
                 it.result()
-        if is_proved:
-            self.try_further_edits(known)
-        else:
+        if not is_proved:
             self.say("no misuse and no edit was tried, since not every crate is proved")
         return self.sum_up()
 
@@ -153,8 +152,17 @@ class Gate:
             self.say(f"{script}: {line}")
         self.count(script, passed, max(failed, int(ran.status != 0)))
 
+    def try_edits_for_tests(self, known, tests):
+        """Tries the edits that a test or a case must refuse."""
+        tally, faults = self.try_edits(edits.TEST_FOLDER, self.tree.uses, known, None, tests)
+        self.count("edits for tests", tally.passed, tally.failed)
+        self.faults += faults
+
     def try_further_edits(self, known):
-        """Tries the edits beside must-fail/ of the crates that changed last, as long as there is time."""
+        """Tries the edits beside must-fail/ of the crates that changed last, as long as there is time.
+
+        Which of them are tried hangs on the time and the commit, so they fail nothing here.
+        """
         names = schedule.changed_last(self.root, self.tree.uses)
         is_late = self.clock.seconds() >= 60 * LAST_BEGIN
         if is_late or not self.is_anything_new:
@@ -162,23 +170,23 @@ class Gate:
             why = f"{LAST_BEGIN} minutes are over" if is_late else "nothing was proved anew"
             self.say(f"no further edit is tried, since {why}")
         until = self.clock.seconds() / 60 + minutes()
-        failed, faults = self.failed, [*self.faults]
-        self.try_edits("further edits", edits.FURTHER_FOLDER, names, known, until)
-        # (Which of them are tried hangs on the time and the commit, so they fail nothing here.)
-        for fault in self.faults[len(faults) :]:
+        tally, faults = self.try_edits(edits.FURTHER_FOLDER, names, known, until)
+        for fault in faults:
             self.say(f"not refused: {fault}")
-        self.failed, self.faults = failed, faults
+        self.count("further edits", tally.passed, 0)
 
-    def try_edits(self, what, folder, names, known, until, tests=None):
-        """Tries the edits of one kind of these crates, those that weren't tried before, in an order that changes from commit to commit."""
+    def try_edits(self, folder, names, known, until, tests=None):
+        """Tries the edits of one kind of these crates, those that weren't tried before, in an order that changes from commit to commit.
+
+        Returns how many came out as they must and how many didn't, and a line for each that didn't.
+        """
         tried, named, bad = sweep.gathered(self.tree.folder, names, self.say, (folder,))
         tried = {crate: schedule.shuffled(self.root, each, crate) for crate, each in tried.items()}
         clock = schedule.Clock(until, self.clock.began)
         runner = sweep.Sweep(self.tree, self.room, self.say, clock, known, self.kept, tests)
         answers, tally = runner.run(tried, named)
         self.left += sorted(edit.label for edit, answer in answers.items() if answer[0] == sweep.LEFT_OUT)
-        self.count(what, tally.passed, tally.failed + bad)
-        self.faults += sweep.faults_in(answers, named)
+        return tally._replace(failed=tally.failed + bad), sweep.faults_in(answers, named)
 
     def sum_up(self):
         """Says what was left out and what failed, and prints the last line."""
