@@ -22,7 +22,11 @@ find a = 2 with 5, in the copy 2 with 5
 find b = 1 with 3, in the copy 1 with 3
 find d = none, in the copy none
 view b,x,a = a:2:5 b:1:3, copied a:2:5 b:1:3
-number = DuplicateName 1 DuplicateId 2 TooMany 3 BadCount 4 NoMemory 5
+fault 1 = DuplicateName: two topics have one name
+fault 2 = DuplicateId: two topics have one id
+fault 3 = TooMany: the image has more topics or partitions than it may
+fault 4 = BadCount: a topic has fewer than 1 partition or more than 100000
+fault 5 = NoMemory: out of memory
 ";
 
 /// Images of alike topics. The words are how many topics there are, and how many partitions each of them has.
@@ -64,7 +68,7 @@ impl Answers for Topics {
         match call {
             "image" => tell_image(alloc, list_of(alloc, words)?, out),
             "alike" => tell_image(alloc, alike(alloc, words)?, out),
-            "number" => tell_numbers(out),
+            "fault" => tell_numbered(number(words), out),
             "find" => tell_found(&three(alloc)?, words, out),
             _ => tell_view(alloc, &three(alloc)?, words, out),
         }
@@ -150,7 +154,8 @@ fn put_view(view: &View, out: &mut String) -> Result<(), AllocError> {
     Ok(())
 }
 
-fn tell_numbers(out: &mut String) -> Result<(), AllocError> {
+/// Tells the fault with a number, and its text.
+fn tell_numbered(number: u8, out: &mut String) -> Result<(), AllocError> {
     for fault in [
         ImageFault::DuplicateName,
         ImageFault::DuplicateId,
@@ -158,8 +163,9 @@ fn tell_numbers(out: &mut String) -> Result<(), AllocError> {
         ImageFault::BadCount,
         ImageFault::NoMemory,
     ] {
-        part_words(out)?;
-        write!(out, "{fault:?} {}", fault.number())?;
+        if fault.number() == number {
+            return write!(out, "{fault:?}: {fault}");
+        }
     }
     Ok(())
 }

@@ -20,7 +20,7 @@ use Rattle.group_types.specs.Renewal.{is_subscribed, view_for}
 use Rattle.group_core.specs.CodeOrder.{Heir, heir_or}
 use Rattle.group_types.specs.Sound.{IsSound}
 use Rattle.group_types.proofs.GrantLemmas.{has-granting, has-held, has-others}
-use Rattle.group_types.proofs.Lookups.{Tie, ties, differs, tie, not_none, get-insert_other, none_without, removed_is_none}
+use Rattle.group_types.proofs.Lookups.{no_tie, not_none, get-insert_other, none_without, removed_is_none}
 use Rattle.group_types.proofs.Orders.{partition_cmp_total, partition_cmp-IsAntisymmetric, text_cmp_total, text_cmp-IsAntisymmetric}
 use Rattle.group_types.proofs.PastLemmas.{not_past}
 use Rattle.group_types.proofs.SetLemmas.{same_set}
@@ -29,13 +29,6 @@ use Rattle.group_epochs.specs.Records.{Marks}
 use Rattle.group_epochs.specs.Drafts.{IsHeirOf}
 use Rattle.group_core.specs.Stages.{heir_of, stored_in}
 use Rattle.group_core.specs.Steady.{AreMarked, IsSteady}
-
-pub apart_of : (n m : Text) → n ≢ m → eq_by_cmp text_cmp n m ≡ false
-apart_of n m other = by (tie n m)
-  where
-    by : Tie n m → eq_by_cmp text_cmp n m ≡ false
-    by (ties same) = absurd (other same)
-    by (differs _ apart) = apart
 
 -- ---- an heir
 
@@ -78,9 +71,9 @@ held_beside g old heir n ps not_old not_heir =
     same_set partition_cmp_total partition_cmp-IsAntisymmetric _ _
     (λ q. has-held (granting (grants_of_others g old) heir ps) n q
     ∙ has-granting (grants_of_others g old) heir ps n q
-    ∙ beside _ _ _ (apart_of n heir not_heir)
+    ∙ beside _ _ _ (no_tie n heir not_heir)
     ∙ has-others g old n q
-    ∙ ap (λ b. not b && has g (n, q)) (apart_of old n (λ same. not_old (sym same)))
+    ∙ ap (λ b. not b && has g (n, q)) (no_tie old n (λ same. not_old (sym same)))
     ∙ sym (has-held g n q))
 
 owner_beside : (o : Option Text) (old heir n : Text) → n ≢ old → n ≢ heir
@@ -113,7 +106,7 @@ module _ (g : Group) (m : Text) (after : Record) where
   still_steady None absent n other steady =
       record {
         kept = steady.kept;
-        is_kept = get-insert_other g.records m after n (apart_of n m other) ∙ steady.is_kept;
+        is_kept = get-insert_other g.records m after n (no_tie n m other) ∙ steady.is_kept;
         arrived = steady.arrived;
         unasked = steady.unasked;
         holds = steady.holds;
@@ -124,8 +117,8 @@ module _ (g : Group) (m : Text) (after : Record) where
       let part = wanted_beside g.target m h.id n other not_heir in
       record {
         kept = steady.kept;
-        is_kept = get-insert_other (finite.remove g.records m) h.id after n (apart_of n h.id not_heir)
-            ∙ finite.get-remove text_cmp_total g.records m n ∙ ap (λ b. cond b None (finite.get g.records n)) (apart_of n m other) ∙ steady.is_kept;
+        is_kept = get-insert_other (finite.remove g.records m) h.id after n (no_tie n h.id not_heir)
+            ∙ finite.get-remove text_cmp_total g.records m n ∙ ap (λ b. cond b None (finite.get g.records n)) (no_tie n m other) ∙ steady.is_kept;
         arrived = steady.arrived;
         unasked = steady.unasked;
         holds = held_beside g.grants m h.id n _ other not_heir ∙ steady.holds ∙ sym part;

@@ -3,7 +3,6 @@ pub mod Single
 pub mod GrantLemmas
 pub mod Named
 pub mod Steps
-pub mod OneOrder
 pub mod OneTarget
 pub mod OneStep
 pub mod FewPartitions
@@ -12,8 +11,6 @@ pub mod Renewing
 pub mod HandOvers
 pub mod Idle
 pub mod Settling
-pub mod Mirrored
-pub mod RenamedTargets
 pub mod Renamings
 pub mod SoleMember
 pub mod Answered

@@ -19,7 +19,7 @@ use Rattle.group_types.specs.HeartbeatStep.{sent_after}
 use Rattle.group_types.specs.Sound.{IsSound}
 use Rattle.std.specs.Option.{IfSome}
 use Rattle.group_types.proofs.GrantLemmas.{has-held, has-moved, has-others}
-use Rattle.group_types.proofs.Lookups.{not_none, get-insert_other, found_without}
+use Rattle.group_types.proofs.Lookups.{no_tie, not_none, get-insert_other, found_without}
 use Rattle.group_types.proofs.Orders.{partition_cmp_total, partition_cmp-IsAntisymmetric, text_cmp_total}
 use Rattle.group_types.proofs.SetLemmas.{same_set}
 use Rattle.group_types.proofs.SpreadLemmas.{has-share_of}
@@ -33,7 +33,7 @@ use Rattle.group_core.specs.GroupView.{group_of}
 use Rattle.group_epochs.specs.Drafts.{IsHeirOf}
 use Rattle.group_core.specs.Stages.{IsRenewalOf, carried, epoch_if, grants_then, group_then, heir_id, heir_in, moves, part_of, record_then, records_with, target_then}
 use Rattle.group_core.specs.Steady.{AreMarked, IsSteady}
-use Rattle.group_core.proofs.HandOvers.{apart_of, heir_is_absent, marked_beside}
+use Rattle.group_core.proofs.HandOvers.{heir_is_absent, marked_beside}
 
 -- ---- what others hold
 
@@ -42,13 +42,13 @@ held_others false g m n part other = refl
 held_others true g m n part other =
     same_set partition_cmp_total partition_cmp-IsAntisymmetric _ _
     (λ q. has-held (moved g m part) n q ∙ has-moved g m part n q
-    ∙ ap (λ b. cond b (has part q && (has g (m, q) || is_free_for g m q)) (has g (n, q))) (apart_of n m other) ∙ sym (has-held g n q))
+    ∙ ap (λ b. cond b (has part q && (has g (m, q) || is_free_for g m q)) (has g (n, q))) (no_tie n m other) ∙ sym (has-held g n q))
 
 held_left : (g : Grants) (m n : Text) → n ≢ m → held (grants_of_others g m) n ≡ held g n
 held_left g m n other =
     same_set partition_cmp_total partition_cmp-IsAntisymmetric _ _
     (λ q. has-held (grants_of_others g m) n q ∙ has-others g m n q
-    ∙ ap (λ b. not b && has g (n, q)) (apart_of m n (λ same. other (sym same))) ∙ sym (has-held g n q))
+    ∙ ap (λ b. not b && has g (n, q)) (no_tie m n (λ same. other (sym same))) ∙ sym (has-held g n q))
 
 owner_left : (o : Option Text) (m n : Text) → n ≢ m → option_map_or (λ x. bytes_eq x n) (cond (not (option_map_or (λ x. bytes_eq x m) o false)) o None) false ≡ option_map_or (λ x. bytes_eq x n) o false
 owner_left None m n other = refl
@@ -99,7 +99,7 @@ marked_without g marks are m stamp = λ n e is.
           let steady = was.1 same in
           record {
             kept = steady.kept;
-            is_kept = finite.get-remove text_cmp_total g.records m n ∙ ap (λ b. cond b None (finite.get g.records n)) (apart_of n m before.1) ∙ steady.is_kept;
+            is_kept = finite.get-remove text_cmp_total g.records m n ∙ ap (λ b. cond b None (finite.get g.records n)) (no_tie n m before.1) ∙ steady.is_kept;
             arrived = steady.arrived;
             unasked = steady.unasked;
             holds = held_left g.grants m n before.1 ∙ steady.holds ∙ sym (wanted_left g.target m n before.1);
@@ -122,7 +122,7 @@ marked_away g marks are m r stamp moment = λ n e is.
           let steady = was.1 same in
           record {
             kept = steady.kept;
-            is_kept = get-insert_other g.records m _ n (apart_of n m before.1) ∙ steady.is_kept;
+            is_kept = get-insert_other g.records m _ n (no_tie n m before.1) ∙ steady.is_kept;
             arrived = steady.arrived;
             unasked = steady.unasked;
             holds = steady.holds;

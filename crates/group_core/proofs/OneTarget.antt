@@ -7,7 +7,7 @@ use Rattle.group_types.specs.Assignors.{Subscriber, assignor_of}
 use Rattle.group_types.specs.Owners.{Spread, IsRange}
 use Rattle.group_types.specs.Group.{Records, Target}
 use Rattle.group_types.specs.Renewal.{AreOwners, IsTarget}
-use Rattle.group_core.proofs.OneOrder.{one_order}
+use Rattle.group_target.proofs.OneOrder.{one_order}
 use Rattle.uniform_assign.proofs.OneSpread.{uniform_is_one_spread}
 use Rattle.uniform_assign.proofs.Owners.{same_spread}
 

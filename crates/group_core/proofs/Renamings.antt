@@ -24,7 +24,7 @@ use Rattle.group_types.specs.HeartbeatStep.{Answer, ByVerdict, Draft, Replied, S
 use Rattle.group_types.specs.Sound.{IsSound}
 use Rattle.group_types.proofs.Consistent.{IsConsistent, consistent}
 use Rattle.group_types.proofs.GrantLemmas.{free_is, grant_cmp_total, grant_cmp-IsAntisymmetric, has-granting, has-held, has-moved, has-others}
-use Rattle.group_types.proofs.Lookups.{Tie, ties, differs, tie, Found, this, another, found, found_without, get-inserted, none_without, not_none, removed_is_none, some_is, text_ties}
+use Rattle.group_types.proofs.Lookups.{Tie, ties, differs, tie, no_tie, Found, this, another, found, found_without, get-inserted, none_without, not_none, removed_is_none, some_is, text_ties}
 use Rattle.group_types.proofs.Orders.{partition_cmp_total, partition_cmp-IsAntisymmetric, text_cmp_total, text_cmp-IsAntisymmetric}
 use Rattle.group_types.proofs.PastLemmas.{not_past}
 use Rattle.group_types.proofs.Senders.{named_fresh, other_is}
@@ -34,7 +34,7 @@ use Rattle.group_types.proofs.TakeOvers.{taken_over_is_consistent}
 use Rattle.group_core.specs.CodeOrder.{Heir, LateDraft, LateStages, TakesInLate, late_draft_under, renamed_last}
 use Rattle.group_core.specs.Laws.{RenamingMayComeLast}
 use Rattle.group_core.proofs.HandOvers.{insert-removed, remove-inserted, view_for-heir}
-use Rattle.group_core.proofs.RenamedTargets.{Lacks, renamed_back, renamed_lacks, renamed_old, renamed_other, renewed_there}
+use Rattle.group_target.proofs.RenamedTargets.{Lacks, renamed_back, renamed_lacks, renamed_old, renamed_other, renewed_there}
 use Rattle.group_core.proofs.Single.{insert-insert}
 use Rattle.group_core.proofs.SteadyBeats.{kept_past}
 
@@ -89,13 +89,6 @@ not_so false never = refl
 -- ---- a renaming, of the parts of a group
 
 module _ (old heir : Text) (apart : old ≢ heir) where
-  tied_not : (x y : Text) → x ≢ y → eq_by_cmp text_cmp x y ≡ false
-  tied_not x y other = by (tie x y)
-    where
-      by : Tie x y → eq_by_cmp text_cmp x y ≡ false
-      by (ties same) = absurd (other same)
-      by (differs _ so) = so
-
   -- the heir's part of the target is the old id's
   owned_over : (o : Option Text) → (o ≡ Some heir → ⊥) → option_map_or (λ x. bytes_eq x heir) (option_map (renamed_id old heir) o) false ≡ option_map_or (λ x. bytes_eq x old) o false
   owned_over None lacks = refl
@@ -133,7 +126,7 @@ module _ (old heir : Text) (apart : old ≢ heir) where
   heir_holds : (grants : Grants) → HoldsNone grants → (q : Partition) → has (GrantsOver grants) (heir, q) ≡ has grants (old, q)
   heir_holds grants none q =
       has-over grants heir q
-      ∙ (λ i. (text_ties heir i && has grants (old, q)) || (not (tied_not old heir apart i) && none q i))
+      ∙ (λ i. (text_ties heir i && has grants (old, q)) || (not (no_tie old heir apart i) && none q i))
       ∙ or_false (has grants (old, q))
     where
       or_false : (b : Bool) → (b || false) ≡ b
@@ -142,11 +135,11 @@ module _ (old heir : Text) (apart : old ≢ heir) where
 
   old_holds : (grants : Grants) (q : Partition) → has (GrantsOver grants) (old, q) ≡ false
   old_holds grants q =
-      has-over grants old q ∙ (λ i. (tied_not old heir apart i && has grants (old, q)) || (not (text_ties old i) && has grants (old, q)))
+      has-over grants old q ∙ (λ i. (no_tie old heir apart i && has grants (old, q)) || (not (text_ties old i) && has grants (old, q)))
 
   other_holds : (grants : Grants) (x : Text) (q : Partition) → x ≢ old → x ≢ heir → has (GrantsOver grants) (x, q) ≡ has grants (x, q)
   other_holds grants x q not_old not_heir =
-      has-over grants x q ∙ (λ i. (tied_not x heir not_heir i && has grants (old, q)) || (not (tied_not old x (λ same. not_old (sym same)) i) && has grants (x, q)))
+      has-over grants x q ∙ (λ i. (no_tie x heir not_heir i && has grants (old, q)) || (not (no_tie old x (λ same. not_old (sym same)) i) && has grants (x, q)))
 
   held_over : (grants : Grants) → HoldsNone grants → held (GrantsOver grants) heir ≡ held grants old
   held_over grants none =
@@ -172,7 +165,7 @@ module _ (old heir : Text) (apart : old ≢ heir) where
   none_moved : (grants : Grants) → HoldsNone grants → (want : Partitions) → HoldsNone (moved grants old want)
   none_moved grants none want q =
       has-moved grants old want heir q
-      ∙ ap (λ b. cond b (has want q && (has grants (old, q) || is_free_for grants old q)) (has grants (heir, q))) (tied_not heir old (λ same. apart (sym same)))
+      ∙ ap (λ b. cond b (has want q && (has grants (old, q) || is_free_for grants old q)) (has grants (heir, q))) (no_tie heir old (λ same. apart (sym same)))
       ∙ none q
 
   moved_over : (grants : Grants) → HoldsNone grants → (want : Partitions) → moved (GrantsOver grants) heir want ≡ GrantsOver (moved grants old want)
@@ -183,7 +176,7 @@ module _ (old heir : Text) (apart : old ≢ heir) where
       at x q (ties same) other =
           ap (λ y. has (moved (GrantsOver grants) heir want) (y, q)) same
           ∙ has-moved (GrantsOver grants) heir want old q
-          ∙ ap (λ b. cond b (has want q && (has (GrantsOver grants) (heir, q) || is_free_for (GrantsOver grants) heir q)) (has (GrantsOver grants) (old, q))) (tied_not old heir apart)
+          ∙ ap (λ b. cond b (has want q && (has (GrantsOver grants) (heir, q) || is_free_for (GrantsOver grants) heir q)) (has (GrantsOver grants) (old, q))) (no_tie old heir apart)
           ∙ old_holds grants q
           ∙ sym (ap (λ y. has (GrantsOver (moved grants old want)) (y, q)) same ∙ old_holds (moved grants old want) q)
       at x q (differs not_old _) (ties same) =
@@ -196,9 +189,9 @@ module _ (old heir : Text) (apart : old ≢ heir) where
           ∙ sym (ap (λ y. has (GrantsOver (moved grants old want)) (y, q)) same)
       at x q (differs not_old _) (differs not_heir _) =
           has-moved (GrantsOver grants) heir want x q
-          ∙ ap (λ b. cond b (has want q && (has (GrantsOver grants) (heir, q) || is_free_for (GrantsOver grants) heir q)) (has (GrantsOver grants) (x, q))) (tied_not x heir not_heir)
+          ∙ ap (λ b. cond b (has want q && (has (GrantsOver grants) (heir, q) || is_free_for (GrantsOver grants) heir q)) (has (GrantsOver grants) (x, q))) (no_tie x heir not_heir)
           ∙ other_holds grants x q not_old not_heir
-          ∙ sym (ap (λ b. cond b (has want q && (has grants (old, q) || is_free_for grants old q)) (has grants (x, q))) (tied_not x old not_old))
+          ∙ sym (ap (λ b. cond b (has want q && (has grants (old, q) || is_free_for grants old q)) (has grants (x, q))) (no_tie x old not_old))
           ∙ sym (has-moved grants old want x q)
           ∙ sym (other_holds (moved grants old want) x q not_old not_heir)
 

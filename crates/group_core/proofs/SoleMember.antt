@@ -23,7 +23,7 @@ use Rattle.range_assign.proofs.Lawful.{range_is_lawful}
 use Rattle.range_assign.proofs.Spreads.{Contains-cases, Contains-head}
 use Rattle.group_core.specs.FirstMember.{one_record}
 use Rattle.group_core.proofs.FewPartitions.{owner_subscribes}
-use Rattle.group_core.proofs.OneOrder.{no_member, one_order}
+use Rattle.group_target.proofs.OneOrder.{no_member, one_order}
 use Rattle.group_core.proofs.Single.{entries-single}
 use Rattle.uniform_assign.proofs.Soundness.{uniform_is_lawful}
 

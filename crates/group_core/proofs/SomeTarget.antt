@@ -32,7 +32,7 @@ use Rattle.uniform_assign.proofs.Owners.{cases_partition, get-insert_other, get-
 use Rattle.uniform_assign.proofs.PartitionOrder.{IsOfTopic, part_at, part_from}
 use Rattle.uniform_assign.proofs.SomeSpread.{uniform_has_a_spread}
 use Rattle.group_core.specs.Existence.{TargetsExist}
-use Rattle.group_core.proofs.OneOrder.{entries_apart}
+use Rattle.group_target.proofs.OneOrder.{entries_apart}
 
 -- ---- a spread by who is to own each partition of a list
 

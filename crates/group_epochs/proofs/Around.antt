@@ -26,7 +26,8 @@ use Rattle.group_types.specs.Renewal.{subscriber_of}
 use Rattle.group_types.specs.Text.{Text, text_cmp}
 use Rattle.group_types.proofs.Lookups.{some_is}
 use Rattle.group_types.proofs.Orders.{text_cmp_total}
-use Rattle.group_epochs.specs.Table.{IsMemberOrder, IsSplitAt, Key, is_place, key_at, key_cmp, keys_at, keys_in, no_key, other_places, others, rows_at, seen_of, with_row}
+use Rattle.group_types.specs.Places.{key_at, keys_at}
+use Rattle.group_epochs.specs.Table.{IsMemberOrder, IsSplitAt, Key, is_place, key_cmp, keys_in, no_key, other_places, others, rows_at, seen_of, with_row}
 use Rattle.group_epochs.specs.declared.entry.Entry.{Entry}
 use Rattle.group_epochs.proofs.Keys.{key_cmp_total, key_cmp-IsAntisymmetric, key_found}
 use Rattle.group_epochs.proofs.Others.{apart_of_distinct, members_apart}

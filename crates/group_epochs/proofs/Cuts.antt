@@ -7,7 +7,7 @@ use Rattle.std.specs.Cmp.{alike_right, eq_by_cmp_equiv}
 use Rattle.group_types.specs.Text.{Text, text_cmp}
 use Rattle.group_types.specs.Group.{Record, Records}
 use Rattle.group_types.proofs.Entries.{below_differs, first_part, second_part}
-use Rattle.group_types.proofs.Lookups.{Tie, ties, differs, not_none, some_is, text_ties, tie}
+use Rattle.group_types.proofs.Lookups.{no_tie, not_none, some_is, text_ties}
 use Rattle.group_types.proofs.Orders.{text_cmp_total, text_cmp-IsAntisymmetric}
 use Rattle.group_epochs.specs.Table.{NoneIsDueBefore, member_at}
 
@@ -31,13 +31,6 @@ turned : {A : Type 0} (b : Bool) (x y : A) → cond (not b) x y ≡ cond b y x
 turned true x y = refl
 turned false x y = refl
 
-apart_of : (n m : Text) → n ≢ m → eq_by_cmp text_cmp n m ≡ false
-apart_of n m other = by (tie n m)
-  where
-    by : Tie n m → eq_by_cmp text_cmp n m ≡ false
-    by (ties same) = absurd (other same)
-    by (differs _ apart) = apart
-
 module _ {X : Type 0} where
   abbrev is_other : Text → Text × X → Bool
   is_other m e = not (eq_by_cmp text_cmp m e.0)
@@ -50,7 +43,7 @@ module _ {X : Type 0} where
   all_others : (m : Text) (es : List (Text × X)) → T (below_all text_cmp m es) → filter (is_other m) es ≡ es
   all_others m [] below = refl
   all_others m (e ∷ es) below =
-      ap (λ b. cond (not b) (e ∷ filter (is_other m) es) (filter (is_other m) es)) (apart_of m e.0 (λ is. below_differs m e.0 (first_part _ _ below) (sym is)))
+      ap (λ b. cond (not b) (e ∷ filter (is_other m) es) (filter (is_other m) es)) (no_tie m e.0 (λ is. below_differs m e.0 (first_part _ _ below) (sym is)))
       ∙ ap (λ rest. e ∷ rest) (all_others m es (second_part _ _ below))
 
   others_cut : (es : List (Text × X)) (k : ℕ) (e : Text × X) → T (is_sorted text_cmp es) → slice_get es k ≡ Some e → filter (is_other e.0) es ≡ cut es k
@@ -61,7 +54,7 @@ module _ {X : Type 0} where
       ∙ ap (λ b. cond (not b) (d ∷ filter (is_other d.0) es) (filter (is_other d.0) es)) (text_ties d.0)
       ∙ all_others d.0 es (first_part _ _ sorted)
   others_cut (d ∷ es) (suc k) e sorted there =
-      ap (λ b. cond (not b) (d ∷ filter (is_other e.0) es) (filter (is_other e.0) es)) (apart_of e.0 d.0 (below_at d.0 es k e (first_part _ _ sorted) there))
+      ap (λ b. cond (not b) (d ∷ filter (is_other e.0) es) (filter (is_other e.0) es)) (no_tie e.0 d.0 (below_at d.0 es k e (first_part _ _ sorted) there))
       ∙ ap (λ rest. d ∷ rest) (others_cut es k e (second_part _ _ sorted) there)
 
   entries_without : (s : finite.FinMap text_cmp X) (m : Text) → finite.entries (finite.remove s m) ≡ filter (is_other m) (finite.entries s)

@@ -18,7 +18,8 @@ use Rattle.std.proofs.lemmas.Option.{get_or_from_slice_get, slice_get_within}
 use Rattle.indexmap.specs.IndexMap.{IndexMap, IsUnique}
 use Rattle.group_types.specs.Text.{Text, text_cmp}
 use Rattle.group_types.proofs.Orders.{text_cmp_total, text_cmp-IsAntisymmetric}
-use Rattle.group_epochs.specs.Table.{IsMemberOrder, IsNobodys, IsOfMemberWith, IsSplitAt, Key, instance_order, key_at, key_cmp, keys_at, keys_in, no_key}
+use Rattle.group_types.specs.Places.{key_at, keys_at}
+use Rattle.group_epochs.specs.Table.{IsMemberOrder, IsNobodys, IsOfMemberWith, IsSplitAt, Key, instance_order, key_cmp, keys_in, no_key}
 use Rattle.group_epochs.specs.declared.entry.Entry.{Entry}
 use Rattle.group_epochs.proofs.Keys.{key_cmp_total, key_found}
 use Rattle.group_epochs.proofs.Ranked.{all_in_member_order}

@@ -19,9 +19,10 @@ use Rattle.group_types.specs.Sets.{nothing}
 use Rattle.group_types.proofs.Lookups.{tie, not_none, some_is}
 use Rattle.group_types.proofs.Orders.{text_cmp_total, text_cmp-IsAntisymmetric}
 use Rattle.range_assign.proofs.MemberOrder.{member_cmp_total}
-use Rattle.group_epochs.specs.Table.{Key, key_at, key_cmp, key_of, keys_in, no_key, rekeyed, text_at, texts_in}
+use Rattle.group_types.specs.Places.{key_at}
+use Rattle.group_epochs.specs.Table.{Key, key_cmp, key_of, keys_in, no_key, rekeyed, text_at, texts_in}
 use Rattle.group_epochs.specs.declared.entry.Entry.{Entry}
-use Rattle.group_epochs.proofs.Ordered.{same_place}
+use Rattle.group_types.proofs.Ordered.{same_place}
 use Rattle.group_epochs.proofs.Rows.{length-texts_in}
 
 -- a member with the key

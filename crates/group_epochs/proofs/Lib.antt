@@ -3,7 +3,6 @@ pub mod NameLemmas
 pub mod Rows
 pub mod Tabled
 pub mod Others
-pub mod Ordered
 pub mod Keys
 pub mod Ranked
 pub mod Earliest
@@ -14,5 +13,4 @@ pub mod Around
 pub mod Halves
 pub mod Found
 pub mod Senders
-pub mod Sharing
 pub mod Verdicts

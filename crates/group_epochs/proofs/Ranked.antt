@@ -27,7 +27,7 @@ use Rattle.group_types.proofs.Orders.{text_cmp_total, text_cmp-IsAntisymmetric}
 use Rattle.group_epochs.specs.Table.{IsFirstRank, IsIdOrder, IsMemberOrder, IsRank, NoneIsDueBefore, is_due_at, key_cmp, keys_in, no_key, is_row_due, member_at, records_in, rows_at, text_at, texts_at, texts_in, with_row}
 use Rattle.group_epochs.specs.declared.entry.Entry.{Entry}
 use Rattle.group_epochs.proofs.Keys.{distinct_keys_in, key_cmp_total, key_cmp-IsAntisymmetric, length-keys_in}
-use Rattle.group_epochs.proofs.Ordered.{AreApart, place_listed, places_apart, same_place, slice_get_of_map}
+use Rattle.group_types.proofs.Ordered.{AreApart, place_listed, places_apart, same_place, slice_get_of_map}
 use Rattle.group_epochs.proofs.Others.{distinct_in, pair}
 use Rattle.group_epochs.proofs.Rows.{get-records_in, kept_in, length-texts_in, text_found, tied_bytes}
 

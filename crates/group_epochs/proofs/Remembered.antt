@@ -1,7 +1,7 @@
 -- The past as a list: where an id stands, and what taking one out or putting one last keeps.
-use Rattle.std.proofs.Common.{◌≡◌, ℕ, zero, suc, ◌+◌, ◌<◌, Bool, true, false, cond, not, ◌||◌, ◌==◌, List, [], ◌∷◌, ◌++◌, length, map, take, drop, get_or, Option, Some, None, is_some, refl, sym, ap, subst, ◌∙◌, arith, true≢false}
+use Rattle.std.proofs.Common.{◌≡◌, ℕ, zero, suc, ◌+◌, ◌<◌, Bool, true, false, cond, not, ◌||◌, ◌==◌, List, [], ◌∷◌, ◌++◌, length, map, drop, get_or, Option, Some, None, is_some, refl, sym, ap, subst, ◌∙◌, arith, true≢false}
 use Rattle.std.specs.Prelude.{IsSome, OnSome}
-use Rattle.std.specs.List.{HoldsAt, list_any, position, position_from, remove, drop-map, take-map}
+use Rattle.std.specs.List.{HoldsAt, list_any, position, position_from, remove}
 use Rattle.std.specs.Ordering.{eq_by_cmp}
 use Rattle.std.specs.Str.{bytes_eq}
 use Rattle.std.proofs.lemmas.Bool.Decides.{Decides-eqb}
@@ -16,6 +16,7 @@ use Rattle.group_types.specs.Text.{Text, text_cmp}
 use Rattle.group_types.specs.Group.{Past}
 use Rattle.group_types.specs.Limits.{MOST_PAST_MEMBERS}
 use Rattle.group_types.specs.Members.{past_stamp, without_past}
+use Rattle.group_types.proofs.ListLemmas.{map-remove}
 use Rattle.group_types.proofs.Lookups.{Tie, ties, differs, tie, not_none, text_ties}
 use Rattle.group_epochs.specs.Past.{AreApart, AreKept, IsPlaceOf, fingerprint}
 
@@ -168,9 +169,6 @@ apart_behind (e ∷ past) m stamp apart none =
     turned (differs other is) _ = is
 
 -- ---- fingerprints beside
-
-pub map-remove : {X Y : Type 0} (f : X → Y) (xs : List X) (i : ℕ) → remove (map f xs) i ≡ map f (remove xs i)
-map-remove f xs i = (λ j. take-map f i xs j ++ drop-map f (suc i) xs j) ∙ sym (map-append f (take i xs) (drop (suc i) xs))
 
 -- ---- what is kept
 

@@ -20,7 +20,8 @@ use Rattle.group_types.proofs.Lookups.{Tie, ties, differs, tie, not_none, some_i
 use Rattle.group_types.proofs.PastLemmas.{few_without, stamp_without}
 use Rattle.group_epochs.specs.Past.{PastState, HasRoomFor, places}
 use Rattle.group_epochs.specs.Records.{RecordsState, IsMember}
-use Rattle.group_epochs.specs.Table.{Adds, ChangesAt, IsIdOrder, IsMemberOrder, IsNobodys, IsOfMemberWith, IsOrder, IsTable, Rewrites, TakesOut, ids, key_cmp, keys_in, marks_in, no_key, records_in, room_in, texts_in}
+use Rattle.group_types.specs.Places.{IsOrder}
+use Rattle.group_epochs.specs.Table.{Adds, ChangesAt, IsIdOrder, IsMemberOrder, IsNobodys, IsOfMemberWith, IsTable, Rewrites, TakesOut, ids, key_cmp, keys_in, marks_in, no_key, records_in, room_in, texts_in}
 use Rattle.group_epochs.specs.declared.entry.Entry.{Entry}
 use Rattle.group_epochs.proofs.Keys.{keys_stay}
 use Rattle.group_epochs.proofs.Remembered.{absent_behind, absent_drop, without_absent}

@@ -1,13 +1,12 @@
 -- The members of a group as a table by their ids' texts, and what callers see of it.
 use Rattle.group_types.specs.Tick.{IsFirstDue, is_due}
 use Rattle.group_types.specs.Leave.{away}
-use Rattle.std.specs.Prelude.{◌≡◌, ℕ, ◌+◌, nat_le, min, not, if◌then◌else◌, List, [], ◌∷◌, length, map, filter, Option, Some, None, IsSome, String, string_bytes, ◌<◌, ◌≤◌, ◌==◌, Result, MatchResult, slice_get, slice_index_or, false, Bool, ◌++◌, ◌≢◌}
+use Rattle.std.specs.Prelude.{◌≡◌, ℕ, ◌+◌, nat_le, min, not, if◌then◌else◌, List, [], ◌∷◌, length, map, filter, Option, Some, None, IsSome, String, string_bytes, ◌<◌, ◌≤◌, ◌==◌, Result, slice_get, slice_index_or, false, Bool, ◌++◌, ◌≢◌}
 use Rattle.std.specs.FinMap as finite
-use Rattle.std.specs.Ordering.{eq_by_cmp, is_lt}
+use Rattle.std.specs.Ordering.{is_lt}
 use Rattle.std.specs.declared.cmp.Ordering.{Ordering}
 use Rattle.std.specs.declared.cmp.Ordering.TheVariants.{Less, Greater}
-use Rattle.std.specs.List.{AllByRecursion, list_any}
-use Rattle.std.specs.List.Sorted.{IsPartitionPoint, IsStrictlySortedBy}
+use Rattle.std.specs.List.{AllByRecursion}
 use Rattle.std.specs.Map.{keys_of, set_value}
 use Rattle.std.specs.Str.{bytes_eq}
 use Rattle.std.specs.String.{string_eq}
@@ -15,6 +14,7 @@ use Rattle.indexmap.specs.IndexMap.{IndexMap, IsUnique, UpdatesBy, index_map_len
 use Rattle.group_types.specs.declared.stamp.Stamp.{Stamp}
 use Rattle.group_types.specs.Limits.{MOST_PAST_MEMBERS}
 use Rattle.group_types.specs.Text.{Text, text_cmp}
+use Rattle.group_types.specs.Places.{IsOrder, IsRankIn, key_at, keys_at}
 use Rattle.group_types.specs.Assignors.{Subscriber, instance_cmp}
 use Rattle.group_types.specs.Group.{Record, Records}
 use Rattle.group_types.specs.Members.{past_stamp}
@@ -46,30 +46,6 @@ module _ {Y : Type 0} where
   -- the ids' texts, place by place
   abbrev pub texts_in : List (String Y × Entry) → List Text
   texts_in rows = map string_bytes (keys_of rows)
-
--- ---- keys in an order
-
-module _ {K : Type 0} (default : K) where
-  -- the key at a place
-  abbrev pub key_at : List K → ℕ → K
-  key_at keys place = slice_index_or keys place default
-
-  -- the keys at places
-  abbrev pub keys_at : List K → List ℕ → List K
-  keys_at keys places = map (key_at keys) places
-
-module _ {K : Type 0} (R : K → K → Ordering) (default : K) where
-  -- the places of all keys, in their order
-  pub record IsOrder (keys : List K) (places : List ℕ) : Type 0 where
-    pub rise : IsStrictlySortedBy R (keys_at default keys places)
-    pub all : (k : K) → list_any (eq_by_cmp R k) (keys_at default keys places) ≡ list_any (eq_by_cmp R k) keys
-    pub within : AllByRecursion (λ place. place < length keys) places
-
-  -- the rank of a key among places in that order, or else where its place would go
-  abbrev pub IsRankIn : List K → List ℕ → K → Result ℕ ℕ → Type 0
-  IsRankIn keys places k rank =
-      MatchResult rank (λ r. (r < length places) × (slice_get (keys_at default keys places) r ≡ Some k))
-      (λ r. (r ≤ length places) × IsPartitionPoint (λ l. R l k ≡ Less) (λ l. R l k ≡ Greater) (keys_at default keys places) r)
 
 -- the text at a place
 abbrev pub text_at : List Text → ℕ → Text
@@ -135,10 +111,6 @@ other_places own places = filter (λ place. not (is_place own place)) places
 abbrev pub instance_order : Text → Option Text → Ordering
 instance_order i None = Greater
 instance_order i (Some own) = text_cmp own i
-
--- the last place goes to where a member went
-abbrev pub renumbered : ℕ → ℕ → ℕ → ℕ
-renumbered last to place = if place == last then to else place
 
 -- ---- the table
 

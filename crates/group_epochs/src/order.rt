@@ -10,7 +10,8 @@ ghost use Rattle.std.specs.VecDeque.Iter.{deque_iter_rest};
 ghost use Rattle.indexmap.specs.IndexMap.{IsUnique, get_by_text, index_map_len};
 ghost use Rattle.group_types.specs.Assignors.{instance_cmp};
 ghost use Rattle.group_types.specs.Text.{text_cmp};
-ghost use Rattle.group_epochs.specs.Table.{IsMemberOrder, IsNobodys, IsOfMemberWith, IsOrder, IsRankIn, IsSplitAt, instance_order, key_at, key_cmp, keys_at, keys_in, no_key, rekeyed, texts_in};
+ghost use Rattle.group_types.specs.Places.{IsOrder, IsRankIn, key_at, keys_at};
+ghost use Rattle.group_epochs.specs.Table.{IsMemberOrder, IsNobodys, IsOfMemberWith, IsSplitAt, instance_order, key_cmp, keys_in, no_key, rekeyed, texts_in};
 ghost use Rattle.std.specs.List.Sorted.{IsStrictlySortedBy};
 
 use crate::entry::{Entry, Table};

@@ -8,7 +8,8 @@ ghost use Rattle.std.specs.String.{string_eq};
 ghost use Rattle.std.specs.VecDeque.{deque_capacity, deque_len};
 ghost use Rattle.indexmap.specs.IndexMap.{IsUnique, get, get_by_text, index_map_len, spare};
 ghost use Rattle.group_epochs.specs.declared.entry.Entry.{Entry as Stored};
-ghost use Rattle.group_epochs.specs.Table.{Adds, IsIdOrder, IsMarkedBefore, IsMemberOrder, IsRank, Rewrites, TakesOut, is_due_at, is_row_due, marked_at, with_away, with_beat, with_record_kept, renumbered, text_at, texts_in};
+ghost use Rattle.group_types.specs.Places.{renumbered};
+ghost use Rattle.group_epochs.specs.Table.{Adds, IsIdOrder, IsMarkedBefore, IsMemberOrder, IsRank, Rewrites, TakesOut, is_due_at, is_row_due, marked_at, with_away, with_beat, with_record_kept, text_at, texts_in};
 
 use crate::entry::{Entry, Table};
 use crate::lookup::place_of;

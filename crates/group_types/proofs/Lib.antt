@@ -4,6 +4,7 @@ pub mod SetLemmas
 pub mod SpreadLemmas
 pub mod ListSets
 pub mod RisingLists
+pub mod Ordered
 pub mod Orders
 pub mod NameLemmas
 pub mod MadeIds
@@ -23,6 +24,7 @@ pub mod TargetOwners
 pub mod Renewals
 pub mod TakeOvers
 pub mod Senders
+pub mod Sharing
 pub mod Drafts
 pub mod Heartbeats
 pub mod KeptViews

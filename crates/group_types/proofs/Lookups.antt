@@ -29,6 +29,14 @@ tie m n =
       | false ↦ λ apart. differs (apart_texts m n apart) apart
     ] refl
 
+-- texts that differ don't tie
+pub no_tie : (m n : Text) → m ≢ n → eq_by_cmp text_cmp m n ≡ false
+no_tie m n other = by (tie m n)
+  where
+    by : Tie m n → eq_by_cmp text_cmp m n ≡ false
+    by (ties same) = absurd (other same)
+    by (differs _ apart) = apart
+
 pub some_is : {X : Type 0} (x y : X) → Some x ≡ Some y → x ≡ y
 some_is x y is = ap (λ o. unwrap_or o x) is
 

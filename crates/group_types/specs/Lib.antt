@@ -1,5 +1,6 @@
 pub mod Limits
 pub mod Text
+pub mod Places
 pub mod Sets
 pub mod Partition
 pub mod Topics

@@ -75,15 +75,10 @@ const BEATS: &str = "
 
 #[test]
 fn members_take_replies(rt: HostRuntime) -> Result<(), Fail> {
-    let wrong = wrong_beats(&rt)?;
+    let rows = numbered_rows(rt.alloc(), BEATS)?;
+    let wrong = wrong_rows(rt.alloc(), &beating(&rt)?, rows.as_str())?;
     assert_eq!(rt; wrong.as_str(), "");
     Ok(())
-}
-
-fn wrong_beats<R: RandomSource + AllocGlobal>(rt: &R) -> Result<String, Fail> {
-    let beats = beating(rt)?;
-    let rows = numbered_rows(rt.alloc(), BEATS)?;
-    Ok(wrong_rows(rt.alloc(), &beats, rows.as_str())?)
 }
 
 fn beating<R: RandomSource + AllocGlobal>(rt: &R) -> Result<Beats, Fail> {

@@ -9,7 +9,7 @@ use std::alloc::{AllocError, Global};
 use std::fmt::Debug;
 use std::test::Fail;
 use test_support::frames::{bytes_of, put_hex};
-use test_support::tables::{Answers, cut, number, part_words, wrong_rows};
+use test_support::tables::{Answers, cut, number, wrong_rows};
 use uuid::Uuid;
 
 /// What is taken from bytes, and the bytes behind it; and the bytes that are put for a value.
@@ -112,7 +112,14 @@ put i64 -3 = fffffffffffffffd
 put tags none = 00
 put tags 128:aa = 01800101aa
 
-faults = Short 1 NotShortest 2 TooLong 3 NotUtf8 4 TagOrder 5 BadCount 6 BadMark 7 NoMemory 8
+fault 1 = Short: the bytes end inside a field
+fault 2 = NotShortest: a varint is longer than its number needs
+fault 3 = TooLong: a varint or a text is too long
+fault 4 = NotUtf8: a text is not UTF-8
+fault 5 = TagOrder: the tags do not rise
+fault 6 = BadCount: a length or a count is one that its field can't have
+fault 7 = BadMark: a nullable struct begins with neither ff nor 01
+fault 8 = NoMemory: out of memory
 "#;
 
 #[test]
@@ -132,7 +139,7 @@ impl Answers for Fields {
             "take" => take(alloc, field, value, out),
             "take_at_once" => take_tags_at_once(alloc, value, out),
             "put" => put(alloc, field, value, out),
-            _ => faults(out),
+            _ => tell_numbered(number(field), out),
         }
     }
 }
@@ -310,8 +317,8 @@ fn one_field(alloc: Global) -> Result<TaggedFields<'static>, AllocError>
     Ok(TaggedFields::of_vec(fields))
 }
 
-/// Tells the number of each fault.
-fn faults(out: &mut String) -> Result<(), AllocError> {
+/// Tells the fault with a number, and its text.
+fn tell_numbered(number: u8, out: &mut String) -> Result<(), AllocError> {
     let faults = [
         WireFault::Short,
         WireFault::NotShortest,
@@ -323,8 +330,9 @@ fn faults(out: &mut String) -> Result<(), AllocError> {
         WireFault::NoMemory,
     ];
     for fault in faults {
-        part_words(out)?;
-        write!(out, "{fault:?} {}", fault.number())?;
+        if fault.number() == number {
+            return write!(out, "{fault:?}: {fault}");
+        }
     }
     Ok(())
 }

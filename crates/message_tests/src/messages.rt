@@ -13,7 +13,7 @@ use kip_msgs::{
 use std::alloc::{AllocError, Global};
 use std::test::Fail;
 use test_support::frames::{self, bytes_of, put_hex};
-use test_support::tables::{Answers, add_wrong_pairs, cut, number, part_words, wrong_rows};
+use test_support::tables::{Answers, add_wrong_pairs, cut, number, wrong_rows};
 
 /// A body is hex or a name; behind it may stand AT:HEX for other bytes from a place on.
 const TABLE: &str = r#"
@@ -98,7 +98,11 @@ reply_to_commit taken 22:00 = LeftOver
 reply_to_commit taken cut = Wire(Short)
 reply_to_commit full_commit_reply cut = Wire(Short)
 
-faults = Wire(Short) 1 UnknownApi 2 UnknownVersion 3 LeftOver 4 NoMemory 5
+fault 1 = Wire(NotUtf8): a text is not UTF-8
+fault 2 = UnknownApi: unknown api key
+fault 3 = UnknownVersion: unknown version of the api
+fault 4 = LeftOver: bytes left after the message
+fault 5 = NoMemory: out of memory
 "#;
 
 #[test]
@@ -117,7 +121,7 @@ impl Answers for Messages {
         let (name, change) = cut(words);
         match call {
             "apis" => tell_apis(out),
-            "faults" => tell_faults(out),
+            "fault" => tell_numbered(number(words), out),
             _ => tell_body(alloc, call, name, change, out),
         }
     }
@@ -308,16 +312,18 @@ fn tell_apis(out: &mut String) -> Result<(), AllocError> {
     write!(out, "-8 {:?}", Api::with_key(-8))
 }
 
-fn tell_faults(out: &mut String) -> Result<(), AllocError> {
+/// Tells the fault with a number, and its text.
+fn tell_numbered(number: u8, out: &mut String) -> Result<(), AllocError> {
     for fault in [
-        MsgFault::Wire(WireFault::Short),
+        MsgFault::Wire(WireFault::NotUtf8),
         MsgFault::UnknownApi,
         MsgFault::UnknownVersion,
         MsgFault::LeftOver,
         MsgFault::NoMemory,
     ] {
-        part_words(out)?;
-        write!(out, "{fault:?} {}", fault.number())?;
+        if fault.number() == number {
+            return write!(out, "{fault:?}: {fault}");
+        }
     }
     Ok(())
 }

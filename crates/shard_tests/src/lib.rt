@@ -6,4 +6,6 @@ mod callers;
 #[cfg(test)]
 mod events;
 #[cfg(test)]
+mod faults;
+#[cfg(test)]
 mod shards;

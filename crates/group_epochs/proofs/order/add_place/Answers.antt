@@ -2,9 +2,10 @@ use Rattle.std.proofs.Common.{[], ◌∷◌, ◌++◌, subst, sym, ap, ◌∙◌
 use Rattle.std.specs.List.{insert}
 use Rattle.std.specs.Option.{option_copied}
 use Rattle.std.proofs.Math.ListN.{length-map}
-use Rattle.group_epochs.specs.Table.{Key, IsOrder, key_cmp, key_of, keys_in, no_key}
+use Rattle.group_types.specs.Places.{IsOrder}
+use Rattle.group_epochs.specs.Table.{Key, key_cmp, key_of, keys_in, no_key}
 use Rattle.group_epochs.proofs.Keys.{key_absent, key_cmp_total, key_cmp-IsAntisymmetric}
-use Rattle.group_epochs.proofs.Ordered.{no_rank, order_with}
+use Rattle.group_types.proofs.Ordered.{no_rank, order_with}
 use Rattle.group_epochs.proofs.order.add_place.Goals as goal
 
 pub rank_of_key-requires : goal.rank_of_key-requires

@@ -2,11 +2,13 @@ use Rattle.std.proofs.Common.{◌≡◌, ◌-◌, Ok, length, map, set, arith, a
 use Rattle.std.specs.List.{remove, swap_remove}
 use Rattle.std.proofs.lemmas.List.{length-set}
 use Rattle.std.proofs.lemmas.Option.{get_or_from_slice_get, slice_get_within}
-use Rattle.group_epochs.specs.Table.{IsOrder, IsRankIn, key_at, key_cmp, keys_in, no_key, renumbered}
+use Rattle.group_types.specs.Places.{IsOrder, IsRankIn, key_at, renumbered}
+use Rattle.group_epochs.specs.Table.{key_cmp, keys_in, no_key}
 use Rattle.group_epochs.proofs.Keys.{distinct_keys_in, key_cmp_total, key_cmp-IsAntisymmetric, length-keys_in}
-use Rattle.group_epochs.proofs.Ordered.{key_rank, order_without, rank_renumbered}
+use Rattle.group_types.proofs.Ordered.{key_rank, order_without, rank_renumbered}
 use Rattle.group_epochs.proofs.Others.{distinct_in}
-use Rattle.group_epochs.proofs.Remembered.{map-remove, of_some}
+use Rattle.group_types.proofs.ListLemmas.{map-remove}
+use Rattle.group_epochs.proofs.Remembered.{of_some}
 use Rattle.group_epochs.proofs.order.drop_place.Goals as goal
 
 pub returns-clause-order : goal.returns-clause-order

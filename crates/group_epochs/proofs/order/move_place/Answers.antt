@@ -10,12 +10,14 @@ use Rattle.std.proofs.lemmas.List.Quantifiers.{position-Some}
 use Rattle.std.proofs.lemmas.Option.{get_or_from_slice_get, slice_get_within}
 use Rattle.std.proofs.lemmas.Slice.Eq.{bytes_eq-Decides}
 use Rattle.group_types.proofs.RisingLists.{sorted-remove}
-use Rattle.group_epochs.specs.Table.{IsOrder, IsRankIn, Key, key_at, key_cmp, keys_at, keys_in, no_key}
+use Rattle.group_types.specs.Places.{IsOrder, IsRankIn, key_at, keys_at}
+use Rattle.group_epochs.specs.Table.{Key, key_cmp, keys_in, no_key}
 use Rattle.group_epochs.proofs.Keys.{distinct_keys_in, id_of_key, key_cmp_total, key_cmp-IsAntisymmetric, length-keys_in, one_id, rekeyed_set}
-use Rattle.group_epochs.proofs.Ordered.{all-remove, at_place, not_among_rest, order_moved}
+use Rattle.group_types.proofs.Ordered.{all-remove, at_place, not_among_rest, order_moved}
 use Rattle.group_epochs.proofs.Others.{distinct_in}
 use Rattle.group_epochs.proofs.Ranked.{row_there}
-use Rattle.group_epochs.proofs.Remembered.{map-remove, of_some}
+use Rattle.group_types.proofs.ListLemmas.{map-remove}
+use Rattle.group_epochs.proofs.Remembered.{of_some}
 use Rattle.group_epochs.proofs.order.move_place.Goals as goal
 
 -- a key with the id of the member at a place is at none of the others

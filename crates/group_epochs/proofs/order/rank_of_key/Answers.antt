@@ -2,9 +2,10 @@ use Rattle.std.proofs.Common.{rules, subst}
 use Rattle.std.specs.List.Sorted.{IsSearchInRange}
 use Rattle.std.specs.Option.{option_copied}
 use Rattle.std.proofs.lemmas.Fn.{always_returns_same}
-use Rattle.group_epochs.specs.Table.{Key, key_at, key_cmp, keys_in, no_key}
+use Rattle.group_types.specs.Places.{key_at}
+use Rattle.group_epochs.specs.Table.{Key, key_cmp, keys_in, no_key}
 use Rattle.group_epochs.proofs.Keys.{key_cmp_total, key_cmp-IsAntisymmetric}
-use Rattle.group_epochs.proofs.Ordered.{rank_searched}
+use Rattle.group_types.proofs.Ordered.{rank_searched}
 use Rattle.group_epochs.proofs.order.rank_of_key.Goals as goal
 
 pub returns : goal.returns

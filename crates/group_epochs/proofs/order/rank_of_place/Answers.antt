@@ -1,7 +1,8 @@
 use Rattle.std.proofs.Common.{Ok, Err, arith, refl, subst, sym, ◌∙◌}
-use Rattle.group_epochs.specs.Table.{IsRankIn, Key, key_at, key_cmp, keys_in, no_key}
+use Rattle.group_types.specs.Places.{IsRankIn, key_at}
+use Rattle.group_epochs.specs.Table.{Key, key_cmp, keys_in, no_key}
 use Rattle.group_epochs.proofs.Keys.{distinct_keys_in, key_cmp_total, key_cmp-IsAntisymmetric, key_found, length-keys_in}
-use Rattle.group_epochs.proofs.Ordered.{held_there, place_rank, some_rank}
+use Rattle.group_types.proofs.Ordered.{held_there, place_rank, some_rank}
 use Rattle.group_epochs.proofs.Others.{distinct_in}
 use Rattle.group_epochs.proofs.order.rank_of_place.Goals as goal
 

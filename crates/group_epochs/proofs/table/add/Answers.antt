@@ -2,7 +2,8 @@ use Rattle.std.proofs.Common.{◌++◌, ◌∷◌, [], ap, is_some, subst, sym, 
 use Rattle.std.specs.Prelude.{string_bytes}
 use Rattle.std.specs.Map.{lookup}
 use Rattle.std.specs.Str.{bytes_eq}
-use Rattle.group_epochs.specs.Table.{IsIdOrder, IsOrder, key_cmp, keys_in, no_key, texts_in}
+use Rattle.group_types.specs.Places.{IsOrder}
+use Rattle.group_epochs.specs.Table.{IsIdOrder, key_cmp, keys_in, no_key, texts_in}
 use Rattle.group_epochs.proofs.Keys.{keys_behind}
 use Rattle.group_epochs.proofs.Rows.{texts_behind, texts_hold}
 use Rattle.group_epochs.proofs.table.add.Goals as goal

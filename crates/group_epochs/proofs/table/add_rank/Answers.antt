@@ -3,7 +3,7 @@ use Rattle.std.specs.List.{insert}
 use Rattle.group_types.specs.Text.{text_cmp}
 use Rattle.group_types.proofs.Orders.{text_cmp_total, text_cmp-IsAntisymmetric}
 use Rattle.group_epochs.specs.Table.{IsIdOrder, texts_in}
-use Rattle.group_epochs.proofs.Ordered.{no_rank, order_with}
+use Rattle.group_types.proofs.Ordered.{no_rank, order_with}
 use Rattle.group_epochs.proofs.Rows.{length-texts_in}
 use Rattle.group_epochs.proofs.table.add_rank.Goals as goal
 

@@ -3,7 +3,7 @@ use Rattle.indexmap.specs.IndexMap.{index_map_len}
 use Rattle.group_types.specs.Text.{text_cmp}
 use Rattle.group_types.proofs.Orders.{text_cmp_total, text_cmp-IsAntisymmetric}
 use Rattle.group_epochs.specs.Table.{IsRank, text_at, texts_in}
-use Rattle.group_epochs.proofs.Ordered.{held_there, some_rank}
+use Rattle.group_types.proofs.Ordered.{held_there, some_rank}
 use Rattle.group_epochs.proofs.Rows.{length-texts_in, text_found}
 use Rattle.group_epochs.proofs.table.last_rank.Goals as goal
 

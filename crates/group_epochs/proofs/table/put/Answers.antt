@@ -1,6 +1,7 @@
 use Rattle.std.proofs.Common.{None, ap, subst, sym, ◌∙◌}
 use Rattle.group_types.specs.Group.{Record}
-use Rattle.group_epochs.specs.Table.{IsOrder, key_cmp, keys_in, no_key, rekeyed}
+use Rattle.group_types.specs.Places.{IsOrder}
+use Rattle.group_epochs.specs.Table.{key_cmp, keys_in, no_key, rekeyed}
 use Rattle.group_epochs.specs.declared.entry.Entry.{Entry}
 use Rattle.group_epochs.proofs.Keys.{keys_rewritten}
 use Rattle.group_epochs.proofs.table.put.Goals as goal

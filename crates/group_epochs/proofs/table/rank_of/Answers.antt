@@ -4,7 +4,7 @@ use Rattle.std.proofs.lemmas.Fn.{always_returns_same}
 use Rattle.group_types.specs.Text.{text_cmp}
 use Rattle.group_types.proofs.Orders.{text_cmp_total, text_cmp-IsAntisymmetric}
 use Rattle.group_epochs.specs.Table.{text_at, texts_in}
-use Rattle.group_epochs.proofs.Ordered.{rank_searched}
+use Rattle.group_types.proofs.Ordered.{rank_searched}
 use Rattle.group_epochs.proofs.table.rank_of.Goals as goal
 
 pub returns : goal.returns

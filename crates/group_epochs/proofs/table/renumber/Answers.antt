@@ -3,7 +3,7 @@ use Rattle.indexmap.specs.IndexMap.{index_map_len}
 use Rattle.group_types.specs.Text.{text_cmp}
 use Rattle.group_types.proofs.Orders.{text_cmp_total, text_cmp-IsAntisymmetric}
 use Rattle.group_epochs.specs.Table.{text_at, texts_in}
-use Rattle.group_epochs.proofs.Ordered.{rank_renumbered}
+use Rattle.group_types.proofs.Ordered.{rank_renumbered}
 use Rattle.group_epochs.proofs.Others.{distinct_in}
 use Rattle.group_epochs.proofs.Rows.{length-texts_in}
 use Rattle.group_epochs.proofs.table.renumber.Goals as goal

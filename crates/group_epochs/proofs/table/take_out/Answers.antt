@@ -2,7 +2,7 @@ use Rattle.std.proofs.Common.{[], ◌∙◌}
 use Rattle.group_types.specs.Text.{text_cmp}
 use Rattle.group_types.proofs.Orders.{text_cmp_total, text_cmp-IsAntisymmetric}
 use Rattle.group_epochs.specs.Table.{texts_in}
-use Rattle.group_epochs.proofs.Ordered.{some_rank}
+use Rattle.group_types.proofs.Ordered.{some_rank}
 use Rattle.group_epochs.proofs.Rows.{texts_hold}
 use Rattle.group_epochs.proofs.table.take_out.Goals as goal
 

@@ -11,13 +11,15 @@ use Rattle.indexmap.specs.IndexMap.{UpdatesBy, index_map_len}
 use Rattle.group_types.specs.Text.{Text, text_cmp}
 use Rattle.group_types.proofs.Lookups.{some_is}
 use Rattle.group_types.proofs.Orders.{text_cmp_total, text_cmp-IsAntisymmetric}
-use Rattle.group_epochs.specs.Table.{IsIdOrder, IsOrder, IsRank, key_cmp, keys_in, no_key, renumbered, text_at, texts_in}
+use Rattle.group_types.specs.Places.{IsOrder, renumbered}
+use Rattle.group_epochs.specs.Table.{IsIdOrder, IsRank, key_cmp, keys_in, no_key, text_at, texts_in}
 use Rattle.group_epochs.proofs.Keys.{key_found, keys_fewer}
 use Rattle.group_epochs.specs.declared.entry.Entry.{Entry}
 use Rattle.std.specs.Prelude.{option_map}
 use Rattle.std.proofs.lemmas.Option.{slice_get-get_or}
-use Rattle.group_epochs.proofs.Ordered.{at_place, order_without, rank_place, slice_get_of_map}
-use Rattle.group_epochs.proofs.Remembered.{map-remove, of_some}
+use Rattle.group_types.proofs.Ordered.{at_place, order_without, rank_place, slice_get_of_map}
+use Rattle.group_types.proofs.ListLemmas.{map-remove}
+use Rattle.group_epochs.proofs.Remembered.{of_some}
 use Rattle.group_epochs.proofs.Others.{distinct_in}
 use Rattle.group_epochs.proofs.Rows.{length-texts_in, text_found, texts_fewer}
 use Rattle.group_epochs.proofs.table.take_out_at.Goals as goal

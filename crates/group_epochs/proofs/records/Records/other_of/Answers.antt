@@ -2,7 +2,7 @@ use Rattle.std.proofs.Common.{◌≡◌, MatchOption, None, Some, sym, subst, ap
 use Rattle.std.specs.Option.{option_copied}
 use Rattle.group_types.specs.Text.{Text}
 use Rattle.group_types.specs.Checks.{other_with}
-use Rattle.group_epochs.proofs.Sharing.{another_has, nobody_has, only_itself}
+use Rattle.group_types.proofs.Sharing.{another_has, nobody_has, only_itself}
 use Rattle.group_epochs.proofs.records.Records.other_of.Goals as goal
 
 pub returns-in_err-id : goal.returns-in_err-id

@@ -23,13 +23,13 @@ use Rattle.group_types.specs.Owners.{Spread, renamed, renamed_id}
 use Rattle.group_types.specs.Group.{Record, Records, Target}
 use Rattle.group_types.specs.Renewal.{AreMembers, IsTarget, subscriber_of}
 use Rattle.group_types.proofs.Entries.{entries_found}
-use Rattle.group_types.proofs.Lookups.{Tie, ties, differs, tie, Found, this, another, found, not_none, some_is, text_ties}
+use Rattle.group_types.proofs.Lookups.{Tie, ties, differs, tie, no_tie, Found, this, another, found, not_none, some_is, text_ties}
 use Rattle.group_types.proofs.Orders.{text_cmp_total, text_cmp-IsAntisymmetric, text_cmp-itself}
 use Rattle.group_types.proofs.SpreadLemmas.{get-renamed}
 use Rattle.group_types.proofs.TargetOwners.{target_owners}
 use Rattle.uniform_assign.proofs.Lists.{Contains-at, slice_get-map_at, some_at}
 use Rattle.uniform_assign.proofs.Owners.{same_owners}
-use Rattle.group_core.proofs.Mirrored.{AreMirrored, assigned_mirrored, mirrored}
+use Rattle.group_target.proofs.Mirrored.{AreMirrored, assigned_mirrored, mirrored}
 
 -- ---- lists of entries
 
@@ -67,24 +67,17 @@ module _ (old heir : Text) (apart : old ≢ heir) where
   swapped : Text → Text
   swapped x = cond (eq_by_cmp text_cmp x old) heir (cond (eq_by_cmp text_cmp x heir) old x)
 
-  tied_to : (x y : Text) → x ≢ y → eq_by_cmp text_cmp x y ≡ false
-  tied_to x y other = by (tie x y)
-    where
-      by : Tie x y → eq_by_cmp text_cmp x y ≡ false
-      by (ties same) = absurd (other same)
-      by (differs _ so) = so
-
   swapped_old : swapped old ≡ heir
   unfolding swapped
   swapped_old = ap (λ b. cond b heir (cond (eq_by_cmp text_cmp old heir) old old)) (text_ties old)
 
   swapped_heir : swapped heir ≡ old
   unfolding swapped
-  swapped_heir = (λ i. cond (tied_to heir old (λ same. apart (sym same)) i) heir (cond (text_ties heir i) old heir))
+  swapped_heir = (λ i. cond (no_tie heir old (λ same. apart (sym same)) i) heir (cond (text_ties heir i) old heir))
 
   swapped_other : (x : Text) → x ≢ old → x ≢ heir → swapped x ≡ x
   unfolding swapped
-  swapped_other x not_old not_heir = (λ i. cond (tied_to x old not_old i) heir (cond (tied_to x heir not_heir i) old x))
+  swapped_other x not_old not_heir = (λ i. cond (no_tie x old not_old i) heir (cond (no_tie x heir not_heir i) old x))
 
   swapped_back : (x : Text) → swapped (swapped x) ≡ x
   swapped_back x = by (tie x old) (tie x heir)

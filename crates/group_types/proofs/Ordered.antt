@@ -16,13 +16,12 @@ use Rattle.std.proofs.lemmas.List.Folds.{list_any-append}
 use Rattle.std.proofs.lemmas.List.Sorted.{IsPermutation-insert, IsPermutation-remove, IsPermutation-swap_remove, list_any-IsPermutation}
 use Rattle.std.proofs.lemmas.Map.Keys.{IsDistinct-head, IsDistinct-IsPermutation, IsDistinct-tail}
 use Rattle.std.proofs.lemmas.Option.{slice_get-get_or, slice_get_within, get_or_from_slice_get}
-use Rattle.indexmap.proofs.SetLemmas.{map-insert}
 use Rattle.group_types.specs.Sets.{has, of_list}
 use Rattle.group_types.proofs.BoolLemmas.{taken_away}
 use Rattle.group_types.proofs.RisingLists.{absent-gap, found-search, gap-search, of_list-remove, sorted-insert, sorted-remove, there-found}
 use Rattle.group_types.proofs.SetLemmas.{has-of_list, has-without}
-use Rattle.group_epochs.proofs.Remembered.{map-remove}
-use Rattle.group_epochs.specs.Table.{IsOrder, IsRankIn, key_at, keys_at, renumbered}
+use Rattle.group_types.proofs.ListLemmas.{map-insert, map-remove}
+use Rattle.group_types.specs.Places.{IsOrder, IsRankIn, key_at, keys_at, renumbered}
 
 -- ---- lists of places
 

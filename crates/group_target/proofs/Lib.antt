@@ -1,0 +1,3 @@
+pub mod OneOrder
+pub mod Mirrored
+pub mod RenamedTargets
