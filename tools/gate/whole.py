@@ -15,7 +15,7 @@ import threading
 from gate import ahead, cases, commands, crates, edits, kept, misuses, schedule, sweep
 
 # How many minutes the further edits may take, and from what minute on none of them is begun at all.
-EDIT_MINUTES_NAME, EDIT_MINUTES = "GATE_EDIT_MINUTES", 5
+EDIT_MINUTES_NAME, EDIT_MINUTES = "GATE_EDIT_MINUTES", 3
 LAST_BEGIN = 80
 # How long one of the scripts may take, in seconds.
 SCRIPT_SECONDS = 1_800
