@@ -1,6 +1,6 @@
 """The test of the edits' tool itself: harmless edits, and one that does not compile, planted beside the real ones."""
 
-from gate import edits, functions, rounds
+from gate import edits, functions, rounds, schedule
 
 # How many crates, the lowest that have edits, and how many real edits of each.
 CRATES, REAL = 3, 8
@@ -28,7 +28,7 @@ def self_test(tree, runner, say):
         words = dict(planted(tree, crate, tried[crate], crate == crates_of(tree)[0]))
         tried[crate][REAL // 2 : REAL // 2] = words
         expected.update(words)
-    answers, _ = runner.run(tried, {})
+    answers = runner.run([(tried, schedule.Clock())], {})
     wrong = 0
     for edit, (word, _) in answers.items():
         if word != expected.get(edit, rounds.REFUSED):

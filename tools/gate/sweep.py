@@ -2,6 +2,7 @@
 
 import collections
 import contextlib
+import functools
 import threading
 
 from gate import edits, rounds, schedule, trials
@@ -19,8 +20,8 @@ class Sweep:
     `kept`, where it is given, has what edits came to before, and `ahead` what tests and cases come to with edits that are tried already.
     """
 
-    def __init__(self, tree, room, say, clock, known=None, kept=None, ahead=None):
-        self.tree, self.room, self.clock, self.known, self.kept, self.ahead = tree, room, clock, known, kept, ahead
+    def __init__(self, tree, room, say, known=None, kept=None, ahead=None):
+        self.tree, self.room, self.known, self.kept, self.ahead = tree, room, known, kept, ahead
         self.lanes, self.printing, self.say_line = schedule.Lanes(), threading.Lock(), say
         self.named, self.trials = {}, None
 
@@ -28,24 +29,27 @@ class Sweep:
         with self.printing:
             self.say_line(line)
 
-    def run(self, tried, named):
-        """Tries these edits, by crate in the order to be kept; says what came of each, and counts."""
+    def run(self, batches, named):
+        """Tries batches of edits, one beside the end of the other: each has edits by crate, in the order to be kept, and the clock by
+        which there is time for them. Says what came of each edit, and returns that.
+        """
         self.named = named
-        every = [it for each in tried.values() for it in each] if self.kept else []
-        earlier = {it: answer for it in every if (answer := self.kept.answer(it))}
+        every = [it for tried, _ in batches for each in tried.values() for it in each]
+        earlier = {it: answer for it in every if self.kept and (answer := self.kept.answer(it))}
         if earlier:
             self.say(f"{len(earlier)} edits came out as they must before on this machine, over the same files")
-        left = {crate: [it for it in each if it not in earlier] for crate, each in tried.items()}
-        answers = {**earlier, **self.try_all({crate: each for crate, each in left.items() if each})}
-        return answers, tally(answers, named)
+        left = [
+            (crate, [it for it in each if it not in earlier], clock) for tried, clock in batches for crate, each in tried.items()
+        ]
+        return {**earlier, **self.try_all([it for it in left if it[1]])}
 
-    def try_all(self, tried):
-        """What came of each of these edits."""
-        tests = [it.test for each in tried.values() for it in each if it.test]
-        self.trials = trials.Trials(self.tree, self.room, tests, self.say, self.clock)
+    def try_all(self, parts):
+        """What came of the edits of these parts, each of which has a crate, its edits and a clock."""
+        tests = [it.test for _, each, _ in parts for it in each if it.test]
+        self.trials = trials.Trials(self.tree, self.room, tests, self.say, schedule.Clock())
         tasks = [
-            (schedule.need_of(self.tree, crate), lambda crate=crate, each=each: self.try_crate(crate, each))
-            for crate, each in tried.items()
+            (schedule.need_of(self.tree, part[0]), functools.partial(self.try_crate, f"{self.room}/bench-{number}", *part))
+            for number, part in enumerate(parts)
         ]
         answers = {edit: answer for found in self.lanes.run(tasks) for edit, answer in found.items()}
         for edit, answer in answers.items():
@@ -53,16 +57,16 @@ class Sweep:
                 self.kept.keep(edit, answer)
         return answers
 
-    def try_crate(self, crate, tried):
-        """What came of each edit of a crate: a word, and why."""
-        began = self.clock.seconds()
+    def try_crate(self, folder, crate, tried, clock):
+        """What came of each of these edits of a crate: a word, and why."""
+        began = clock.seconds()
         found = {edit: (LEFT_OUT, "") for edit in tried}
-        if not self.clock.is_over():
-            bench = rounds.Bench(self.tree, crate, f"{self.room}/bench-{crate}", self.say, self.lanes, self.clock)
+        if not clock.is_over():
+            bench = rounds.Bench(self.tree, crate, folder, self.say, self.lanes, clock)
             with contextlib.suppress(schedule.OutOfTime):
                 found.update(self.answers_of(bench, tried))
             bench.remove()
-            spent = f"{bench.processor:.0f} s of processor time, {self.clock.seconds() - began:.0f} s"
+            spent = f"{bench.processor:.0f} s of processor time, {clock.seconds() - began:.0f} s"
             self.say(f"{crate}: {len(tried)} edits: {bench.checks} checks, {spent}")
         for edit in sorted((it for it in tried if found[it][0] != LEFT_OUT), key=lambda it: it.label):
             self.say(f"{edit.label}: {shown(found[edit], edit, self.named)}")
@@ -90,15 +94,11 @@ class Sweep:
 
     def tested(self, edit, texts):
         """What came of an edit that is proved and that a test or a case must refuse."""
-        if self.clock.is_over():
-            return LEFT_OUT, ""
         try:
             asked = self.ahead if self.ahead and self.ahead.has(edit) else self.trials
             outcome = asked.outcome(edit, texts)
         except trials.NotRun as why:
             return rounds.BAD_EDIT, str(why)
-        except schedule.OutOfTime:
-            return LEFT_OUT, ""
         if outcome == trials.FAILS:
             return BY_ITS_TEST, ""
         return TEST_PASSED, f"{edit.test or edit.case} passes with this edit"

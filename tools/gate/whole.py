@@ -15,7 +15,7 @@ import threading
 from gate import ahead, cases, commands, crates, edits, kept, misuses, schedule, sweep
 
 # How many minutes the further edits may take, and from what minute on none of them is begun at all.
-EDIT_MINUTES_NAME, EDIT_MINUTES = "GATE_EDIT_MINUTES", 3
+EDIT_MINUTES_NAME, EDIT_MINUTES = "GATE_EDIT_MINUTES", 4
 LAST_BEGIN = 80
 # How long one of the scripts may take, in seconds.
 SCRIPT_SECONDS = 1_800
@@ -77,8 +77,7 @@ class Gate:
             beside = [pool.submit(self.run_script, *it) for it in BESIDE]
             if is_proved:
                 self.count("misuses", *misuses.run_all(self.tree, self.root, self.room, self.say))
-                self.try_edits_for_tests(known, tests)
-                self.try_further_edits(known)
+                self.try_edits(known, tests)
             tests.stop()
             for it in beside:
                 it.result()
@@ -152,41 +151,46 @@ class Gate:
             self.say(f"{script}: {line}")
         self.count(script, passed, max(failed, int(ran.status != 0)))
 
-    def try_edits_for_tests(self, known, tests):
-        """Tries the edits that a test or a case must refuse."""
-        tally, faults = self.try_edits(edits.TEST_FOLDER, self.tree.uses, known, None, tests)
-        self.count("edits for tests", tally.passed, tally.failed)
-        self.faults += faults
-
-    def try_further_edits(self, known):
-        """Tries the edits beside must-fail/ of the crates that changed last, as long as there is time.
-
-        Which of them are tried hangs on the time and the commit, so they fail nothing here.
+    def try_edits(self, known, tests):
+        """Tries the edits that a test or a case must refuse, and beside the last of them the further edits of the crates that changed
+        last, as long as there is time.
         """
-        names = schedule.changed_last(self.root, self.tree.uses)
-        is_late = self.clock.seconds() >= 60 * LAST_BEGIN
-        if is_late or not self.is_anything_new:
-            names = []
-            why = f"{LAST_BEGIN} minutes are over" if is_late else "nothing was proved anew"
-            self.say(f"no further edit is tried, since {why}")
         until = self.clock.seconds() / 60 + minutes()
-        tally, faults = self.try_edits(edits.FURTHER_FOLDER, names, known, until)
-        for fault in faults:
-            self.say(f"not refused: {fault}")
-        self.count("further edits", tally.passed, 0)
+        for_tests, _, bad = self.edits_in(edits.TEST_FOLDER, self.tree.uses)
+        further, named, _ = self.edits_in(edits.FURTHER_FOLDER, self.changed_last())
+        endless, limited = (schedule.Clock(it, self.clock.began) for it in (None, until))
+        runner = sweep.Sweep(self.tree, self.room, self.say, known, self.kept, tests)
+        answers = runner.run([(for_tests, endless), (further, limited)], named)
+        self.count_edits_for_tests({it: answers[it] for it in answers if it.is_for_a_test}, bad)
+        self.count_further_edits({it: answers[it] for it in answers if not it.is_for_a_test}, named)
 
-    def try_edits(self, folder, names, known, until, tests=None):
-        """Tries the edits of one kind of these crates, those that weren't tried before, in an order that changes from commit to commit.
-
-        Returns how many came out as they must and how many didn't, and a line for each that didn't.
+    def edits_in(self, folder, names):
+        """The edits of one kind of these crates, in an order that changes from commit to commit; those that may fail by a name; and how
+        many files are none.
         """
         tried, named, bad = sweep.gathered(self.tree.folder, names, self.say, (folder,))
-        tried = {crate: schedule.shuffled(self.root, each, crate) for crate, each in tried.items()}
-        clock = schedule.Clock(until, self.clock.began)
-        runner = sweep.Sweep(self.tree, self.room, self.say, clock, known, self.kept, tests)
-        answers, tally = runner.run(tried, named)
+        return {crate: schedule.shuffled(self.root, each, crate) for crate, each in tried.items()}, named, bad
+
+    def changed_last(self):
+        """The crates whose further edits are tried."""
+        is_late = self.clock.seconds() >= 60 * LAST_BEGIN
+        if is_late or not self.is_anything_new:
+            why = f"{LAST_BEGIN} minutes are over" if is_late else "nothing was proved anew"
+            self.say(f"no further edit is tried, since {why}")
+            return []
+        return schedule.changed_last(self.root, self.tree.uses)
+
+    def count_edits_for_tests(self, answers, bad):
+        tally = sweep.tally(answers, {})
+        self.count("edits for tests", tally.passed, tally.failed + bad)
+        self.faults += sweep.faults_in(answers, {})
+
+    def count_further_edits(self, answers, named):
+        """Counts what was refused. Which of them are tried hangs on the time and the commit, so they fail nothing here."""
         self.left += sorted(edit.label for edit, answer in answers.items() if answer[0] == sweep.LEFT_OUT)
-        return tally._replace(failed=tally.failed + bad), sweep.faults_in(answers, named)
+        for fault in sweep.faults_in(answers, named):
+            self.say(f"not refused: {fault}")
+        self.count("further edits", sweep.tally(answers, named).passed, 0)
 
     def sum_up(self):
         """Says what was left out and what failed, and prints the last line."""
