@@ -165,11 +165,14 @@ class Gate:
         self.count_further_edits({it: answers[it] for it in answers if not it.is_for_a_test}, named)
 
     def edits_in(self, folder, names):
-        """The edits of one kind of these crates, in an order that changes from commit to commit; those that may fail by a name; and how
-        many files are none.
+        """The edits of one kind of these crates, each crate's in an order that changes from commit to commit; those that may fail by a
+        name; and how many files are none.
+
+        First come the crates with the most edits, and of those with as many the highest, whose checks take longest.
         """
         tried, named, bad = sweep.gathered(self.tree.folder, names, self.say, (folder,))
-        return {crate: schedule.shuffled(self.root, each, crate) for crate, each in tried.items()}, named, bad
+        longest = sorted(reversed(tried.items()), key=lambda it: -len(it[1]))
+        return {crate: schedule.shuffled(self.root, each, crate) for crate, each in longest}, named, bad
 
     def changed_last(self):
         """The crates whose further edits are tried."""
