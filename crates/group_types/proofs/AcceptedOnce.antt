@@ -1,5 +1,5 @@
 -- A group never accepts a heartbeat of a member whose stamp isn't above the last one that it accepted.
-use Rattle.std.proofs.Common.{◌≡◌, ◌≢◌, ◌⊎◌, inl, inr, ℕ, Bool, true, false, cond, not, ◌||◌, max, List, [], ◌∷◌, Option, Some, None, is_some, IsTrue, refl, sym, ap, subst, ◌∙◌, true≢false}
+use Rattle.std.proofs.Common.{◌≡◌, ◌≢◌, inl, inr, ℕ, false, cond, ◌||◌, max, List, [], ◌∷◌, Option, Some, None, is_some, IsTrue, refl, sym, ap, subst, ◌∙◌, true≢false}
 use Rattle.std.specs.Cmp.{IsTotalOrder, nat_cmp_total, on_total, then_total, upto}
 use Rattle.std.specs.List.{list_any}
 use Rattle.std.specs.Ordering.{eq_by_cmp, is_gt, ordering_reverse}
@@ -10,7 +10,7 @@ use Rattle.group_types.specs.declared.stamp.Stamp.{Stamp}
 use Rattle.group_types.specs.Text.{Text, text_cmp}
 use Rattle.group_types.specs.Stamp.{stamp_cmp}
 use Rattle.group_types.specs.Request.{GOES_AWAY_AT, LEAVES_AT}
-use Rattle.group_types.specs.Group.{Record, Records, Past, Group}
+use Rattle.group_types.specs.Group.{Record, Past, Group}
 use Rattle.group_types.specs.Members.{is_remembered, members_of, past_stamp, remembering, without_past}
 use Rattle.group_types.specs.Leave.{away, gone_away, left, risen, without_member}
 use Rattle.group_types.specs.Tick.{at_moment, due, expired, is_due, ticked, without_members}
@@ -20,7 +20,7 @@ use Rattle.group_types.specs.Sound.{IsPast}
 use Rattle.group_types.proofs.Consistent.{IsConsistent, consistent}
 use Rattle.group_types.specs.Fencing.{AcceptsOnce, IsAcceptedAs, IsLate, IsRunKnowing, last_stamp, stamp_kept}
 use Rattle.group_types.proofs.Entries.{entries_found}
-use Rattle.group_types.proofs.Lookups.{Tie, ties, differs, tie, not_none, some_is, get-inserted, get-insert_other, removed_is_none}
+use Rattle.group_types.proofs.Lookups.{Tie, ties, differs, tie, no_tie, not_none, some_is, get-inserted, get-insert_other, removed_is_none}
 use Rattle.group_types.proofs.Orders.{text_cmp_total}
 use Rattle.group_types.proofs.PastLemmas.{first_differs, not_past, past_without}
 use Rattle.group_types.proofs.Remembered.{IsSameOrForgotten, others_remembered, remembered_now, stamp_without_other}
@@ -29,7 +29,7 @@ use Rattle.group_types.proofs.Heartbeats.{heartbeats_are_consistent, step_is_con
 use Rattle.group_types.proofs.Checked.{IsLater}
 use Rattle.group_types.proofs.Accepted.{Came, unchanged, has_left, went_away, taken_in, came, Fails, nobody, Drafting, Stages, Whose, its_own, newcomer, takes_over}
 use Rattle.group_types.specs.Checks.{Member}
-use Rattle.group_types.proofs.Afterwards.{Last, accepted_is, handed, has_record, last_same, not_tied, other_record, past_is, same_id}
+use Rattle.group_types.proofs.Afterwards.{Last, accepted_is, handed, has_record, last_same, other_record, past_is, same_id}
 use Rattle.group_types.proofs.Heirs.{former}
 
 -- ---- stamps are ordered
@@ -150,7 +150,7 @@ module _ (g : Group) (sound : IsConsistent g) (a : Arrival) (answer : Answer) (n
         subst (IsSameOrForgotten (past_stamp g.past k)) (sym then)
         (subst (λ (o : Option Stamp). IsSameOrForgotten o (past_stamp (remembering (without_past g.past d.id) old.id old.kept.stamp) k))
         (stamp_without_other g.past d.id k not_heir)
-        (others_remembered g.records (without_past g.past d.id) old.id old.kept.stamp k once (not_tied k old.id other)))
+        (others_remembered g.records (without_past g.past d.id) old.id old.kept.stamp k once (no_tie k old.id other)))
 
     others_keep : (k : Text) → k ≢ d.id → k ≢ old.id → IsSameOrForgotten (last_stamp g k) (last_stamp new k)
     others_keep k not_heir other =

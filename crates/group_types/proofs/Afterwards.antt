@@ -1,5 +1,5 @@
 -- What a take-over hands on, and what an accepted join or beat leaves.
-use Rattle.std.proofs.Common.{◌≡◌, ◌≢◌, ◌↔◌, ℕ, ◌==◌, Bool, true, false, cond, not, ◌&&◌, ◌||◌, Option, Some, None, is_some, IsTrue, refl, sym, ap, subst, ◌∙◌, true≢false}
+use Rattle.std.proofs.Common.{◌≡◌, ◌≢◌, ◌↔◌, ℕ, ◌==◌, Bool, true, false, cond, ◌&&◌, ◌||◌, Option, Some, None, is_some, refl, sym, ap, subst, ◌∙◌, true≢false}
 use Rattle.std.specs.List.{list_any}
 use Rattle.std.specs.Option.{option_map}
 use Rattle.std.specs.Ordering.{eq_by_cmp}
@@ -9,15 +9,15 @@ use Rattle.std.proofs.lemmas.Slice.Eq.{bytes_eq-Decides}
 use Rattle.group_types.specs.declared.epoch.Epoch.{Epoch}
 use Rattle.group_types.specs.declared.epoch.Epoch.TheVariants.{At, Away}
 use Rattle.group_types.specs.declared.partition.Partition.{Partition}
-use Rattle.group_types.specs.Text.{Text, text_cmp}
+use Rattle.group_types.specs.Text.{Text}
 use Rattle.group_types.specs.Sets.{has, in_order}
 use Rattle.group_types.specs.Partition.{Partitions, partition_cmp}
-use Rattle.group_types.specs.Owners.{renamed, renamed_id}
+use Rattle.group_types.specs.Owners.{renamed_id}
 use Rattle.group_types.specs.Group.{Record, Records, Group, held}
 use Rattle.group_types.specs.Members.{without_past}
 use Rattle.group_types.specs.Leave.{last_epoch}
-use Rattle.group_types.specs.Settle.{arrived, asked, granting, grants_of_others, settled_by, settled_record}
-use Rattle.group_types.specs.Request.{Heartbeat, reported}
+use Rattle.group_types.specs.Settle.{arrived, asked, grants_of_others, settled_record}
+use Rattle.group_types.specs.Request.{Heartbeat}
 use Rattle.group_types.specs.Checks.{Member}
 use Rattle.group_types.specs.HeartbeatStep.{Answer, Replied, Reply, Arrival, Draft, acceptance, handed_over, sent_after}
 use Rattle.group_types.proofs.Consistent.{IsConsistent}
@@ -25,11 +25,10 @@ use Rattle.group_types.specs.Fencing.{IsAcceptedAs}
 use Rattle.group_types.proofs.Orders.{text_cmp_total}
 use Rattle.group_types.proofs.SetLemmas.{has-in_order}
 use Rattle.group_types.proofs.SpreadLemmas.{get-renamed}
-use Rattle.group_types.proofs.GrantLemmas.{has-granting, has-held, has-others}
-use Rattle.group_types.proofs.Lookups.{Tie, ties, differs, tie, text_ties, not_none, some_is, get-inserted, get-insert_other, removed_is_none}
+use Rattle.group_types.proofs.GrantLemmas.{has-granting, has-held}
+use Rattle.group_types.proofs.Lookups.{no_tie, text_ties, not_none, some_is, get-inserted, get-insert_other, removed_is_none}
 use Rattle.group_types.proofs.Soundness.{still_holds}
-use Rattle.group_types.proofs.Settlings.{settled_is_consistent}
-use Rattle.group_types.proofs.TakeOvers.{renamed_itself, renamed_other}
+use Rattle.group_types.proofs.TakeOvers.{renamed_itself}
 use Rattle.group_types.proofs.Drafts.{same_last_epoch}
 use Rattle.group_types.proofs.Accepted.{Drafting, Stages, after, may, news, offered, stored}
 
@@ -92,13 +91,6 @@ pub record IsHanded (g : Group) (old : Member) (heir : Text) (new : Group) : Typ
   pub target : (p : Partition) → (finite.get new.target p ≡ Some heir) ↔ (finite.get g.target p ≡ Some old.id)
   pub owns_nothing : (p : Partition) → ¬ (finite.get new.target p ≡ Some old.id)
 
-pub not_tied : (a b : Text) → a ≢ b → eq_by_cmp text_cmp a b ≡ false
-not_tied a b other = by (tie a b)
-  where
-    by : Tie a b → eq_by_cmp text_cmp a b ≡ false
-    by (ties same) = absurd (other same)
-    by (differs _ apart) = apart
-
 false_of : (b : Bool) → (b ≡ true → ⊥) → b ≡ false
 false_of true never = absurd (never refl)
 false_of false never = refl
@@ -129,7 +121,7 @@ module _ (g : Group) (sound : IsConsistent g) (old : Member) (heir : Text) (abse
   others_grants : (k : Text) → k ≢ heir → (p : Partition) → has New.grants (k, p) ≡ has (grants_of_others g.grants old.id) (k, p)
   others_grants k apart p =
       has-granting (grants_of_others g.grants old.id) heir (in_order (held g.grants old.id)) k p
-      ∙ ap (λ b. (b && list_any (eq_by_cmp partition_cmp p) (in_order (held g.grants old.id))) || has (grants_of_others g.grants old.id) (k, p)) (not_tied k heir apart)
+      ∙ ap (λ b. (b && list_any (eq_by_cmp partition_cmp p) (in_order (held g.grants old.id))) || has (grants_of_others g.grants old.id) (k, p)) (no_tie k heir apart)
 
   owner_was : (p : Partition) → finite.get New.target p ≡ Some heir → finite.get g.target p ≡ Some old.id
   owner_was p owns = by (finite.get g.target p) refl (sym (get-renamed g.target old.id heir p) ∙ owns)
@@ -161,10 +153,10 @@ module _ (g : Group) (sound : IsConsistent g) (old : Member) (heir : Text) (abse
       record {
         has_record = get-inserted (finite.remove g.records old.id) heir old.kept;
         gone =
-            get-insert_other (finite.remove g.records old.id) heir old.kept old.id (not_tied old.id heir (λ same. other (sym same))) ∙ removed_is_none g.records old.id;
+            get-insert_other (finite.remove g.records old.id) heir old.kept old.id (no_tie old.id heir (λ same. other (sym same))) ∙ removed_is_none g.records old.id;
         others = λ k not_heir not_old.
-            get-insert_other (finite.remove g.records old.id) heir old.kept k (not_tied k heir not_heir)
-            ∙ finite.get-remove text_cmp_total g.records old.id k ∙ ap (λ b. cond b None (finite.get g.records k)) (not_tied k old.id not_old);
+            get-insert_other (finite.remove g.records old.id) heir old.kept k (no_tie k heir not_heir)
+            ∙ finite.get-remove text_cmp_total g.records old.id k ∙ ap (λ b. cond b None (finite.get g.records k)) (no_tie k old.id not_old);
         grants = heir_grants;
         other_grants = others_grants;
         target = λ p. (owner_was p, owner_is p);
@@ -214,7 +206,7 @@ module _ (g : Group) (a : Arrival) (answer : Answer) (new : Group) (d : Draft) (
   -- another member's record is the one that it had
   pub other_record : (k : Text) → k ≢ d.id → finite.get new.records k ≡ finite.get drafting.base.records k
   other_record k other =
-      let apart = not_tied k d.id other in
+      let apart = no_tie k d.id other in
       ap (λ (x : Group). finite.get x.records k) is_stored
       ∙ get-insert_other Offered.records d.id Last k apart
       ∙ get-insert_other Renewed.records d.id Settled k apart

@@ -7,7 +7,6 @@ use Rattle.std.specs.FinMap as finite
 use Rattle.group_types.specs.declared.epoch.Epoch.{Epoch}
 use Rattle.group_types.specs.declared.epoch.Epoch.TheVariants.{At, Away}
 use Rattle.group_types.specs.declared.partition.Partition.{Partition}
-use Rattle.group_types.specs.declared.stamp.Stamp.{Stamp}
 use Rattle.group_types.specs.Text.{Text, text_cmp}
 use Rattle.group_types.specs.Sets.{common, has, in_order, is_nothing, minus, nothing}
 use Rattle.group_types.specs.Partition.{Partitions, partition_cmp}
@@ -15,7 +14,7 @@ use Rattle.group_types.specs.Request.{GOES_AWAY_AT, LEAVES_AT, reported}
 use Rattle.group_types.specs.Group.{Grant, Grants, Group, Past, Record, Records, grant_cmp, held, wanted}
 use Rattle.group_types.specs.Limits.{MOST_PAST_MEMBERS}
 use Rattle.group_types.specs.Members.{past_stamp, remembering, without_past}
-use Rattle.group_types.specs.Settle.{grants_after, grants_of_others, is_free_for, may_move, moved}
+use Rattle.group_types.specs.Settle.{grants_after, is_free_for, may_move, moved}
 use Rattle.group_types.specs.Checks.{Member, is_away}
 use Rattle.group_types.specs.HeartbeatStep.{Answer, Arrival, Draft, farewell, handed_over}
 use Rattle.group_types.proofs.Consistent.{IsConsistent, consistent}
@@ -25,13 +24,13 @@ use Rattle.group_types.proofs.Orders.{partition_cmp_total, partition_cmp-IsAntis
 use Rattle.group_types.proofs.SetLemmas.{common-nothing, has-in_order, has-nothing, is_nothing-Decides}
 use Rattle.group_types.proofs.SpreadLemmas.{has-share_of, owns-get}
 use Rattle.group_types.proofs.GrantLemmas.{grant_cmp_total, has-moved, has-others}
-use Rattle.group_types.proofs.Lookups.{Tie, ties, differs, tie, text_ties, not_none, some_is, get-insert_other}
+use Rattle.group_types.proofs.Lookups.{Tie, ties, differs, tie, no_tie, text_ties, not_none, some_is, get-insert_other}
 use Rattle.group_types.proofs.PastLemmas.{few_remembered, few_without, not_past, stamp_without}
 use Rattle.group_types.proofs.Remembered.{remembered_now, stamp_without_other}
 use Rattle.group_types.proofs.Settlings.{moved_gets, moved_own, moved_within}
 use Rattle.group_types.proofs.Accepted.{Came, unchanged, has_left, went_away, taken_in, came, nobody, Drafting, Stages, Whose, its_own, newcomer, takes_over, may}
 use Rattle.group_types.proofs.Soundness.{still_holds}
-use Rattle.group_types.proofs.Afterwards.{IsHanded, Last, Offered, Renewed, accepted_is, grants_are, handed, has_record, heir_differs, last_same, not_tied, other_record, past_is, same_id, taken_from, target_epoch_is, target_is, there}
+use Rattle.group_types.proofs.Afterwards.{IsHanded, Last, Renewed, accepted_is, grants_are, handed, has_record, heir_differs, last_same, other_record, past_is, same_id, taken_from, target_epoch_is, target_is, there}
 
 -- ---- a partition that nobody else holds is free
 
@@ -117,7 +116,7 @@ module _ (g : Group) (sound : IsConsistent g) (a : Arrival) (answer : Answer) (n
   others_hold : (n : Text) (p : Partition) → n ≢ d.id → n ≢ old.id → IsTrue (has g.grants (n, p)) → IsTrue (has TheRenewed.grants (n, p))
   others_hold n p not_heir not_old holds =
       held_by n p ∙ over.other_grants n not_heir p ∙ has-others g.grants old.id n p
-      ∙ ap (λ b. not b && has g.grants (n, p)) (not_tied old.id n (λ same. not_old (sym same))) ∙ holds
+      ∙ ap (λ b. not b && has g.grants (n, p)) (no_tie old.id n (λ same. not_old (sym same))) ∙ holds
 
   -- and nobody else holds anything
   held_before : (n : Text) (p : Partition) → n ≢ d.id → IsTrue (has TheRenewed.grants (n, p)) → IsTrue (has g.grants (n, p)) × (n ≢ old.id)
@@ -159,7 +158,7 @@ module _ (g : Group) (sound : IsConsistent g) (a : Arrival) (answer : Answer) (n
   old_is_gone : finite.get TheRenewed.records old.id ≡ None
   old_is_gone =
       ap (λ (rs : Records). finite.get rs old.id) (stages.records ∙ drafting.records)
-      ∙ get-insert_other Base.records d.id d.after old.id (not_tied old.id d.id (λ same. apart (sym same))) ∙ over.gone
+      ∙ get-insert_other Base.records d.id d.after old.id (no_tie old.id d.id (λ same. apart (sym same))) ∙ over.gone
 
   old_holds : (p : Partition) → ¬ IsTrue (has new.grants (old.id, p))
   old_holds p holds_old = true≢false (sym (stages.sound.holders old.id p before) ∙ ap is_some old_is_gone)
@@ -167,7 +166,7 @@ module _ (g : Group) (sound : IsConsistent g) (a : Arrival) (answer : Answer) (n
       before : IsTrue (has TheRenewed.grants (old.id, p))
       before =
           sym (has-moved TheRenewed.grants d.id (wanted TheRenewed.target d.id) old.id p
-          ∙ ap (λ b. cond b (has (wanted TheRenewed.target d.id) p && (has TheRenewed.grants (d.id, p) || is_free_for TheRenewed.grants d.id p)) (has TheRenewed.grants (old.id, p))) (not_tied old.id d.id (λ same. apart (sym same))))
+          ∙ ap (λ b. cond b (has (wanted TheRenewed.target d.id) p && (has TheRenewed.grants (d.id, p) || is_free_for TheRenewed.grants d.id p)) (has TheRenewed.grants (old.id, p))) (no_tie old.id d.id (λ same. apart (sym same))))
           ∙ sym (ap (λ x. has x (old.id, p)) new_grants) ∙ holds_old
 
   old_owns : (p : Partition) → ¬ (finite.get new.target p ≡ Some old.id)

@@ -16,7 +16,7 @@ use Rattle.group_types.proofs.MadeIds.{length-made_id}
 
 -- ---- the first of a list that passes a test
 
-find_passes : (test : Text → Bool) (ks : List Text) (k : Text) → find test ks ≡ Some k → test k ≡ true
+pub find_passes : (test : Text → Bool) (ks : List Text) (k : Text) → find test ks ≡ Some k → test k ≡ true
 find_passes test [] k is = absurd (not_none k is)
 find_passes test (x ∷ xs) k is =
     elim (test x) as (λ b. test x ≡ b → cond b (Some x) (find test xs) ≡ Some k → test k ≡ true) [

@@ -1,6 +1,5 @@
 -- The other member that has the instance of a heartbeat.
-use Rattle.std.proofs.Common.{◌≡◌, ◌≢◌, Bool, true, false, cond, not, ◌&&◌, List, [], ◌∷◌, Option, Some, None, refl, sym, ap, ◌∙◌, true≢false}
-use Rattle.std.specs.List.{find}
+use Rattle.std.proofs.Common.{◌≡◌, ◌≢◌, Bool, true, false, not, ◌&&◌, Option, Some, None, refl, sym, ap, ◌∙◌, true≢false}
 use Rattle.std.specs.Option.{option_map}
 use Rattle.std.specs.Ordering.{eq_by_cmp}
 use Rattle.std.specs.FinMap as finite
@@ -9,15 +8,7 @@ use Rattle.group_types.specs.Group.{Record, Records}
 use Rattle.group_types.specs.Members.{HasInstance}
 use Rattle.group_types.specs.Checks.{Member, has_instance, member_at, other_id_with, other_with}
 use Rattle.group_types.proofs.Lookups.{not_none, some_is, text_ties}
-use Rattle.group_types.proofs.Senders.{no_other, other_is}
-
-first_passes : (test : Text → Bool) (ks : List Text) (k : Text) → find test ks ≡ Some k → test k ≡ true
-first_passes test [] k is = absurd (not_none k is)
-first_passes test (x ∷ xs) k is =
-    elim (test x) as (λ b. test x ≡ b → cond b (Some x) (find test xs) ≡ Some k → test k ≡ true) [
-      | true ↦ λ so first. ap test (sym (some_is x k first)) ∙ so
-      | false ↦ λ apart later. first_passes test xs k later
-    ] refl is
+use Rattle.group_types.proofs.Senders.{find_passes, no_other, other_is}
 
 first_of_both : (a b : Bool) → (not a && b) ≡ true → a ≡ false
 first_of_both true b never = absurd (true≢false (sym never))
@@ -32,7 +23,7 @@ other_differs records m (Some j) old is = by (other_id_with records m j) refl is
     by None none is = absurd (not_none old is)
     by (Some k) there is = λ same.
         let test : Text → Bool = λ n. not (eq_by_cmp text_cmp m n) && has_instance j (finite.get records n) in
-        let apart : eq_by_cmp text_cmp m k ≡ false = first_of_both _ _ (first_passes test (finite.keys records) k there) in
+        let apart : eq_by_cmp text_cmp m k ≡ false = first_of_both _ _ (find_passes test (finite.keys records) k there) in
         let same_id : k ≡ old.id = id_of (finite.get records k) is in
         true≢false (sym (text_ties m) ∙ ap (eq_by_cmp text_cmp m) (same ∙ sym same_id) ∙ apart)
       where
