@@ -1,9 +1,8 @@
 -- The bytes of a reply: the one frame that spells it.
-use Rattle.std.specs.Prelude.{◌≡◌, ℕ, ℤ, pos, List, [], ◌++◌, length, option_map, FitsSigned}
-use Rattle.std.specs.Int.{w32}
-use Rattle.flex_wire.specs.Spelling.{int32}
+use Rattle.std.specs.Prelude.{ℕ, ℤ, pos, List, [], option_map}
 use Rattle.kip_msgs.specs.Values.{AssignmentValue, CommitReplyValue, HeartbeatReplyValue, ReplyValue, heartbeat_reply, commit_reply}
 use Rattle.kip_msgs.specs.Spelling.{SpellsReply}
+use Rattle.group_types.specs.Frames.{IsFrame}
 use Rattle.group_types.specs.Sets.{in_order}
 use Rattle.group_types.specs.Partition.{Partitions}
 use Rattle.group_types.specs.Code.{code_number, code_text}
@@ -40,11 +39,6 @@ commit_message correlation v = commit_reply (record { correlation_id = correlati
 
 abbrev pub commit_value : ℤ → CommitReply → ReplyValue
 commit_value correlation reply = commit_message correlation (commit_reply_value reply)
-
--- A frame is an INT32 size and a body of that many bytes (Kafka protocol guide, "Protocol").
-pub record IsFrame (body frame : List ℕ) : Type 0 where
-  pub size : FitsSigned w32 (pos (length body))
-  pub bytes : frame ≡ int32 (pos (length body)) ++ body
 
 -- the frame spells the reply
 pub record IsReplyFrame (v : ReplyValue) (frame : List ℕ) : Type 0 where

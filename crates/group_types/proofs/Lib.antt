@@ -12,6 +12,7 @@ pub mod Members
 pub mod Answering
 pub mod Lookups
 pub mod Images
+pub mod FrameLemmas
 pub mod Consistent
 pub mod PastLemmas
 pub mod GrantLemmas

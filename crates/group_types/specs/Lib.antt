@@ -1,4 +1,5 @@
 pub mod Limits
+pub mod Frames
 pub mod Text
 pub mod Places
 pub mod Sets

@@ -6,7 +6,8 @@ use Rattle.std.specs.List.{flat_map}
 use Rattle.std.proofs.lemmas.List.Elements.{All-head, All-tail}
 use Rattle.flex_wire.specs.Spelling.{int32}
 use Rattle.flex_wire.specs.Laws.{BeginsNoOther}
-use Rattle.link_futures.specs.Framing.{frame_of, IsBody, BeginsWithFrame, FramingIsOne}
+use Rattle.group_types.specs.Frames.{frame_of, IsBody}
+use Rattle.link_futures.specs.Framing.{BeginsWithFrame, FramingIsOne}
 
 -- two lists of one length at the front of one list are the same
 same_front : (xs ys a b : List ℕ) → xs ++ a ≡ ys ++ b → length xs ≡ length ys → (xs ≡ ys) × (a ≡ b)

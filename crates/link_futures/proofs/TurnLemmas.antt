@@ -18,7 +18,7 @@ use Rattle.link_futures.specs.declared.end.End.TheVariants.{Finished, CutShort, 
 use Rattle.link_futures.specs.declared.limits.TheConstants.{MOST_REPLIES, MOST_BYTES}
 use Rattle.link_futures.specs.declared.line.Line.{Line}
 use Rattle.link_futures.specs.declared.session.Session.{Session}
-use Rattle.link_futures.specs.Framing.{frame_of, IsBody}
+use Rattle.group_types.specs.Frames.{frame_of, IsBody}
 use Rattle.link_futures.specs.Next.{IsFront}
 use Rattle.link_futures.specs.Desks.{Answering, Exchange, Place, next_stamp, closes, closes_by, place_after, Goes}
 use Rattle.link_futures.specs.Buffers.{Waiting, bytes_of_all}

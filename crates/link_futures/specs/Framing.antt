@@ -1,17 +1,10 @@
 -- The frames of a stream of bytes (Kafka protocol guide, "Protocol"). The limits of a body are ours.
-use Rattle.std.specs.Prelude.{◌≡◌, ◌⊎◌, ℕ, ◌<◌, ◌≤◌, ℤ, pos, ◌<ℤ◌, List, ◌++◌, length, All, FitsSigned}
+use Rattle.std.specs.Prelude.{◌≡◌, ◌⊎◌, ℕ, ◌<◌, ℤ, pos, ◌<ℤ◌, List, ◌++◌, length, All, FitsSigned}
 use Rattle.std.specs.Int.{w32}
 use Rattle.std.specs.List.{flat_map}
 use Rattle.flex_wire.specs.Spelling.{int32}
 use Rattle.group_types.specs.Limits.{SMALLEST_BODY, LARGEST_BODY}
-
--- a frame is an INT32 size and a body of that many bytes
-abbrev pub frame_of : List ℕ → List ℕ
-frame_of body = int32 (pos (length body)) ++ body
-
--- the size is one that a body may have
-abbrev pub IsBody : List ℕ → Type 0
-IsBody body = (SMALLEST_BODY ≤ length body) × (length body ≤ LARGEST_BODY)
+use Rattle.group_types.specs.Frames.{frame_of, IsBody}
 
 -- the bytes begin with a whole frame, whose size is in range
 pub record BeginsWithFrame (bytes : List ℕ) : Type 0 where

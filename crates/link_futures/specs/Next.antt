@@ -2,7 +2,8 @@
 use Rattle.std.specs.Prelude.{◌≡◌, ℕ, ◌+◌, ◌≤◌, List, ◌++◌, length, take, drop}
 use Rattle.link_futures.specs.declared.inbox.Next.{Next}
 use Rattle.link_futures.specs.declared.inbox.Next.TheVariants.{Partial, Whole, Refused}
-use Rattle.link_futures.specs.Framing.{frame_of, IsBody, BeginsWithFrame, BeginsWithRefusedSize}
+use Rattle.group_types.specs.Frames.{frame_of, IsBody}
+use Rattle.link_futures.specs.Framing.{BeginsWithFrame, BeginsWithRefusedSize}
 
 -- the bytes are a frame whose body is the next `size` bytes, and the rest
 pub record IsFront (bytes : List ℕ) (size : ℕ) : Type 0 where

@@ -4,7 +4,7 @@ use Rattle.std.specs.Int.{w32}
 use Rattle.flex_wire.specs.Spelling.{int32}
 use Rattle.link_futures.specs.declared.heard.Heard.{Heard}
 use Rattle.link_futures.specs.declared.heard.Heard.TheVariants.{Partial, Whole, Refused}
-use Rattle.link_futures.specs.Framing.{frame_of}
+use Rattle.group_types.specs.Frames.{frame_of}
 
 -- a reply's body may have `size` bytes
 abbrev pub IsReplySize : ℕ → Type 0

@@ -5,7 +5,7 @@ use Rattle.link_futures.specs.declared.end.End.{End}
 use Rattle.link_futures.specs.declared.end.End.TheVariants.{Finished, CutShort, Closed, ReadFault, WriteFault, NoMemory}
 use Rattle.link_futures.specs.declared.line.Line.{Line}
 use Rattle.link_futures.specs.declared.limits.TheConstants.{LARGEST_READ}
-use Rattle.link_futures.specs.Framing.{IsBody}
+use Rattle.group_types.specs.Frames.{IsBody}
 use Rattle.link_futures.specs.Next.{IsFront, IsNext}
 use Rattle.link_futures.specs.declared.inbox.Next.TheVariants.{Partial}
 use Rattle.link_futures.specs.Desks.{Answering, Exchange, Goes}

@@ -9,7 +9,8 @@ use Rattle.link_futures.specs.declared.end.End.{End}
 use Rattle.link_futures.specs.declared.end.End.TheVariants.{Finished, CutShort, Closed, ReadFault, WriteFault, NoMemory}
 use Rattle.link_futures.specs.declared.line.Line.{Line}
 use Rattle.link_futures.specs.declared.session.Session.{Session}
-use Rattle.link_futures.specs.Framing.{frame_of, IsBody, BeginsWithRefusedSize, IsInsideFrame}
+use Rattle.group_types.specs.Frames.{frame_of, IsBody}
+use Rattle.link_futures.specs.Framing.{BeginsWithRefusedSize, IsInsideFrame}
 use Rattle.link_futures.specs.declared.inbox.Next.TheVariants.{Partial}
 use Rattle.link_futures.specs.Next.{IsNext}
 use Rattle.link_futures.specs.Desks.{Answering, Exchange, Place, Goes}

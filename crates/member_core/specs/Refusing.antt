@@ -7,7 +7,7 @@ use Rattle.group_types.specs.Limits.{LARGEST_BODY}
 use Rattle.member_core.specs.Limits.{GREATEST_NUMBER}
 use Rattle.member_core.specs.Client.{Place, Client}
 use Rattle.member_core.specs.Asking.{Ask, Join, Beat, Leave, GoAway, request_for, may_ask_at, Asks}
-use Rattle.member_core.specs.Framing.{IsFrame}
+use Rattle.group_types.specs.Frames.{IsFrame}
 use Rattle.member_core.specs.declared.fault.BeatFault.{BeatFault}
 use Rattle.member_core.specs.declared.fault.BeatFault.TheVariants.{NoInstance, TooLarge, Spent, NoMemory}
 

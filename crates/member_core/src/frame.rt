@@ -2,7 +2,8 @@
 ghost use Rattle.std.specs.Prelude.{◌≡◌, ◌≤◌, false, length, IfOk, IfErr};
 ghost use Rattle.kip_msgs.specs.Views.{request_value};
 ghost use Rattle.group_types.specs.Limits.{LARGEST_BODY as MOST};
-ghost use Rattle.member_core.specs.Framing.{IsFrame, IsRequestFrame};
+ghost use Rattle.group_types.specs.Frames.{IsFrame};
+ghost use Rattle.member_core.specs.Framing.{IsRequestFrame};
 ghost use Rattle.member_core.specs.Refusing.{size_refusal, IsFault};
 ghost use Rattle.member_core.specs.Writing.{HasShortRequest, are_few as few};
 

@@ -30,7 +30,8 @@ use Rattle.world_sim.specs.Exclusivity.{BringsHeld, CommitHeld, HasCode, IsOfTak
 use Rattle.world_sim.specs.Invariant.{Keeps, Committed}
 use Rattle.world_sim.proofs.Lists.{In, in_map, to_in}
 use Rattle.world_sim.proofs.Numbered.{numbered_in}
-use Rattle.world_sim.proofs.Messages.{commit_reply_in, same_body}
+use Rattle.group_types.proofs.FrameLemmas.{same_body}
+use Rattle.world_sim.proofs.Messages.{commit_reply_in}
 
 -- ---- a commit that is refused as a whole
 

@@ -1,12 +1,12 @@
 -- What is kept beside a member stays true of it.
-use Rattle.std.proofs.Common.{◌≡◌, ℕ, suc, ◌+◌, Bool, true, false, List, [], drop, length, pos, ℤ, ◌++◌, Option, Some, None, unwrap_or, ◌≤◌, Result, Ok, Err, if◌then◌else◌, refl, sym, ap, subst, ◌∙◌, arith, string_bytes}
-use Rattle.flex_wire.specs.Spelling.{int32, signed}
+use Rattle.std.proofs.Common.{◌≡◌, ℕ, suc, ◌+◌, Bool, true, false, List, [], drop, length, ◌++◌, Option, Some, None, unwrap_or, ◌≤◌, Result, Ok, Err, if◌then◌else◌, refl, sym, ap, subst, ◌∙◌, arith, string_bytes}
 use Rattle.kip_msgs.specs.Values.{CommitRequestTopicValue}
 use Rattle.kip_msgs.specs.Spelling.{SpellsRequest}
 use Rattle.group_types.specs.Text.{Text}
 use Rattle.member_core.specs.Asking as asking
 use Rattle.member_core.specs.Committing.{commit_for, may_commit_at}
-use Rattle.member_core.specs.Framing.{IsFrame, IsRequestFrame}
+use Rattle.group_types.proofs.FrameLemmas.{frame_body}
+use Rattle.member_core.specs.Framing.{IsRequestFrame}
 use Rattle.member_core.specs.Refusing.{Sends}
 use Rattle.world_sim.specs.World.{Commit}
 use Rattle.world_sim.specs.Acts.{commit_by}
@@ -89,16 +89,9 @@ like_of s t new same like = subst (λ (x : Standing). IsLike (client_of x) new) 
 
 -- ---- it asks
 
-behind_size : (size : ℤ) (body : List ℕ) → drop 4 (int32 size ++ body) ≡ body
-unfolding signed
-behind_size size body = refl
-
-body_of : (body frame : List ℕ) → IsFrame body frame → drop 4 frame ≡ body
-body_of body frame is = ap (λ (f : List ℕ). drop 4 f) is.bytes ∙ behind_size (pos (length body)) body
-
 pub asks_within : (c new : Client) (ask : Ask) (frame : List ℕ) → Sends c ask frame new → AsksWithin c ask (drop 4 frame) new
 asks_within c new ask frame sends =
-    subst (λ (body : List ℕ). AsksWithin c ask body new) (sym (body_of sends.body frame sends.framed)) (record { asks = sends.asks; limit = sends.limit })
+    subst (λ (body : List ℕ). AsksWithin c ask body new) (sym (frame_body sends.body frame sends.framed)) (record { asks = sends.asks; limit = sends.limit })
 
 pub one_more_number : (a : Inside) (s : Standing) (ask : Ask) (frame : List ℕ) → IsClient a → Sends (client_of a.standing) ask frame (client_of s)
     → IsClient (record a { standing = s; requests = a.requests + 1 })
@@ -116,7 +109,7 @@ one_more_number a s ask frame is sends =
 pub is_commit : (c : Client) (number : ℕ) (topics : List CommitRequestTopicValue) (frame : List ℕ) (k : Commit)
     → may_commit_at c.place ≡ true → IsRequestFrame (commit_for c number topics) frame → k ≡ commit_by c (drop 4 frame) → IsCommitOf c number topics k
 is_commit c number topics frame k may is made =
-    let body : k.body ≡ is.body = ap (λ (x : Commit). x.body) made ∙ body_of is.body frame is.framed in
+    let body : k.body ≡ is.body = ap (λ (x : Commit). x.body) made ∙ frame_body is.body frame is.framed in
     record {
       may = may;
       spells = subst (λ (b : List ℕ). SpellsRequest (commit_for c number topics) b) (sym body) is.spells;

@@ -1,17 +1,18 @@
 -- What becomes of messages that the coordinator answers.
-use Rattle.std.proofs.Common.{◌≡◌, ◌⊎◌, ℕ, suc, ◌+◌, ◌≤◌, pos, ℤ, Bool, true, false, not, List, [], ◌∷◌, ◌++◌, length, drop, map, Option, Some, None, refl, sym, ap, subst, ◌∙◌, inl, inr, zero-lt-suc}
-use Rattle.flex_wire.specs.Spelling.{int32, signed}
+use Rattle.std.proofs.Common.{◌≡◌, ◌⊎◌, ℕ, suc, ◌+◌, ◌≤◌, Bool, true, false, not, List, [], ◌∷◌, ◌++◌, length, drop, map, Option, Some, None, refl, sym, ap, subst, ◌∙◌, inl, inr, zero-lt-suc}
+use Rattle.flex_wire.specs.Spelling.{signed}
 use Rattle.kip_msgs.specs.Values.{RequestHeaderValue, HeartbeatRequestValue, ResponseHeaderValue, HeartbeatReplyValue, CommitReplyValue, CommitRequestTopicValue, RequestValue, heartbeat_request, commit_request, commit_reply}
 use Rattle.kip_msgs.specs.Values.{CommitRequestValue}
 use Rattle.kip_msgs.specs.Spelling.{SpellsRequest, SpellsReply, request_body, request_header_fields}
 use Rattle.kip_msgs.specs.Laws.{OneRequestABody}
 use Rattle.group_types.specs.Limits.{LARGEST_BODY, SMALLEST_BODY}
+use Rattle.group_types.proofs.FrameLemmas.{frame_body}
 use Rattle.group_types.specs.Commit.{CommitReply}
 use Rattle.group_types.specs.HeartbeatStep as group
 use Rattle.offset_guard.specs.Replies.{commit_reply_value}
 use Rattle.coord_node.specs.declared.event.Answered.TheVariants as kinds
 use Rattle.coord_node.specs.Coordinator.{Coordinator, Answer, Frame, Replied, Closes, Done, bytes_of}
-use Rattle.coord_node.specs.Replies.{IsFrame, heartbeat_reply_value}
+use Rattle.coord_node.specs.Replies.{heartbeat_reply_value}
 use Rattle.coord_node.specs.Steps.{RequestStep, Sends, Step, message_of, IsRequest}
 use Rattle.coord_node.specs.Answers as node
 use Rattle.world_sim.specs.declared.shown.Shown.{Shown}
@@ -20,13 +21,6 @@ use Rattle.world_sim.specs.World.{World, Request, Commit, with_coordinator, with
 use Rattle.world_sim.specs.Acts.{Outcome, IsReplied, IsClosed, IsAnswered, Pools, Answers, BringStep, no_stamp}
 use Rattle.world_sim.specs.Acting.{IsShown}
 use Rattle.world_sim.specs.Passing.{AnswersOne, IsHeartbeat}
-
-behind : (size : ℤ) (body : List ℕ) → drop 4 (int32 size ++ body) ≡ body
-unfolding signed
-behind size body = refl
-
-frame_body : (body frame : List ℕ) → IsFrame body frame → drop 4 frame ≡ body
-frame_body body frame is = ap (λ (f : List ℕ). drop 4 f) is.bytes ∙ behind (pos (length body)) body
 
 some_bytes : (header : RequestHeaderValue) (v : CommitRequestValue) → 1 ≤ length (request_body (commit_request header v))
 unfolding request_body request_header_fields signed

@@ -18,7 +18,8 @@ use Rattle.group_types.specs.Laws.{EveryGroupIsSound}
 use Rattle.group_types.proofs.Lookups.{Tie, ties, differs, tie, some_is}
 use Rattle.group_epochs.specs.Request.{arrival_of, commit_of, heartbeat_of}
 use Rattle.coord_node.specs.Coordinator.{Coordinator, Frame, Tick, Image, Answer, Replied, Closes, Done}
-use Rattle.coord_node.specs.Replies.{IsFrame, IsReplyFrame, reply_value}
+use Rattle.group_types.specs.Frames.{IsFrame}
+use Rattle.coord_node.specs.Replies.{IsReplyFrame, reply_value}
 use Rattle.coord_node.specs.Steps.{Sends, message_of, RequestStep, FrameStepBy, Step}
 use Rattle.coord_node.specs.Laws.{IsServing, StepsAreSound}
 use Rattle.member_core.specs.Client.{Client}
@@ -29,7 +30,8 @@ use Rattle.world_sim.specs.World.{World, Request, Commit, with_coordinator}
 use Rattle.world_sim.specs.Acts.{Outcome, Answers, BringStep, DeliversIf, DeliverStep, PassesStep, Pools, SeesStep, is_forgotten, no_stamp}
 use Rattle.world_sim.specs.Turn.{Pass, Turn}
 use Rattle.world_sim.specs.Invariant.{ReplyKeeps, Committed, Keeps, Says, clients_of, group_at}
-use Rattle.world_sim.proofs.Messages.{heartbeat_in, heartbeat_reply_in, heartbeat_said, same_body, says_accepted}
+use Rattle.group_types.proofs.FrameLemmas.{same_body}
+use Rattle.world_sim.proofs.Messages.{heartbeat_in, heartbeat_reply_in, heartbeat_said, says_accepted}
 use Rattle.world_sim.proofs.Groups.{AllPass, HasTurned, all_sound, beaten_turns, committed_all, join_seen, same_all_pass, ticked_all}
 use Rattle.world_sim.proofs.KeptByTurns.{IsIn, reply_given}
 use Rattle.world_sim.proofs.Coordinators.{Goes, Passing, Turning, IsReplyIn, client_in, coordinator_keeps, one_client, serving, with_reply_keeps}

@@ -34,7 +34,8 @@ use Rattle.world_sim.specs.World.{World, Request, Reply, numbered, with_client, 
 use Rattle.world_sim.specs.Acts.{AsksIf, AsksStep, DeliversIf, DeliverStep, Outcome, IsSent, IsReplied, Is, Pools, SendsIf, TakeBy, TakenAs, TakeStep, Release, Run, is_forgotten, is_unremembered, stamp_of, with_sent}
 use Rattle.world_sim.specs.Rounds.{HasTurn}
 use Rattle.world_sim.proofs.FullBeats.{CanBeat, HasBeat, full_beat, has_beat}
-use Rattle.world_sim.proofs.Messages.{assignment_same, heartbeat_in, heartbeat_reply_in, heartbeat_said, same_body}
+use Rattle.group_types.proofs.FrameLemmas.{same_body}
+use Rattle.world_sim.proofs.Messages.{assignment_same, heartbeat_in, heartbeat_reply_in, heartbeat_said}
 use Rattle.world_sim.proofs.RequestSizes.{within_if_small}
 use Rattle.world_sim.proofs.Numbered.{numbered_itself, numbered_other}
 use Rattle.world_sim.proofs.Released.{HasReleased, releases}

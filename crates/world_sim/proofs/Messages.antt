@@ -1,10 +1,9 @@
 -- What requests and replies say, once they have been bytes.
-use Rattle.std.proofs.Common.{◌≡◌, ℕ, zero, suc, ◌<◌, ℤ, pos, negsuc, Bool, true, false, List, [], ◌∷◌, ◌++◌, length, drop, Option, Some, None, refl, sym, ap, subst, ◌∙◌, true≢false, zero-lt-suc, if◌then◌else◌}
+use Rattle.std.proofs.Common.{◌≡◌, ℕ, zero, suc, ◌<◌, ℤ, pos, negsuc, Bool, true, false, List, [], ◌∷◌, ◌++◌, Option, Some, None, refl, sym, ap, subst, ◌∙◌, true≢false, zero-lt-suc, if◌then◌else◌}
 use Rattle.std.specs.List.{flat_map}
 use Rattle.std.specs.Option.{option_map}
 use Rattle.std.specs.Str.{bytes_eq}
 use Rattle.std.proofs.lemmas.Slice.Eq.{bytes_eq-Decides}
-use Rattle.flex_wire.specs.Spelling.{int32, signed}
 use Rattle.kip_msgs.specs.Values.{CommitReplyValue, HeartbeatReplyValue, HeartbeatRequestValue, ReplyValue, RequestValue, TopicPartitionsValue, commit_reply, commit_request, heartbeat_reply, heartbeat_request}
 use Rattle.kip_msgs.specs.Listing.{alone, before}
 use Rattle.group_types.specs.declared.code.Code.{Code}
@@ -20,7 +19,7 @@ use Rattle.group_types.proofs.Orders.{partition_cmp_total, partition_cmp-IsAntis
 use Rattle.group_types.proofs.SetLemmas.{has-in_order, has-of_list, same_set}
 use Rattle.group_types.proofs.Lookups.{not_none, some_is}
 use Rattle.group_epochs.specs.Request.{heartbeat_of}
-use Rattle.coord_node.specs.Replies.{IsFrame, assignment_value, heartbeat_reply_value}
+use Rattle.coord_node.specs.Replies.{assignment_value, heartbeat_reply_value}
 use Rattle.member_core.specs.Listing.{partitions_of, listed}
 use Rattle.member_core.specs.Asking.{heartbeat_value}
 use Rattle.member_core.specs.Taking.{Meaning, MeansSuccess, MeansFenced, MeansRetry, MeansEnd, News, Accepts, Fences, Retries, Ends, meaning_of, news_by, news_of, assigned}
@@ -173,13 +172,3 @@ pub accepted_above : (meaning : Meaning) (member : Option Text) (at : ℤ) (give
     → news_by meaning member at given ≡ Some (Accepts m epoch shown) → 0 < epoch
 accepted_above meaning member at given m epoch shown is = (accepted_by meaning member at given m epoch shown is).positive
 
--- ---- the body of a frame
-
-behind_size : (size : ℤ) (body : List ℕ) → drop 4 (int32 size ++ body) ≡ body
-unfolding signed
-behind_size size body = refl
-
--- a frame has one body
-pub same_body : (body other frame : List ℕ) → IsFrame body frame → IsFrame other frame → body ≡ other
-same_body body other frame one two =
-    sym (behind_size (pos (length body)) body) ∙ ap (λ (f : List ℕ). drop 4 f) (sym one.bytes ∙ two.bytes) ∙ behind_size (pos (length other)) other

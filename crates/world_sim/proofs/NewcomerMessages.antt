@@ -29,7 +29,8 @@ use Rattle.group_types.proofs.SetLemmas.{entries-nothing}
 use Rattle.group_core.specs.Listing as node
 use Rattle.group_epochs.specs.Request.{arrival_of, partitions_of}
 use Rattle.coord_node.specs.Coordinator.{Coordinator, Replied}
-use Rattle.coord_node.specs.Replies.{IsFrame, heartbeat_reply_value}
+use Rattle.group_types.specs.Frames.{IsFrame}
+use Rattle.coord_node.specs.Replies.{heartbeat_reply_value}
 use Rattle.coord_node.specs.Steps.{HeartbeatAt, RequestStep}
 use Rattle.member_core.specs.Client.{Client, state_of}
 use Rattle.member_core.specs.Listing.{listed}

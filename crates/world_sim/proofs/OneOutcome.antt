@@ -15,7 +15,8 @@ use Rattle.member_core.specs.Refusing.{is_too_large}
 use Rattle.world_sim.specs.World.{World, Request, Reply, Commit, numbered, with_coordinator, with_reply}
 use Rattle.world_sim.specs.Acts.{Asks, GivesUp, Deliver, Take, Release, Commits, Bring, Clock, Passes, Sees, Outcome, IsAnswered, IsDone, IsRemoved, IsReplied, IsSent, Answers, AsksIf, AsksStep, BringStep, ChangesIf, Comes, CommitsBy, CommitsIf, CommitsStep, DeliversIf, DeliverStep, GivesUpStep, PassesStep, Pools, ReleaseStep, SeesStep, Run, SendsIf, TakeBy, TakenAs, TakeStep, commit_by, fits_frame, is_forgotten, may_commit, no_stamp, with_sent}
 use Rattle.world_sim.specs.Laws.{OneOutcomeAnAct, OneRunOfActs}
-use Rattle.world_sim.proofs.Messages.{commit_reply_in, heartbeat_in, heartbeat_reply_in, same_body}
+use Rattle.group_types.proofs.FrameLemmas.{same_body}
+use Rattle.world_sim.proofs.Messages.{commit_reply_in, heartbeat_in, heartbeat_reply_in}
 
 -- what comes of an act, where it is said outright
 said : (shown : Outcome) (after : World) (a b : Outcome) (new other : World) → Comes shown after a new → Comes shown after b other → (a ≡ b) × (new ≡ other)

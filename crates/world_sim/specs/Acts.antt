@@ -12,7 +12,7 @@ use Rattle.group_types.specs.Request.{is_empty}
 use Rattle.group_types.specs.Members.{is_remembered, members_of}
 use Rattle.group_types.specs.Group.{Group}
 use Rattle.coord_node.specs.Coordinator.{Coordinator, Frame, Tick, Image, Answer, Replied, Closes, Done}
-use Rattle.coord_node.specs.Replies.{IsFrame}
+use Rattle.group_types.specs.Frames.{IsFrame}
 use Rattle.coord_node.specs.Steps.{Step}
 use Rattle.member_core.specs.Limits.{GREATEST_NUMBER}
 use Rattle.member_core.specs.Client.{Client, State, state_of}
