@@ -1,6 +1,6 @@
 """Answers a command line as the program would where it is no run: help, the version, a typo, a bad option. No program is needed for it.
 
-The program's own command line stands in crates/scenario_lines/src/command_line.rt and service.rt, and is parsed by `clap`, whose
+The program's own command line stands in crates/scenario_text/src/command_line.rt and service.rt, and is parsed by `clap`, whose
 words these are. tools/check-launcher holds the two together.
 """
 

@@ -24,7 +24,8 @@ SECONDS: Dict[str, int] = {
     "link_futures": 520,
     "coord_server": 550,
     "world_sim": 365,
-    "scenario_lines": 780,
+    "scenario_text": 330,
+    "scenario_lines": 500,
     # (with the building of the program)
     "scenario_cli": 365,
 }

@@ -10,7 +10,7 @@ mod stream;
 mod streams;
 
 use scenario_lines::program::{self, Ran};
-use scenario_lines::service::Service;
+use scenario_text::service::Service;
 use setup::{Fails, Setup};
 use std::alloc::{AllocError, Global};
 use std::collections::hash_map::RandomState;

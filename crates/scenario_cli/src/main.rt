@@ -6,7 +6,7 @@
 
 mod serve;
 
-use scenario_lines::command_line;
+use scenario_text::command_line;
 use scenario_lines::program::{self, Ran};
 use std::collections::hash_map::RandomState;
 use std::process::ExitCode;

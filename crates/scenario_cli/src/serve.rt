@@ -5,7 +5,7 @@ use coord_server::{
     AlwaysOpen, Announce, ClockMoments, EndLog, Moments, Plan, ServerFault, Shards, ShardsDesk,
     serve_sockets,
 };
-use scenario_lines::service::Service;
+use scenario_text::service::Service;
 use std::alloc::{AllocGlobal, Global};
 use std::collections::hash_map::RandomState;
 use std::io;

@@ -9,7 +9,7 @@ use Rattle.kip_msgs.specs.Spelling.{SpellsReply}
 use Rattle.kip_msgs.specs.Views.{reply_value, response_header_value, heartbeat_reply_value, commit_reply_value}
 use Rattle.world_sim.specs.World.{World}
 use Rattle.world_sim.specs.Viewing.{IsReplyBody}
-use Rattle.scenario_lines.specs.Lines.{fed}
+use Rattle.scenario_text.specs.Lines.{fed}
 use Rattle.scenario_lines.specs.Shows.{IsReplyText, IsCodesText, reply_line, codes_line}
 
 -- the line of a reply to a heartbeat, on an empty page

@@ -9,11 +9,12 @@ use Rattle.kip_msgs.specs.Values.{CommitRequestTopicValue}
 use Rattle.member_core.specs.Asking.{Fullness, Join, Beat, Leave, GoAway}
 use Rattle.world_sim.specs.Acts.{Act, Asks, GivesUp, Deliver, Take, Release, Commits, Bring, Clock, Passes, Sees}
 use Rattle.scenario_lines.specs.declared.verb.Verb.TheVariants as verbs
-use Rattle.scenario_lines.specs.declared.fault.LineFault.{LineFault}
-use Rattle.scenario_lines.specs.Words.{IsName}
-use Rattle.scenario_lines.specs.Commands.{IsImage}
-use Rattle.scenario_lines.specs.Scripts.{IsClient, SpellsNumber, SpellsCount, SpellsOffset, SpellsAct, NamesClient, NamesClientAnd, NamesPartition, NamesOffset, IsNumber, kind_word}
-use Rattle.scenario_lines.proofs.Commanded.{texts, word_at, one_word}
+use Rattle.scenario_text.specs.declared.fault.LineFault.{LineFault}
+use Rattle.scenario_text.specs.Words.{IsName}
+use Rattle.scenario_text.specs.ImageWords.{IsImage}
+use Rattle.scenario_text.specs.Numbers.{SpellsNumber, SpellsCount, SpellsOffset}
+use Rattle.scenario_lines.specs.Scripts.{IsClient, SpellsAct, NamesClient, NamesClientAnd, NamesPartition, NamesOffset, IsNumber, kind_word}
+use Rattle.scenario_text.proofs.TopicWords.{texts, word_at, one_word}
 
 pub no_image_act : (cast : List Text) (words : List (List ℕ)) (act : Act) → ((image : Topics) → IsImage words image → ⊥) → SpellsAct cast verbs.Image words act → ⊥
 no_image_act cast words (Sees image) none s = none image s

@@ -12,10 +12,10 @@ use Rattle.world_sim.specs.declared.view.ClientView.{ClientView}
 use Rattle.world_sim.specs.Standing.{state_value}
 use Rattle.world_sim.specs.Viewing.{IsView}
 use Rattle.world_sim.specs.World.{World, numbered}
-use Rattle.scenario_lines.specs.Lines.{fed}
-use Rattle.scenario_lines.specs.Reports.{line}
+use Rattle.scenario_text.specs.Lines.{fed}
+use Rattle.scenario_text.specs.Reports.{line}
 use Rattle.scenario_lines.specs.Shows.{standing_text, standing_words, standings_text}
-use Rattle.scenario_lines.proofs.Pages.{two_put}
+use Rattle.scenario_text.proofs.Pages.{two_put}
 
 zip-take_one : {A B : Type 0} (xs : List A) (ys : List B) (i : ℕ) (x : A) (y : B) → slice_get xs i ≡ Some x → slice_get ys i ≡ Some y
     → zip (take (suc i) xs) ys ≡ zip (take i xs) ys ++ (x, y) ∷ []

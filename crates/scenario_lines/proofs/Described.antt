@@ -4,9 +4,10 @@ use Rattle.std.specs.List.{slice_split}
 use Rattle.std.proofs.lemmas.List.Elements.{All-map}
 use Rattle.kip_msgs.proofs.Puts.{All-of_map}
 use Rattle.member_core.specs.Settings.{Settings}
-use Rattle.scenario_lines.specs.Words.{IsName}
-use Rattle.scenario_lines.specs.Scripts.{SpellSettings, SpellsNameIfAny, SpellsCount, SpellsNames, is_comma}
-use Rattle.scenario_lines.proofs.Commanded.{texts, word_at}
+use Rattle.scenario_text.specs.Words.{IsName}
+use Rattle.scenario_text.specs.Numbers.{SpellsCount}
+use Rattle.scenario_lines.specs.Scripts.{SpellSettings, SpellsNameIfAny, SpellsNames, is_comma}
+use Rattle.scenario_text.proofs.TopicWords.{texts, word_at}
 
 pub four_words : (words : List (Bor (List ℕ))) → 4 ≤ length words → length words < 5
     → texts words ≡ word_at words 0 ∷ word_at words 1 ∷ word_at words 2 ∷ word_at words 3 ∷ []

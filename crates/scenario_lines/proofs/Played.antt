@@ -1,5 +1,5 @@
 -- What the code's player does, as a play.
-use Rattle.std.proofs.Common.{◌≡◌, ◌≢◌, ℕ, Bool, true, false, List, [], ◌∷◌, ◌++◌, Bor, Option, Some, None, Result, Ok, Err, OnOk, refl, sym, ap, ◌∙◌, subst, append-nil}
+use Rattle.std.proofs.Common.{◌≡◌, ◌≢◌, ℕ, Bool, true, false, List, [], ◌∷◌, ◌++◌, Result, Ok, Err, OnOk, refl, sym, ap, ◌∙◌, subst, append-nil}
 use Rattle.group_types.specs.Text.{Text}
 use Rattle.member_core.specs.Settings.{Settings}
 use Rattle.member_core.specs.Client.{new_client}
@@ -11,11 +11,11 @@ use Rattle.world_sim.specs.Acting.{Acted}
 use Rattle.scenario_lines.specs.declared.verb.Verb.{Verb}
 use Rattle.scenario_lines.specs.declared.verb.Verb.TheVariants as verbs
 use Rattle.scenario_lines.specs.declared.player.Stage.{Stage}
-use Rattle.scenario_lines.specs.Runs.{Prints}
-use Rattle.scenario_lines.specs.Words.{IsLine, IsName, words_of}
+use Rattle.scenario_text.specs.Runs.{Prints}
+use Rattle.scenario_text.specs.Words.{IsName, words_of}
 use Rattle.scenario_lines.specs.Scripts.{word_of, number_in, SpellSettings, SpellsAct}
 use Rattle.scenario_lines.specs.Shows.{IsAnswerText, standings_text}
-use Rattle.scenario_lines.specs.Plays.{Play, Entrance, Enters, Performs, DoesVerb, MayStand, IsOfAct, IsScriptLine, DoesScriptLine, PrintsStandings}
+use Rattle.scenario_lines.specs.Plays.{Play, Entrance, Enters, Performs, DoesVerb, MayStand, IsOfAct, IsScriptLine, PrintsStandings}
 use Rattle.scenario_lines.specs.Stages.{world_at, has_begun}
 use Rattle.scenario_lines.proofs.Verbs.{one_verb}
 

@@ -1,5 +1,5 @@
 -- What words spell can be said in requests.
-use Rattle.std.proofs.Common.{◌≡◌, ◌≢◌, ◌≤◌, ◌⊎◌, inl, inr, ℕ, List, [], ◌∷◌, length, All, Option, Some, None, IfSome, sym, subst, arith}
+use Rattle.std.proofs.Common.{inl, inr, ℕ, List, [], All, Option, Some, None, sym, subst, arith}
 use Rattle.std.proofs.lemmas.List.Elements.{All-nil, All-cons}
 use Rattle.group_types.specs.Text.{Text}
 use Rattle.kip_msgs.specs.Values.{CommitRequestPartitionValue, CommitRequestTopicValue}
@@ -8,12 +8,10 @@ use Rattle.coord_node.proofs.ReplyLemmas.{FitsTaggedFields-nil}
 use Rattle.member_core.specs.Settings.{Settings}
 use Rattle.member_core.specs.Views.{HasShortTexts}
 use Rattle.member_core.specs.Writing.{HasShortTopic}
-use Rattle.member_core.specs.Asking.{Join, Beat, Leave, GoAway}
 use Rattle.world_sim.specs.Acts.{Act, Asks, GivesUp, Deliver, Take, Release, Commits, Bring, Clock, Passes, Sees}
 use Rattle.world_sim.specs.Acting.{HasShortTopics}
 use Rattle.scenario_lines.specs.declared.verb.Verb.{Verb}
 use Rattle.scenario_lines.specs.declared.verb.Verb.TheVariants as verbs
-use Rattle.scenario_lines.specs.Words.{IsName}
 use Rattle.scenario_lines.specs.Scripts.{SpellsNameIfAny, SpellsNames, SpellSettings, SpellsAct, NamesOffset}
 
 short_name : (word : List ℕ) (name : Option Text) → SpellsNameIfAny word name → IsShortIfAny name

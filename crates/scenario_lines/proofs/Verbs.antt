@@ -1,5 +1,5 @@
 -- No two verbs have one word.
-use Rattle.std.proofs.Common.{◌≡◌, ℕ, Bool, cond, List, codes, refl, sym, ap, ◌∙◌}
+use Rattle.std.proofs.Common.{◌≡◌, ℕ, cond, List, codes, refl, sym, ap, ◌∙◌}
 use Rattle.std.specs.Prelude.{bytes_eq}
 use Rattle.scenario_lines.specs.declared.verb.Verb.{Verb}
 use Rattle.scenario_lines.specs.declared.verb.Verb.TheVariants.{Client, Image, Clock, Tick, Join, Beat, Quit, Lose, Deliver, Take, Release, Commit, Bring, Settle}

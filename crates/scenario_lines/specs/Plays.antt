@@ -13,7 +13,7 @@ use Rattle.world_sim.specs.Acting.{Acted}
 use Rattle.world_sim.specs.Settling.{IsSettling}
 use Rattle.scenario_lines.specs.declared.verb.Verb.{Verb}
 use Rattle.scenario_lines.specs.declared.verb.Verb.TheVariants as verbs
-use Rattle.scenario_lines.specs.Words.{IsLine, IsName, words_of}
+use Rattle.scenario_text.specs.Words.{IsLine, IsName, words_of}
 use Rattle.scenario_lines.specs.Scripts.{word_of, number_in, SpellSettings, SpellsAct}
 use Rattle.scenario_lines.specs.Shows.{IsAnswerText, settled_text, standings_text}
 

@@ -1,18 +1,11 @@
 -- What the bytes of a request line ask, and what the line prints.
-use Rattle.std.specs.Prelude.{◌≡◌, ◌⊎◌, ℕ, ◌≤◌, List, [], ◌∷◌, ◌++◌, length, codes, decimal, Ok}
+use Rattle.std.specs.Prelude.{◌≡◌, ◌⊎◌, ℕ, List, [], ◌∷◌, ◌++◌, codes, decimal, Ok}
 use Rattle.hex.specs.Hex.{decode_of, encode_lower}
-use Rattle.group_types.specs.Limits.{SMALLEST_BODY, LARGEST_BODY}
 use Rattle.group_types.specs.declared.stamp.Stamp.{Stamp}
-use Rattle.coord_node.specs.Replies.{IsFrame}
+use Rattle.scenario_text.specs.RequestFrames.{IsRequestFrame}
 use Rattle.coord_node.specs.Coordinator.{Coordinator, Frame, Answer, Replied, Closes, Done}
 use Rattle.coord_node.specs.Steps.{Step}
-use Rattle.scenario_lines.specs.Reports.{line}
-
--- A frame is an INT32 size and a body of that many bytes (Kafka protocol guide, "Protocol"), within the limits.
-pub record IsRequestFrame (body frame : List ℕ) : Type 0 where
-  pub framed : IsFrame body frame
-  pub least : SMALLEST_BODY ≤ length body
-  pub most : length body ≤ LARGEST_BODY
+use Rattle.scenario_text.specs.Reports.{line}
 
 -- the coordinator answers the body of a frame, and other bytes close
 abbrev pub BytesStep : Coordinator → List ℕ → Stamp → ℕ → Answer → Coordinator → Type 0

@@ -1,5 +1,5 @@
 -- The lines of `coord run`: what they ask of a world. Their forms are this program's own.
-use Rattle.std.specs.Prelude.{◌≡◌, ◌≢◌, ◌⊎◌, ℕ, suc, ℤ, pos, neg_ℤ, ◌<◌, ◌≤◌, ◌^◌, Bool, ◌==◌, List, [], ◌∷◌, ◌++◌, All, position, Option, Some, None, codes, decimal, bytes_eq}
+use Rattle.std.specs.Prelude.{◌≡◌, ◌≢◌, ◌⊎◌, ℕ, suc, ℤ, pos, neg_ℤ, Bool, ◌==◌, List, [], ◌∷◌, All, position, Option, Some, None, codes, bytes_eq}
 use Rattle.std.specs.List.{slice_split}
 use Rattle.std.specs.Option.{option_map_or}
 use Rattle.uuid.specs.Text.{parsed}
@@ -11,8 +11,8 @@ use Rattle.member_core.specs.Asking.{Fullness, Short, Owned, Full, Join, Beat, L
 use Rattle.world_sim.specs.Acts.{Act, Asks, GivesUp, Deliver, Take, Release, Commits, Bring, Clock, Passes, Sees}
 use Rattle.scenario_lines.specs.declared.verb.Verb.{Verb}
 use Rattle.scenario_lines.specs.declared.verb.Verb.TheVariants as verbs
-use Rattle.scenario_lines.specs.Words.{IsName}
-use Rattle.scenario_lines.specs.Commands.{IsImage}
+use Rattle.scenario_text.specs.Words.{IsName}
+use Rattle.scenario_text.specs.ImageWords.{IsImage}
 
 -- ---- verbs
 
@@ -42,25 +42,6 @@ number_in cast name = option_map_or suc (position (bytes_eq name) cast) 0
 pub record IsClient (cast : List Text) (word : List ℕ) (client : ℕ) : Type 0 where
   pub is_name : IsName word
   pub numbered : client ≡ number_in cast word
-
--- the word spells a number below a limit
-pub record SpellsBelow (limit : ℕ) (word : List ℕ) (number : ℕ) : Type 0 where
-  pub below : number < limit
-  pub spelled : word ≡ decimal number
-
--- a number of milliseconds, or of a message
-abbrev pub SpellsNumber : List ℕ → ℕ → Type 0
-SpellsNumber = SpellsBelow (2 ^ 64)
-
--- an INT32 that isn't negative
-abbrev pub SpellsCount : List ℕ → ℕ → Type 0
-SpellsCount = SpellsBelow (2 ^ 31)
-
--- an INT64: a number, or a minus and a number
-abbrev pub SpellsOffset : List ℕ → ℤ → Type 0
-SpellsOffset word offset =
-    ((number : ℕ) × SpellsBelow (2 ^ 63) word number × (offset ≡ pos number))
-    ⊎ ((number : ℕ) × (number ≤ 2 ^ 63) × (word ≡ codes "-" ++ decimal number) × (offset ≡ neg_ℤ (pos number)))
 
 -- a name, or `-` for none
 abbrev pub SpellsNameIfAny : List ℕ → Option Text → Type 0

@@ -20,8 +20,8 @@ use Rattle.world_sim.specs.Viewing.{IsReplyBody}
 use Rattle.world_sim.specs.World.{World}
 use Rattle.scenario_lines.specs.declared.verb.Verb.{Verb}
 use Rattle.scenario_lines.specs.declared.verb.Verb.TheVariants as verbs
-use Rattle.scenario_lines.specs.Lines.{fed}
-use Rattle.scenario_lines.specs.Reports.{line}
+use Rattle.scenario_text.specs.Lines.{fed}
+use Rattle.scenario_text.specs.Reports.{line}
 
 -- ---- sets of partitions
 

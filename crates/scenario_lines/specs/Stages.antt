@@ -1,5 +1,5 @@
 -- What the code's player is as a play.
-use Rattle.std.specs.Prelude.{ℕ, Bool, true, false, List, map, All, string_bytes}
+use Rattle.std.specs.Prelude.{Bool, true, false, map, All}
 use Rattle.member_core.specs.Views.{settings_value, HasShortTexts}
 use Rattle.world_sim.specs.World.{World, new_world}
 use Rattle.scenario_lines.specs.declared.player.Player.TheInside.{Inside}

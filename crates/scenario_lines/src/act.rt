@@ -9,12 +9,12 @@ ghost use Rattle.world_sim.specs.Acts.{Act as Deed};
 ghost use Rattle.scenario_lines.specs.Scripts.{SpellsAct, IsNumber, NamesClient, kind_word, offset_of_one};
 
 use crate::cast::Cast;
-use crate::fault::LineFault;
-use crate::topics::image_of;
 use crate::verb::Verb;
-use crate::words;
 use flex_wire::TaggedFields;
 use kip_msgs::{CommitRequestPartition, CommitRequestTopic};
+use scenario_text::fault::LineFault;
+use scenario_text::topics::image_of;
+use scenario_text::words;
 use std::alloc::{AllocError, Global};
 use uuid::Uuid;
 use world_sim::{Act, Array, Kind, Moment, Partition, Quit};

@@ -6,17 +6,17 @@ ghost use Rattle.kip_msgs.specs.Topics.{topic_partitions_value, topic_partitions
 ghost use Rattle.kip_msgs.specs.Views.{assignment_value, commit_reply_partition_value, commit_reply_topic_value, commit_reply_value, heartbeat_reply_value};
 ghost use Rattle.group_types.specs.Sets.{of_list};
 ghost use Rattle.member_core.specs.Listing.{all_partitions_of, partitions_of};
-ghost use Rattle.scenario_lines.specs.Lines.{fed};
-ghost use Rattle.scenario_lines.specs.Reports.{spaced};
+ghost use Rattle.scenario_text.specs.Lines.{fed};
+ghost use Rattle.scenario_text.specs.Reports.{spaced};
 ghost use Rattle.scenario_lines.specs.Shows.{IsCodesText, IsReplyText, assignment_word, code_word, code_words, codes_line, reply_line};
 
-use crate::page::Page;
 use crate::parts::put_set;
 use group_types::PartSet;
 use kip_msgs::{
     Api, Assignment, CommitReply, CommitReplyPartition, CommitReplyTopic, HeartbeatReply, Reply,
     TopicPartitions, read_reply,
 };
+use scenario_text::page::Page;
 use std::alloc::{AllocError, Global};
 use world_sim::{Partition, World};
 

@@ -1,11 +1,11 @@
 //! The names of a script's clients.
 ghost use Rattle.std.specs.Prelude.{◌≡◌, ◌++◌, ◌∷◌, [], map, string_bytes, IfOk, IfErr, OnOk, OnErr};
 ghost use Rattle.scenario_lines.specs.Scripts.{IsClient, number_in};
-ghost use Rattle.scenario_lines.specs.Words.{IsName};
+ghost use Rattle.scenario_text.specs.Words.{IsName};
 
-use crate::fault::LineFault;
-use crate::words;
 use indexmap::IndexSet;
+use scenario_text::fault::LineFault;
+use scenario_text::words;
 use std::alloc::{AllocError, Global};
 use std::collections::hash_map::RandomState;
 use std::marker::Model;

@@ -1,22 +1,23 @@
 //! The lines of `coord reply`, each as one method.
 ghost use Rattle.std.specs.Prelude.{◌≡◌, [], ◌∷◌, ◌++◌, map, codes, IfErr, IfOk, OnOk, OnErr};
 ghost use Rattle.coord_node.specs.Coordinator.{Done};
-ghost use Rattle.scenario_lines.specs.Lines.{fed};
+ghost use Rattle.scenario_text.specs.Lines.{fed};
 ghost use Rattle.scenario_lines.specs.Printing.{line_of};
 ghost use Rattle.scenario_lines.specs.Requests.{text_of};
 ghost use Rattle.scenario_lines.specs.Commands.{DoesReplyLine, IsReplyLine};
-ghost use Rattle.scenario_lines.specs.Runs.{PrintsNothing};
+ghost use Rattle.scenario_text.specs.Runs.{PrintsNothing};
 
-use crate::driver::LineWorker;
-use crate::explain::Explains;
-use crate::fault::LineFault;
-use crate::output::Output;
-use crate::page::Page;
+use crate::reasons;
 use crate::stamps::Stamps;
-use crate::topics::image_of;
-use crate::{frame, reasons, words};
 use coord_node::{Answered, Node};
 use group_types::{Moment, Stamp};
+use scenario_text::driver::LineWorker;
+use scenario_text::explain::Explains;
+use scenario_text::fault::LineFault;
+use scenario_text::output::Output;
+use scenario_text::page::Page;
+use scenario_text::topics::image_of;
+use scenario_text::{frame, words};
 use std::alloc::{AllocError, Global};
 use std::collections::hash_map::RandomState;
 
@@ -39,7 +40,7 @@ impl Interpreter {
     ghost use Rattle.scenario_lines.specs.Requests.{PrintsAnswer};
     ghost use Rattle.scenario_lines.specs.Printing.{AnswersBytes};
     ghost use Rattle.scenario_lines.specs.Commands.{DoesCommand, IsCommand, new_interpreter};
-    ghost use Rattle.scenario_lines.specs.Runs.{Prints};
+    ghost use Rattle.scenario_text.specs.Runs.{Prints};
 
     /// The salt of the node's ids.
     const SALT: u64 = 0;
@@ -202,6 +203,14 @@ impl LineWorker for Interpreter {
 impl Explains for Interpreter {
     fn reason(&self, line: &[u8]) -> Result<String, AllocError> {
         reasons::of_reply_line(self.alloc, line, &self.node, self.stamps.coming())
+    }
+
+    fn why<'a>(&self, printed: &[u8], reason: &'a str) -> &'a str {
+        if printed.starts_with(b"close") {
+            reason
+        } else {
+            ""
+        }
     }
 }
 

@@ -3,8 +3,8 @@ ghost use Rattle.std.specs.Prelude.{◌≡◌, ◌++◌, OnOk};
 ghost use Rattle.std.specs.List.{flat_map};
 ghost use Rattle.scenario_lines.specs.Shows.{partition_behind_comma, partition_word, partitions_word, set_word};
 
-use crate::page::Page;
 use group_types::{PartSet, Partition};
+use scenario_text::page::Page;
 use std::alloc::AllocError;
 use uuid::Uuid;
 

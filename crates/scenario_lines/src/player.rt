@@ -4,22 +4,23 @@ ghost use Rattle.member_core.specs.Client.{new_client};
 ghost use Rattle.member_core.specs.Views.{settings_value, HasShortTexts};
 ghost use Rattle.world_sim.specs.Acting.{act_value, HasShortTopics};
 ghost use Rattle.scenario_lines.specs.Plays.{DoesScriptLine, DoesVerb, Entrance, Enters, IsOfAct, IsScriptLine, MayStand, Performs, PrintsStandings, Settles, new_play};
-ghost use Rattle.scenario_lines.specs.Runs.{Prints};
+ghost use Rattle.scenario_text.specs.Runs.{Prints};
 ghost use Rattle.scenario_lines.specs.Shows.{standings_text};
 ghost use Rattle.scenario_lines.specs.Stages.{IsShortStage, has_begun, world_at};
 
 use crate::act::act_of;
 use crate::cast::Cast;
-use crate::driver::LineWorker;
-use crate::explain::Explains;
-use crate::fault::LineFault;
-use crate::output::Output;
-use crate::page::Page;
+use crate::reasons;
 use crate::settings::settings_of;
 use crate::shown::{print_answer, print_settled};
 use crate::standings::put_standings;
 use crate::verb::Verb;
-use crate::{reasons, words};
+use scenario_text::driver::LineWorker;
+use scenario_text::explain::Explains;
+use scenario_text::fault::LineFault;
+use scenario_text::output::Output;
+use scenario_text::page::Page;
+use scenario_text::words;
 use std::alloc::{AllocError, Global};
 use std::collections::hash_map::RandomState;
 use std::marker::Model;
@@ -201,6 +202,14 @@ impl LineWorker for Player {
 impl Explains for Player {
     fn reason(&self, line: &[u8]) -> Result<String, AllocError> {
         reasons::of_run_line(self.alloc, line)
+    }
+
+    fn why<'a>(&self, printed: &[u8], reason: &'a str) -> &'a str {
+        if printed.starts_with(b"close") {
+            reason
+        } else {
+            reasons::of_refusal(printed)
+        }
     }
 }
 

@@ -2,14 +2,13 @@
 ghost use Rattle.std.specs.Prelude.{◌≤◌};
 ghost use Rattle.scenario_lines.specs.Statuses.{HasStatus};
 
-use crate::command_line::{LineCommand, Subcommand, Telling, VERSION, asked};
-use crate::explain::{explained_frame_lines, explained_reply_lines, explained_run_lines};
-use crate::fault::Fault;
-use crate::frames::frame_lines;
-use crate::replies::reply_frame_lines;
-use crate::reply::reply_lines;
-use crate::run::run_lines;
-use crate::service::Service;
+use crate::reply::{explained_reply_lines, reply_lines};
+use crate::run::{explained_run_lines, run_lines};
+use scenario_text::command_line::{LineCommand, Subcommand, Telling, VERSION, asked};
+use scenario_text::fault::Fault;
+use scenario_text::frames::{explained_frame_lines, frame_lines};
+use scenario_text::replies::reply_frame_lines;
+use scenario_text::service::Service;
 use std::alloc::Global;
 use std::collections::hash_map::RandomState;
 use std::io;

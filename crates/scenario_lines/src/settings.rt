@@ -4,11 +4,12 @@ ghost use Rattle.std.specs.List.{slice_split};
 ghost use Rattle.std.specs.Option.{option_map};
 ghost use Rattle.member_core.specs.Settings.{Settings as Known};
 ghost use Rattle.member_core.specs.Views.{settings_value};
-ghost use Rattle.scenario_lines.specs.Scripts.{SpellSettings, SpellsNames, SpellsCount, SpellsNameIfAny, is_comma};
-ghost use Rattle.scenario_lines.specs.Words.{IsName};
+ghost use Rattle.scenario_text.specs.Numbers.{SpellsCount};
+ghost use Rattle.scenario_lines.specs.Scripts.{SpellSettings, SpellsNames, SpellsNameIfAny, is_comma};
+ghost use Rattle.scenario_text.specs.Words.{IsName};
 
-use crate::fault::LineFault;
-use crate::words;
+use scenario_text::fault::LineFault;
+use scenario_text::words;
 use std::alloc::{AllocError, Global};
 use world_sim::Settings;
 

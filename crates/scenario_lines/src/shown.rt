@@ -1,14 +1,14 @@
 //! What is printed for an act.
 ghost use Rattle.std.specs.Prelude.{◌≡◌, ◌++◌, [], OnOk, OnErr, IfErr};
 ghost use Rattle.world_sim.specs.Standing.{state_value};
-ghost use Rattle.scenario_lines.specs.Runs.{Prints};
+ghost use Rattle.scenario_text.specs.Runs.{Prints};
 ghost use Rattle.scenario_lines.specs.Shows.{IsAnswerText, IsShownText, refusal, settled_text, state_word};
 
 use crate::answers::{put_commit_reply, put_reply};
-use crate::fault::LineFault;
-use crate::output::Output;
-use crate::page::Page;
 use crate::verb::Verb;
+use scenario_text::fault::LineFault;
+use scenario_text::output::Output;
+use scenario_text::page::Page;
 use std::alloc::{AllocError, Global};
 use world_sim::{ClientState, Shown, World, WorldFault};
 

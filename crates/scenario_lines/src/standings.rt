@@ -2,14 +2,14 @@
 ghost use Rattle.std.specs.Prelude.{◌≡◌, ◌++◌, OnOk};
 ghost use Rattle.std.specs.Option.{option_copied};
 ghost use Rattle.world_sim.specs.Standing.{state_value};
-ghost use Rattle.scenario_lines.specs.Lines.{fed};
-ghost use Rattle.scenario_lines.specs.Reports.{line};
+ghost use Rattle.scenario_text.specs.Lines.{fed};
+ghost use Rattle.scenario_text.specs.Reports.{line};
 ghost use Rattle.scenario_lines.specs.Shows.{standing_words, standings_text};
 
 use crate::cast::Cast;
-use crate::page::Page;
 use crate::parts::put_set;
 use crate::shown::state_word;
+use scenario_text::page::Page;
 use std::alloc::AllocError;
 use world_sim::{ClientView, World};
 

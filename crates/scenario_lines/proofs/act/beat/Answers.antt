@@ -1,6 +1,6 @@
 use Rattle.std.proofs.Common.{[], ◌∷◌, ap, ◌∙◌, arith}
 use borrow.Author.Tests.{ltb-true, ltb-false}
-use Rattle.scenario_lines.proofs.Commanded.{texts, two_words, word_at}
+use Rattle.scenario_text.proofs.TopicWords.{texts, two_words, word_at}
 use Rattle.scenario_lines.proofs.Asked.{on_err, no_beat, named_two, length-are}
 use Rattle.scenario_lines.proofs.act.beat.Goals as goal
 use Rattle.scenario_lines.proofs.act.beat.Goals.{in_default-via-then-arguments-lt2, in_default-via-else-arguments-lt2+else-arguments-lt3}

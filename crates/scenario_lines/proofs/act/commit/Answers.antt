@@ -1,9 +1,10 @@
 use Rattle.std.proofs.Common.{rules, ◌≡◌, ℕ, ◌<◌, ◌^◌, pos, decimal, ap, ◌∙◌, arith, to_z, of_z, w32, w64}
 use borrow.Author.Tests.{ltb-true, ltb-false}
-use Rattle.scenario_lines.specs.Scripts.{SpellsOffset, offset_of_one}
-use Rattle.scenario_lines.specs.Words.{IsName}
-use Rattle.scenario_lines.proofs.Commanded.{texts, word_at, not_found, found_is}
-use Rattle.scenario_lines.proofs.GivenWords.{not_both}
+use Rattle.scenario_text.specs.Numbers.{SpellsOffset}
+use Rattle.scenario_lines.specs.Scripts.{offset_of_one}
+use Rattle.scenario_text.specs.Words.{IsName}
+use Rattle.scenario_text.proofs.TopicWords.{texts, word_at, not_found, found_is}
+use Rattle.scenario_text.proofs.GivenWords.{not_both}
 use Rattle.scenario_lines.proofs.Described.{four_words}
 use Rattle.scenario_lines.proofs.Asked.{no_commit, named_four, length-are}
 use Rattle.scenario_lines.proofs.act.commit.Goals as goal

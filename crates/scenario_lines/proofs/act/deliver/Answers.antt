@@ -1,5 +1,5 @@
 use Rattle.scenario_lines.proofs.Asked.{on_err, no_deliver}
-use Rattle.scenario_lines.proofs.Commanded.{texts}
+use Rattle.scenario_text.proofs.TopicWords.{texts}
 use Rattle.scenario_lines.proofs.act.deliver.Goals as goal
 
 pub returns-in_err-number-clause-refused : goal.returns-in_err-number-clause-refused

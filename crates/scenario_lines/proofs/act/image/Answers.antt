@@ -1,7 +1,7 @@
 use Rattle.std.proofs.Common.{rules, ◌≡◌, Err}
-use Rattle.scenario_lines.specs.declared.fault.LineFault.TheVariants.{BadLine}
+use Rattle.scenario_text.specs.declared.fault.LineFault.TheVariants.{BadLine}
 use Rattle.scenario_lines.proofs.Asked.{no_image_act}
-use Rattle.scenario_lines.proofs.Commanded.{texts}
+use Rattle.scenario_text.proofs.TopicWords.{texts}
 use Rattle.scenario_lines.proofs.act.image.Goals as goal
 
 pub returns-in_err-image-clause-refused : goal.returns-in_err-image-clause-refused

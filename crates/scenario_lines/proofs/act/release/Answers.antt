@@ -1,7 +1,7 @@
 use Rattle.std.proofs.Common.{rules, ◌≡◌, ℕ, ◌<◌, ◌^◌, pos, decimal, Some, sym, arith, to_z, of_z, w32}
 use borrow.Author.Tests.{ltb-true, ltb-false}
 use Rattle.uuid.specs.Text.{parsed}
-use Rattle.scenario_lines.proofs.Commanded.{texts, three_words, word_at, kept_ok, mapped_is, not_found, found_is}
+use Rattle.scenario_text.proofs.TopicWords.{texts, three_words, word_at, kept_ok, mapped_is, not_found, found_is}
 use Rattle.scenario_lines.proofs.Asked.{on_err, no_release, named_three, length-are}
 use Rattle.scenario_lines.proofs.act.release.Goals as goal
 use Rattle.scenario_lines.proofs.act.release.Goals.{in_default-via-then-arguments-lt3, in_default-via-else-arguments-lt3+else-arguments-lt4}

@@ -3,7 +3,7 @@ use Rattle.std.proofs.lemmas.Result.{on_ok_weaker}
 use Rattle.std.specs.Fmt.{signed_decimal}
 use Rattle.kip_msgs.specs.Views.{heartbeat_reply_value}
 use Rattle.scenario_lines.specs.Shows.{assignment_word}
-use Rattle.scenario_lines.proofs.Pages.{behind_space, seven_words_put}
+use Rattle.scenario_text.proofs.Pages.{behind_space, seven_words_put}
 use Rattle.scenario_lines.proofs.answers.put_heartbeat_reply.Goals as goal
 
 pub returns : goal.returns

@@ -1,7 +1,7 @@
 use Rattle.std.proofs.Common.{◌≡◌, ◌++◌, map, take}
 use Rattle.std.specs.List.{flat_map}
 use Rattle.kip_msgs.specs.Views.{commit_reply_topic_value}
-use Rattle.scenario_lines.specs.Reports.{spaced}
+use Rattle.scenario_text.specs.Reports.{spaced}
 use Rattle.scenario_lines.specs.Shows.{code_words}
 use Rattle.scenario_lines.proofs.answers.put_topic_codes.Given as goal
 

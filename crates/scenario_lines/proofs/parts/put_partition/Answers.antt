@@ -2,7 +2,7 @@ use Rattle.std.proofs.Common.{rules, ◌≡◌, ◌++◌, codes, ap, ◌∙◌, 
 use Rattle.std.proofs.lemmas.Result.{on_ok_weaker}
 use Rattle.std.specs.Fmt.{signed_decimal}
 use Rattle.uuid.specs.Text.{hyphenated_text, lower}
-use Rattle.scenario_lines.proofs.Pages.{two_put}
+use Rattle.scenario_text.proofs.Pages.{two_put}
 use Rattle.scenario_lines.proofs.parts.put_partition.Goals as goal
 
 pub returns : goal.returns

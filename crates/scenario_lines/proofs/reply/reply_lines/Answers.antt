@@ -1,7 +1,7 @@
 use Rattle.std.proofs.Common.{subst}
 use Rattle.scenario_lines.specs.declared.interpreter.Interpreter.{Interpreter}
 use Rattle.scenario_lines.specs.Commands.{DoesReplyLine, IsReplyLine}
-use Rattle.scenario_lines.specs.Runs.{RunsLines}
+use Rattle.scenario_text.specs.Runs.{RunsLines}
 use Rattle.scenario_lines.proofs.reply.reply_lines.Goals as goal
 
 pub returns : goal.returns

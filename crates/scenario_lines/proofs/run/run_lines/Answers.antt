@@ -1,6 +1,6 @@
 use Rattle.std.proofs.Common.{subst}
 use Rattle.scenario_lines.specs.Plays.{Play, DoesScriptLine, IsScriptLine, PrintsStandings}
-use Rattle.scenario_lines.specs.Runs.{RunsScript}
+use Rattle.scenario_text.specs.Runs.{RunsScript}
 use Rattle.scenario_lines.proofs.run.run_lines.Goals as goal
 
 pub returns : goal.returns

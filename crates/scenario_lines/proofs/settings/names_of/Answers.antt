@@ -1,7 +1,7 @@
 use Rattle.std.proofs.Common.{rules, ◌≢◌, ℕ, List, [], All, Bor, codes, map, subst, sym, ap, ◌∙◌}
-use Rattle.scenario_lines.specs.Words.{IsName}
+use Rattle.scenario_text.specs.Words.{IsName}
 use Rattle.scenario_lines.proofs.Described.{named_parts, no_named_parts}
-use Rattle.scenario_lines.proofs.GivenWords.{not_both}
+use Rattle.scenario_text.proofs.GivenWords.{not_both}
 use Rattle.scenario_lines.proofs.settings.names_of.Goals as goal
 
 pub returns-then-not-are_names-clause-refused : goal.returns-then-not-are_names-clause-refused

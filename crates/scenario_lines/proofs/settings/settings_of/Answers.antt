@@ -1,10 +1,10 @@
 use Rattle.std.proofs.Common.{rules, subst, ◌≡◌, [], ◌∷◌, Err, sym, refl, ap, ◌∙◌, arith}
 use Rattle.std.specs.Prelude.{string_bytes}
 use borrow.Author.Tests.{ltb-true, ltb-false}
-use Rattle.scenario_lines.specs.declared.fault.LineFault.TheVariants.{BadLine}
-use Rattle.scenario_lines.specs.Words.{IsName}
-use Rattle.scenario_lines.proofs.Commanded.{texts, word_at}
-use Rattle.scenario_lines.proofs.GivenWords.{not_both}
+use Rattle.scenario_text.specs.declared.fault.LineFault.TheVariants.{BadLine}
+use Rattle.scenario_text.specs.Words.{IsName}
+use Rattle.scenario_text.proofs.TopicWords.{texts, word_at}
+use Rattle.scenario_text.proofs.GivenWords.{not_both}
 use Rattle.scenario_lines.proofs.Described.{five_words, said_five}
 use Rattle.scenario_lines.proofs.Asked.{length-are}
 use Rattle.scenario_lines.proofs.settings.settings_of.Goals as goal

@@ -1,6 +1,6 @@
 use Rattle.std.proofs.Common.{◌≡◌, ◌<◌, ◌^◌, decimal, sym, ◌∙◌, arith}
 use Rattle.std.proofs.lemmas.Fmt.{decimal_injective}
-use Rattle.scenario_lines.proofs.Commanded.{found_is}
+use Rattle.scenario_text.proofs.TopicWords.{found_is}
 use Rattle.scenario_lines.proofs.settings.timeout_of.Goals as goal
 
 pub returns-then-timeout-clause-refused : goal.returns-then-timeout-clause-refused

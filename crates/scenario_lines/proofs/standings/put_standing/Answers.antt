@@ -4,7 +4,7 @@ use Rattle.std.specs.Option.{option_copied}
 use Rattle.world_sim.specs.Standing.{state_value}
 use Rattle.scenario_lines.specs.Shows.{set_word, state_word}
 use Rattle.scenario_lines.proofs.Closing.{unwrap_or-copied}
-use Rattle.scenario_lines.proofs.Pages.{behind_space, four_words_put}
+use Rattle.scenario_text.proofs.Pages.{behind_space, four_words_put}
 use Rattle.scenario_lines.proofs.standings.put_standing.Goals as goal
 
 pub returns : goal.returns

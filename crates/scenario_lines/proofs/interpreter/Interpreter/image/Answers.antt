@@ -1,6 +1,7 @@
 use Rattle.std.proofs.Common.{◌≡◌, Err, rules}
-use Rattle.scenario_lines.specs.declared.fault.LineFault.TheVariants.{BadLine}
-use Rattle.scenario_lines.proofs.Commanded.{image_done, not_image, texts}
+use Rattle.scenario_text.specs.declared.fault.LineFault.TheVariants.{BadLine}
+use Rattle.scenario_text.proofs.TopicWords.{texts}
+use Rattle.scenario_lines.proofs.Commanded.{image_done, not_image}
 use Rattle.scenario_lines.proofs.interpreter.Interpreter.image.Goals as goal
 
 pub returns-in_err-image-clause-refused : goal.returns-in_err-image-clause-refused

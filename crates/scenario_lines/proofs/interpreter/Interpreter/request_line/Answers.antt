@@ -1,5 +1,5 @@
 use Rattle.scenario_lines.proofs.Commanded.{request_done}
-use Rattle.scenario_lines.proofs.Reported.{on_ok_both}
+use Rattle.scenario_text.proofs.Reported.{on_ok_both}
 use Rattle.scenario_lines.proofs.interpreter.Interpreter.request_line.Goals as goal
 
 pub returns-clause-printed : goal.returns-clause-printed

@@ -1,5 +1,6 @@
 use Rattle.std.proofs.Common.{◌≡◌, ◌<◌, ◌^◌, decimal}
-use Rattle.scenario_lines.proofs.Commanded.{stamp_done, found_is, word_at}
+use Rattle.scenario_text.proofs.TopicWords.{found_is, word_at}
+use Rattle.scenario_lines.proofs.Commanded.{stamp_done}
 use Rattle.scenario_lines.proofs.interpreter.Interpreter.stamp.Goals as goal
 
 pub returns-clause-done : goal.returns-clause-done

@@ -1,10 +1,10 @@
 use Rattle.std.proofs.Common.{rules, ◌≡◌, Err, sym, subst}
 use Rattle.world_sim.specs.Acting.{act_value}
-use Rattle.scenario_lines.specs.declared.fault.LineFault.TheVariants.{BadLine}
+use Rattle.scenario_text.specs.declared.fault.LineFault.TheVariants.{BadLine}
 use Rattle.scenario_lines.specs.Plays.{MayStand, Performs}
-use Rattle.scenario_lines.specs.Runs.{Prints}
+use Rattle.scenario_text.specs.Runs.{Prints}
 use Rattle.scenario_lines.specs.Stages.{world_at, has_begun}
-use Rattle.scenario_lines.proofs.Commanded.{texts}
+use Rattle.scenario_text.proofs.TopicWords.{texts}
 use Rattle.scenario_lines.proofs.Played.{play, may_act, does_act}
 use Rattle.scenario_lines.proofs.Prints.{OnOk-by}
 use Rattle.scenario_lines.proofs.player.Player.act_line.Goals as goal

@@ -1,10 +1,10 @@
 use Rattle.std.proofs.Common.{rules, ◌≡◌, ◌∷◌, Err, subst}
 use Rattle.member_core.specs.Views.{settings_value}
-use Rattle.scenario_lines.specs.declared.fault.LineFault.TheVariants.{BadLine}
-use Rattle.scenario_lines.specs.Words.{IsName}
+use Rattle.scenario_text.specs.declared.fault.LineFault.TheVariants.{BadLine}
+use Rattle.scenario_text.specs.Words.{IsName}
 use Rattle.scenario_lines.specs.Scripts.{number_in}
 use Rattle.scenario_lines.specs.Plays.{Entrance}
-use Rattle.scenario_lines.proofs.Commanded.{texts}
+use Rattle.scenario_text.proofs.TopicWords.{texts}
 use Rattle.scenario_lines.proofs.Played.{enters, no_settings}
 use Rattle.scenario_lines.proofs.player.Player.enter.Goals as goal
 

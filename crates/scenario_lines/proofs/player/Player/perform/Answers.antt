@@ -1,6 +1,6 @@
 use Rattle.world_sim.specs.Acting.{act_value}
 use Rattle.scenario_lines.specs.Shows.{IsAnswerText}
-use Rattle.scenario_lines.specs.Runs.{Prints}
+use Rattle.scenario_text.specs.Runs.{Prints}
 use Rattle.scenario_lines.proofs.Prints.{OnOk-by}
 use Rattle.scenario_lines.proofs.Played.{performs}
 use Rattle.scenario_lines.proofs.player.Player.perform.Goals as goal

@@ -1,6 +1,0 @@
-use Rattle.scenario_lines.specs.Lines.{is_line_feed}
-use Rattle.scenario_lines.proofs.FirstBytes.{position-from_first}
-use Rattle.scenario_lines.proofs.lines.line_feed_in.Goals as goal
-
-pub returns : goal.returns
-returns c = position-from_first is_line_feed c.args.input.now c.memchr.result c.memchr.ensures

@@ -1,0 +1,15 @@
+pub mod Written
+pub mod Inputs
+pub mod Numbers
+pub mod Offsets
+pub mod FrameParts
+pub mod GivenWords
+pub mod CutLines
+pub mod Pages
+pub mod Reported
+pub mod ReplyReported
+pub mod FirstBytes
+pub mod Running
+pub mod TopicWords
+pub mod Digits
+pub mod EmptyPages

@@ -1,0 +1,20 @@
+use Rattle.std.proofs.Common.{rules, ◌≡◌, ◌++◌, codes, ap, ◌∙◌, to_z, of_z, w16, w32}
+use Rattle.std.proofs.lemmas.Result.{on_ok_weaker}
+use Rattle.std.specs.Fmt.{signed_decimal}
+use Rattle.kip_msgs.specs.Views.{commit_reply_partition_value}
+use Rattle.scenario_text.specs.Reports.{text_word}
+use Rattle.scenario_text.proofs.Pages.{three_words_put}
+use Rattle.scenario_text.proofs.reply_report.put_part.Goals as goal
+
+pub returns : goal.returns
+returns c =
+    let p = commit_reply_partition_value c.args.partition.now in
+    let index : to_z w32 (of_z w32 p.partition_index) ≡ p.partition_index = search rules in
+    let code : to_z w16 (of_z w16 p.error_code) ≡ p.error_code = search rules in
+    on_ok_weaker c.put-2.result
+    (three_words_put c.args.page.now c.put.new.self c.text_word.new.self c.number_word.new.self c.number_word-2.new.self c.put-2.new.self
+    (codes "part") (text_word c.args.name.now) (signed_decimal p.partition_index) (signed_decimal p.error_code)
+    c.in_ok-put.ensures c.in_ok-text_word.ensures
+    (c.in_ok-number_word.ensures ∙ ap (λ z. c.text_word.new.self ++ codes " " ++ signed_decimal z) index)
+    (c.in_ok-number_word-2.ensures ∙ ap (λ z. c.number_word.new.self ++ codes " " ++ signed_decimal z) code))
+    c.put-2.ensures

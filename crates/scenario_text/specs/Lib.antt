@@ -1,0 +1,13 @@
+pub mod Inputs
+pub mod Lines
+pub mod Words
+pub mod Numbers
+pub mod ImageWords
+pub mod Statuses
+pub mod Writing
+pub mod RequestFrames
+pub mod FrameLines
+pub mod Reports
+pub mod Runs
+pub mod Reporters
+pub mod ReplyReports

@@ -1,0 +1,158 @@
+//! The way of every subcommand that does lines: the input is read whole, its lines are done in order, and what they
+//! print is written in pieces.
+ghost use Rattle.std.specs.Prelude.{◌≡◌, ◌⊎◌, ℕ, List, [], OnOk, OnErr, IfErr, IsErrAnd};
+ghost use Rattle.std.specs.Result.{result_err};
+ghost use Rattle.scenario_text.specs.Inputs.{IsTooLong};
+ghost use Rattle.std.specs.Io.KnownBytes.{Appends, Keeps};
+ghost use Rattle.scenario_text.specs.Lines.{lines_of};
+ghost use Rattle.scenario_text.specs.Runs.{IsWrite, Prints, Ends, EndsOver, EndEnds, LineEnds, RunsScript};
+ghost use Rattle.scenario_text.specs.Statuses.{status_of};
+ghost use Rattle.scenario_text.specs.Writing.{Grows, WritesPart};
+
+use crate::fault::{Fault, LineFault};
+use crate::input::read_whole;
+use crate::lines::Lines;
+use crate::output::{Output, write_whole};
+use std::alloc::{AllocError, Global};
+use std::io::{Read, Write};
+
+/// Does the lines of one subcommand. `does` says what a line does to the worker and which text it prints, `takes` which
+/// lines the subcommand has, and `closes` which text stands behind that of the last line.
+pub trait LineWorker {
+    ghost does: { Self → List ℕ → Self → List ℕ → Type 0 };
+
+    ghost takes: { Self → List ℕ → Type 0 };
+
+    ghost closes: { Self → List ℕ → Type 0 };
+
+    /// Does one line, and prints what it answers: whole lines, and on `Err` none.
+    ///
+    /// Faults: [`LineFault::BadLine`] only for a line that the subcommand doesn't have; [`LineFault::NoMemory`].
+    fn line(&mut self, line: &[u8], output: &mut Output) -> Result<(), LineFault>
+        ensures printed { OnOk result (Prints (does self.old line.now self.new) output.old output.new) }
+        ensures refused { result ≡ Err LineFault.BadLine → ¬ takes self.old line.now }
+        ensures err { OnErr result (output.new ≡ output.old) };
+
+    /// Prints what stands behind the text of the last line: whole lines, and on `Err` none.
+    fn end(&mut self, output: &mut Output) -> Result<(), AllocError>
+        ensures printed { OnOk result (Prints (closes self.old) output.old output.new) }
+        ensures err { OnErr result (output.new ≡ output.old) };
+}
+
+/// Does the lines of the reader in order and prints what they answer, up to the first that can't be done. A fault is told.
+/// Gives the program's status: 0 where all lines are done, 2 at a bad line, 1 after the other faults.
+pub fn run<L: LineWorker + Drop, R: Read, W: Write, E: Write>(
+    alloc: Global,
+    mut worker: L,
+    reader: &mut R,
+    writer: &mut W,
+    faults: &mut E,
+) -> u8
+    ensures { RunsScript L.does L.takes L.closes worker (R.remaining reader.old)
+        (W.contents writer.old, W.contents writer.new) (E.contents faults.old, E.contents faults.new) result }
+{
+    match do_lines(alloc, &mut worker, reader, writer) {
+        Ok(()) => 0,
+        Err(fault) => tell(alloc, fault, faults),
+    }
+}
+
+/// Does the lines of the reader, until the first that can't be done.
+fn do_lines<L: LineWorker, R: Read, W: Write>(
+    alloc: Global,
+    worker: &mut L,
+    reader: &mut R,
+    writer: &mut W,
+) -> Result<(), Fault>
+    ensures ends { EndsOver L.does L.takes L.closes worker.old (R.remaining reader.old) (W.contents writer.old) (W.contents writer.new) (result_err result) }
+    ensures too_long { IsTooLong (R.remaining reader.old)
+        → IsErrAnd result (λ fault. status_of fault ≡ 1) × Keeps (W.contents writer.old) (W.contents writer.new) }
+{
+    match read_whole(alloc, reader) {
+        Ok(input) => do_input(alloc, worker, input.as_slice(), writer),
+        Err(fault) => Err(fault),
+    }
+}
+
+/// Does the lines of an input, until the first that can't be done.
+pub(crate) fn do_input<L: LineWorker, W: Write>(
+    alloc: Global,
+    worker: &mut L,
+    input: &[u8],
+    writer: &mut W,
+) -> Result<(), Fault>
+    ensures { Ends L.does L.takes L.closes (lines_of input.now) worker.old (W.contents writer.old) (W.contents writer.new) (result_err result) }
+{
+    let mut output = Output::new(alloc);
+    for (index, line) in Lines::of(input).enumerate() {
+        if let Err(fault) = do_line(worker, index + 1, line, &mut output, writer) {
+            return Err(fault);
+        }
+    }
+    finish(worker, &mut output, writer)
+}
+
+/// Prints what stands behind the last line, and writes all that is held.
+fn finish<L: LineWorker, W: Write>(
+    worker: &mut L,
+    output: &mut Output,
+    writer: &mut W,
+) -> Result<(), Fault>
+    ensures { EndEnds L.closes worker.old output.old (W.contents writer.old) (W.contents writer.new) (result_err result) }
+{
+    let ended = worker.end(output);
+    write(output, writer)?;
+    match ended {
+        Ok(()) => Ok(()),
+        Err(_) => Err(Fault::NoMemory),
+    }
+}
+
+/// Does the line of this number. What is printed so far is written where there is enough of it, and before the run
+/// ends at this line.
+fn do_line<L: LineWorker, W: Write>(
+    worker: &mut L,
+    number: usize,
+    line: &[u8],
+    output: &mut Output,
+    writer: &mut W,
+) -> Result<(), Fault>
+    ensures { LineEnds L.does L.takes worker.old line.now number worker.new output.old output.new
+        (W.contents writer.old) (W.contents writer.new) (result_err result) }
+{
+    if let Err(fault) = worker.line(line, output) {
+        write(output, writer)?;
+        return Err(fault.at_line(number));
+    }
+    if output.is_full() {
+        write(output, writer)?;
+    }
+    Ok(())
+}
+
+/// Writes all that is held, which is then held no longer.
+fn write<W: Write>(output: &mut Output, writer: &mut W) -> Result<(), Fault>
+    ensures written { OnOk result (Appends (W.contents writer.old) (W.contents writer.new) output.old) }
+    ensures empty { OnOk result (output.new ≡ []) }
+    ensures failed { IfErr result IsWrite }
+    ensures part { WritesPart (W.contents writer.old) (W.contents writer.new) output.old }
+{
+    output.write_to(writer).map_err(Fault::Write)
+}
+
+/// Writes the text of a fault, and gives its status. Where memory is short for the text, want of memory is the fault.
+pub fn tell<E: Write>(alloc: Global, fault: Fault, faults: &mut E) -> u8
+    ensures status { (result ≡ status_of fault) ⊎ (result ≡ 1) }
+    ensures told { Grows (E.contents faults.old) (E.contents faults.new) }
+{
+    match format!(in alloc; "{fault}\n") {
+        Ok(text) => {
+            let _ = write_whole(faults, text.as_bytes());
+            fault.status()
+        }
+        Err(_) => {
+            let _ = write_whole(faults, b"out of memory\n");
+            Fault::NoMemory.status()
+        }
+    }
+}
