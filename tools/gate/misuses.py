@@ -66,18 +66,18 @@ def read_misuse(path):
     return Misuse(tuple(fields[0][1].split()), fields[1][1], right, wrong)
 
 
-def run_all(tree, root, room, say):
-    """Tries every misuse; says each that fails. Returns how many passed and failed."""
+def run_all(tree, root, room, say, nice=0):
+    """Tries every misuse; says each that fails. Returns how many passed and failed. `nice`: see `commands.start`."""
     names = names_in(root)
     with concurrent.futures.ThreadPoolExecutor(schedule.processors()) as pool:
-        faults = dict(zip(names, pool.map(lambda it: fault_of(tree, f"{root}/{FOLDER}/{it}", room), names)))
+        faults = dict(zip(names, pool.map(lambda it: fault_of(tree, f"{root}/{FOLDER}/{it}", room, nice), names)))
     for name, fault in faults.items():
         say(f"{FOLDER}/{name}: {fault or 'refused by its error'}")
     failed = sum(it is not None for it in faults.values())
     return len(faults) - failed, failed
 
 
-def fault_of(tree, path, room):
+def fault_of(tree, path, room, nice):
     """Why a misuse fails, or None."""
     try:
         misuse = read_misuse(path)
@@ -86,7 +86,7 @@ def fault_of(tree, path, room):
     lost = [it for it in misuse.uses if it in tree.uses and not os.path.isdir(tree.library(it))]
     if lost:
         return f"NOT TRIED: the library {lost[0]} was not built"
-    right, wrong = (errors_in(tree, misuse.uses, it, room) for it in (misuse.right, misuse.wrong))
+    right, wrong = (errors_in(tree, misuse.uses, it, room, nice) for it in (misuse.right, misuse.wrong))
     if right:
         return f"BAD MISUSE: the right code does not compile: {right[0][:300]}"
     if not wrong:
@@ -95,14 +95,14 @@ def fault_of(tree, path, room):
     return f"ANOTHER ERROR: {others[0][:300]}" if others else None
 
 
-def errors_in(tree, uses, source, room):
+def errors_in(tree, uses, source, room, nice):
     """The errors that the front end finds in a library with this source."""
     folder = tempfile.mkdtemp(prefix=f"{CRATE}-", dir=room)
     os.mkdir(f"{folder}/src")
     with open(f"{folder}/{SOURCE}", "w", encoding="utf-8") as file:
         file.write(source)
     words = tree.check_words(CRATE, uses, SOURCE)
-    ran = commands.run([*words, "--jobs", "1", "--only", ""], folder)
+    ran = commands.run([*words, "--jobs", "1", "--only", ""], folder, nice=nice)
     shutil.rmtree(folder)
     found = [it for it in ran.lines() if re.search(r": error[\[:]", it)]
     return found or [ran.lines()[-1]] * bool(ran.status)

@@ -26,11 +26,11 @@ NOT_PROVED = "NOT PROVED"
 
 
 class Bench:
-    """A copy of a crate that is checked with other texts, over what earlier checks here have proved."""
+    """A copy of a crate that is checked with other texts, over what earlier checks here have proved. `nice`: see `commands.start`."""
 
-    def __init__(self, tree, crate, folder, say, lanes, clock):
+    def __init__(self, tree, crate, folder, say, lanes, clock, nice=0):
         self.tree, self.crate, self.folder = tree, crate, folder
-        self.say, self.lanes, self.clock = say, lanes, clock
+        self.say, self.lanes, self.clock, self.nice = say, lanes, clock, nice
         self.checks, self.processor = 0, 0.0
         self.laid = set()
         os.makedirs(f"{folder}/src")
@@ -67,7 +67,7 @@ class Bench:
         return verdicts.Verdict(ran)
 
     def run(self, words, jobs, what):
-        ran = commands.run([*words, "--jobs", str(jobs)], self.folder, limit=self.clock.seconds_left())
+        ran = commands.run([*words, "--jobs", str(jobs)], self.folder, limit=self.clock.seconds_left(), nice=self.nice)
         if ran.was_cut:
             raise schedule.OutOfTime
         self.checks += 1

@@ -11,11 +11,13 @@ import time
 
 # What a check takes of memory in bytes: in any crate, and for each line of the crate's source. Measured on crates
 # of 360 to 4,000 lines; the most that one took was 4 GB.
-CHECK_MEMORY, LINE_MEMORY = 2_500_000_000, 500_000
+CHECK_MEMORY, LINE_MEMORY, MOST_CHECK_MEMORY = 2_500_000_000, 500_000, 4_000_000_000
 # How much of the free memory is used, and what part of what its first job takes a further job of a check adds: 1.3 GB beside 3 to 4.
 USED_MEMORY, JOB_MEMORY = 0.85, 0.3
 # More jobs than this seldom make a check faster, nor do more than one for FUNCTIONS_A_JOB functions: each reads all libraries.
 MOST_JOBS, FUNCTIONS_A_JOB = 4, 20
+# How many proofs `rt ci` runs at once, whatever it would plan.
+JOBS_NAME = "RT_JOBS"
 # How long a round that was begun in time may run on, in seconds.
 GRACE = 60
 # The commits of the last hours, up to the last one, are one landing.
@@ -88,6 +90,16 @@ class Lanes:
         fitting = 1 + int(max(most / need - 1, 0) / JOB_MEMORY)
         wanted = MOST_JOBS if functions is None else -(-functions // FUNCTIONS_A_JOB)
         return max(1, min(self.processors // sharers, fitting, wanted, MOST_JOBS))
+
+
+def proof_jobs():
+    """What `rt ci` is told by its environment: to prove as many crates at once as there are processors, by one job each.
+
+    By itself it plans with two to three times the memory that our crates take, which leaves processors idle. It is left to that
+    where it was told otherwise, or where there is less memory than the largest of them could take on every processor.
+    """
+    is_enough = processors() * MOST_CHECK_MEMORY <= USED_MEMORY * free_memory()
+    return [f"{JOBS_NAME}={processors()}"] if is_enough and JOBS_NAME not in os.environ else []
 
 
 def need_of(tree, crate):

@@ -18,12 +18,13 @@ class Sweep:
     `known` has for each crate the names in its verdict, where `rt ci` has just proved the tree's very files and built
     its libraries. Without it a check of each crate as it stands comes first, over what its own checks have kept.
     `kept`, where it is given, has what edits came to before, and `ahead` what tests and cases come to with edits that are tried already.
+    `nice`: see `commands.start`.
     """
 
-    def __init__(self, tree, room, say, known=None, kept=None, ahead=None):
+    def __init__(self, tree, room, say, known=None, kept=None, ahead=None, nice=0):
         self.tree, self.room, self.known, self.kept, self.ahead = tree, room, known, kept, ahead
         self.lanes, self.printing, self.say_line = schedule.Lanes(), threading.Lock(), say
-        self.named, self.trials = {}, None
+        self.named, self.trials, self.nice = {}, None, nice
 
     def say(self, line):
         with self.printing:
@@ -46,7 +47,7 @@ class Sweep:
     def try_all(self, parts):
         """What came of the edits of these parts, each of which has a crate, its edits and a clock."""
         tests = [it.test for _, each, _ in parts for it in each if it.test]
-        self.trials = trials.Trials(self.tree, self.room, tests, self.say, schedule.Clock())
+        self.trials = trials.Trials(self.tree, self.room, tests, self.say, schedule.Clock(), self.nice)
         tasks = [
             (schedule.need_of(self.tree, part[0]), functools.partial(self.try_crate, f"{self.room}/bench-{number}", *part))
             for number, part in enumerate(parts)
@@ -62,7 +63,7 @@ class Sweep:
         began = clock.seconds()
         found = {edit: (LEFT_OUT, "") for edit in tried}
         if not clock.is_over():
-            bench = rounds.Bench(self.tree, crate, folder, self.say, self.lanes, clock)
+            bench = rounds.Bench(self.tree, crate, folder, self.say, self.lanes, clock, self.nice)
             with contextlib.suppress(schedule.OutOfTime):
                 found.update(self.answers_of(bench, tried))
             bench.remove()

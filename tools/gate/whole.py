@@ -19,9 +19,9 @@ EDIT_MINUTES_NAME, EDIT_MINUTES = "GATE_EDIT_MINUTES", 4
 LAST_BEGIN = 80
 # How long one of the scripts may take, in seconds.
 SCRIPT_SECONDS = 1_800
-# The scripts that are run one after the other, since they serve or take times, and those that build, which are run beside the misuses
-# and the edits. Each with whether it takes the built program.
-ALONE = (
+# The scripts that are run one after the other, since they serve or take times, and those that build. All else that runs beside the
+# former leaves the processors to them. Each with whether it takes the built program.
+IN_TURN = (
     ("check-launcher", True),
     ("check-model", False),
     ("check-pictures", True),
@@ -29,7 +29,8 @@ ALONE = (
     ("check-broker", True),
     ("check-conversations", True),
 )
-BESIDE = (("check-readme", True), ("check-library", False))
+BUILDING = (("check-readme", True), ("check-library", False))
+NICE = 10
 # What a check says where all is well; everything else that `rt ci` writes is shown as it comes.
 NOISE = re.compile(
     r"checked \S+, \d|so far: |statements |crate \S+: modules|logic |logic=proved |by-macro: |empty contracts: 0 "
@@ -71,15 +72,13 @@ class Gate:
         tests = self.tests_ahead()
         is_proved, known = self.prove(command, tests)
         self.run_cases(is_proved)
-        for script in ALONE:
-            self.run_script(*script)
-        with concurrent.futures.ThreadPoolExecutor(len(BESIDE)) as pool:
-            beside = [pool.submit(self.run_script, *it) for it in BESIDE]
+        with concurrent.futures.ThreadPoolExecutor(1 + len(BUILDING)) as pool:
+            scripts = [pool.submit(self.run_in_turn), *[pool.submit(self.run_script, *it, NICE) for it in BUILDING]]
             if is_proved:
-                self.count("misuses", *misuses.run_all(self.tree, self.root, self.room, self.say))
+                self.count("misuses", *misuses.run_all(self.tree, self.root, self.room, self.say, NICE))
                 self.try_edits(known, tests)
             tests.stop()
-            for it in beside:
+            for it in scripts:
                 it.result()
         if not is_proved:
             self.say("no misuse and no edit was tried, since not every crate is proved")
@@ -96,9 +95,10 @@ class Gate:
 
         The tests of edits begin with the first verdict, when `rt ci` has seen how much memory is free.
         """
-        self.say(" ".join(command))
+        jobs = schedule.proof_jobs()
+        self.say(f"{' '.join([*command, *jobs])}")
         pipe = subprocess.PIPE
-        child = commands.start(command, self.root, subprocess.DEVNULL, pipe, subprocess.STDOUT)
+        child = commands.start(["env", *jobs, *command], self.root, subprocess.DEVNULL, pipe, subprocess.STDOUT)
         known, line = {}, ""
         for line in (it.decode(errors="replace").rstrip("\n") for it in child.stdout):
             found = VERDICT_LINE.match(line)
@@ -138,13 +138,17 @@ class Gate:
         """Where the program stands once it is built."""
         return f"{self.tree.folder(cases.PROGRAM_CRATE)}/out/{cases.PROGRAM_CRATE}"
 
-    def run_script(self, script, takes_program):
+    def run_in_turn(self):
+        for script in IN_TURN:
+            self.run_script(*script)
+
+    def run_script(self, script, takes_program, nice=0):
         """Runs a script that checks from outside."""
         words = [self.program()] * takes_program
         if not all(map(os.path.isfile, words)):
             self.say(f"{script} was not run, since the program was not built")
             return
-        ran = commands.run([f"{self.root}/tools/{script}", *words], self.root, limit=SCRIPT_SECONDS)
+        ran = commands.run([f"{self.root}/tools/{script}", *words], self.root, limit=SCRIPT_SECONDS, nice=nice)
         last = LAST_LINE.match(ran.lines()[-1])
         passed, failed = (int(last[1]), int(last[2])) if last else (0, 1)
         for line in (it for it in ran.lines() if failed or ran.status or "not run" in it):
@@ -159,7 +163,7 @@ class Gate:
         for_tests, _, bad = self.edits_in(edits.TEST_FOLDER, self.tree.uses)
         further, named, _ = self.edits_in(edits.FURTHER_FOLDER, self.changed_last())
         endless, limited = (schedule.Clock(it, self.clock.began) for it in (None, until))
-        runner = sweep.Sweep(self.tree, self.room, self.say, known, self.kept, tests)
+        runner = sweep.Sweep(self.tree, self.room, self.say, known, self.kept, tests, NICE)
         answers = runner.run([(for_tests, endless), (further, limited)], named)
         self.count_edits_for_tests({it: answers[it] for it in answers if it.is_for_a_test}, bad)
         self.count_further_edits({it: answers[it] for it in answers if not it.is_for_a_test}, named)
