@@ -10,6 +10,7 @@ use Rattle.coord_node.specs.Steps.{Step}
 use Rattle.scenario_lines.specs.declared.interpreter.Interpreter.{Interpreter}
 use Rattle.scenario_text.specs.Lines.{fed}
 use Rattle.scenario_text.specs.Words.{IsLine, words_of}
+use Rattle.scenario_text.specs.ImageWords.{SpellImage}
 use Rattle.scenario_lines.specs.Stamps.{stamp_of}
 use Rattle.scenario_lines.specs.Requests.{BytesStep, text_of}
 

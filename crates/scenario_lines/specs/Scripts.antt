@@ -12,6 +12,7 @@ use Rattle.world_sim.specs.Acts.{Act, Asks, GivesUp, Deliver, Take, Release, Com
 use Rattle.scenario_lines.specs.declared.verb.Verb.{Verb}
 use Rattle.scenario_lines.specs.declared.verb.Verb.TheVariants as verbs
 use Rattle.scenario_text.specs.Words.{IsName}
+use Rattle.scenario_text.specs.Numbers.{SpellsCount, SpellsNumber, SpellsOffset}
 use Rattle.scenario_text.specs.ImageWords.{IsImage}
 
 -- ---- verbs
