@@ -95,10 +95,10 @@ class Gate:
 
         The tests of edits begin with the first verdict, when `rt ci` has seen how much memory is free.
         """
-        jobs = schedule.proof_jobs()
-        self.say(f"{' '.join([*command, *jobs])}")
+        words = [*schedule.proof_jobs(), *command]
+        self.say(" ".join(words))
         pipe = subprocess.PIPE
-        child = commands.start(["env", *jobs, *command], self.root, subprocess.DEVNULL, pipe, subprocess.STDOUT)
+        child = commands.start(["env", *words], self.root, subprocess.DEVNULL, pipe, subprocess.STDOUT)
         known, line = {}, ""
         for line in (it.decode(errors="replace").rstrip("\n") for it in child.stdout):
             found = VERDICT_LINE.match(line)
