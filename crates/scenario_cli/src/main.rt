@@ -6,8 +6,8 @@
 
 mod serve;
 
-use scenario_text::command_line;
 use scenario_lines::program::{self, Ran};
+use scenario_text::command_line;
 use std::collections::hash_map::RandomState;
 use std::process::ExitCode;
 use std::thread::available_parallelism;

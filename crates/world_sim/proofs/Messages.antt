@@ -171,4 +171,3 @@ says_accepted reply m epoch shown is =
 pub accepted_above : (meaning : Meaning) (member : Option Text) (at : ℤ) (given : Option Partitions) (m : Text) (epoch : ℕ) (shown : Option Partitions)
     → news_by meaning member at given ≡ Some (Accepts m epoch shown) → 0 < epoch
 accepted_above meaning member at given m epoch shown is = (accepted_by meaning member at given m epoch shown is).positive
-
