@@ -1,4 +1,4 @@
-//! The coordinator of one node: the bodies of request frames in, the frames of replies out.
+//! The coordinator of one node: the bodies of requests in, the frames of replies out.
 //!
 //! For every list of frames, ticks and images, the bytes that a [`Node`] appends are those of the coordinator's run
 //! (KIP-848), and its state is the run's. Start from [`Node::answer`] for one frame, and from [`Node::run`] for a list
