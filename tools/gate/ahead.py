@@ -12,17 +12,14 @@ NICE = 10
 
 
 class Ahead:
-    """Builds and runs the test or case of each of these edits, one after the other, from `begin` on."""
+    """Builds and runs the test or case of each of these edits, two at a time."""
 
     def __init__(self, tree, room, say, tried):
-        self.tree, self.tried, self.found = tree, tried, {}
+        self.tree = tree
         tests = [it.test for it in tried if it.test]
         self.trials = trials.Trials(tree, room, tests, say, schedule.Clock(), NICE)
-        self.pool = concurrent.futures.ThreadPoolExecutor(1)
-
-    def begin(self):
-        if not self.found:
-            self.found = {it: self.pool.submit(self.try_one, it) for it in self.tried}
+        self.pool = concurrent.futures.ThreadPoolExecutor(2)
+        self.found = {it: self.pool.submit(self.try_one, it) for it in tried}
 
     def try_one(self, edit):
         try:

@@ -70,7 +70,7 @@ class Gate:
     def run(self, command):
         """Runs every step with `command` as the prover of the whole tree, and returns the exit status."""
         tests = self.tests_ahead()
-        is_proved, known = self.prove(command, tests)
+        is_proved, known = self.prove(command)
         self.run_cases(is_proved)
         with concurrent.futures.ThreadPoolExecutor(1 + len(BUILDING)) as pool:
             scripts = [pool.submit(self.run_in_turn), *[pool.submit(self.run_script, *it, NICE) for it in BUILDING]]
@@ -85,16 +85,13 @@ class Gate:
         return self.sum_up()
 
     def tests_ahead(self):
-        """The tests and cases of the edits for tests that weren't tried before."""
+        """Begins the tests and cases of the edits for tests that weren't tried before, which go on beside `rt ci`."""
         tried, _, _ = sweep.gathered(self.tree.folder, self.tree.uses, lambda _: None, (edits.TEST_FOLDER,))
         left = [it for each in tried.values() for it in each if not self.kept.answer(it)]
         return ahead.Ahead(self.tree, self.room, self.say, left)
 
-    def prove(self, command, tests):
-        """Runs `rt ci` over the tree. Returns whether all passed, and the names in its verdicts, by crate.
-
-        The tests of edits begin with the first verdict, when `rt ci` has seen how much memory is free.
-        """
+    def prove(self, command):
+        """Runs `rt ci` over the tree. Returns whether all passed, and the names in its verdicts, by crate."""
         words = [*schedule.proof_jobs(), *command]
         self.say(" ".join(words))
         pipe = subprocess.PIPE
@@ -104,14 +101,12 @@ class Gate:
             found = VERDICT_LINE.match(line)
             if found:
                 known.setdefault(found[2], set()).add(found[1])
-                tests.begin()
             if not NOISE.match(line) and not LAST_LINE.fullmatch(line):
                 self.say(line)
             if re.match(r"rt: .*(NOT PROVED|FAILED|BAD EDIT|NOT REFUSED)", line):
                 self.faults.append(line)
             if ALL_KEPT.match(line):
                 self.is_anything_new = False
-        tests.begin()
         status, processor = commands.wait_for(child)
         last = LAST_LINE.fullmatch(line)
         passed, failed = (int(last[1]), int(last[2])) if last else (0, 1)
