@@ -11,13 +11,14 @@ import time
 
 # What a check takes of memory in bytes: in any crate, and for each line of the crate's source. Measured on crates
 # of 360 to 4,000 lines; the most that one took was 4 GB.
-CHECK_MEMORY, LINE_MEMORY, MOST_CHECK_MEMORY = 2_500_000_000, 500_000, 4_000_000_000
+CHECK_MEMORY, LINE_MEMORY = 2_500_000_000, 500_000
 # How much of the free memory is used, and what part of what its first job takes a further job of a check adds: 1.3 GB beside 3 to 4.
 USED_MEMORY, JOB_MEMORY = 0.85, 0.3
 # More jobs than this seldom make a check faster, nor do more than one for FUNCTIONS_A_JOB functions: each reads all libraries.
 MOST_JOBS, FUNCTIONS_A_JOB = 4, 20
-# How many proofs `rt ci` runs at once, whatever it would plan.
-JOBS_NAME = "RT_JOBS"
+# How many proofs `rt ci` runs at once, whatever it would plan; and what one of these takes of memory, by one job: 1 to 3.5 GB, and only
+# that of coord_server 4.7.
+JOBS_NAME, PROOF_MEMORY = "RT_JOBS", 3_500_000_000
 # How long a round that was begun in time may run on, in seconds.
 GRACE = 60
 # The commits of the last hours, up to the last one, are one landing.
@@ -93,13 +94,15 @@ class Lanes:
 
 
 def proof_jobs():
-    """What `rt ci` is told by its environment: to prove as many crates at once as there are processors, by one job each.
+    """What `rt ci` is told by its environment: to prove one crate more at once than there are processors, by one job each.
 
     By itself it plans with two to three times the memory that our crates take, which leaves processors idle. It is left to that
-    where it was told otherwise, or where there is less memory than the largest of them could take on every processor.
+    where it was told otherwise, or where there is less memory than so many of them take. The one more keeps all processors
+    busy when the last of the long checks begin.
     """
-    is_enough = processors() * MOST_CHECK_MEMORY <= USED_MEMORY * free_memory()
-    return [f"{JOBS_NAME}={processors()}"] if is_enough and JOBS_NAME not in os.environ else []
+    proofs = processors() + 1
+    is_enough = proofs * PROOF_MEMORY <= USED_MEMORY * free_memory()
+    return [f"{JOBS_NAME}={proofs}"] if is_enough and JOBS_NAME not in os.environ else []
 
 
 def need_of(tree, crate):

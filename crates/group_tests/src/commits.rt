@@ -3,7 +3,7 @@
 use flex_wire::TaggedFields;
 use kip_msgs::{Array, CommitReply, CommitRequest, CommitRequestPartition, CommitRequestTopic};
 use std::alloc::{AllocError, Global};
-use test_support::tables::{cut, number};
+use test_support::tables::{cut, number, part_words};
 
 /// The request that words say: the member's id, its epoch, and for each partition `TOPIC:INDEX:OFFSET:LEADER`, with the leader's
 /// epoch, or `TOPIC:INDEX:OFFSET:LEADER:METADATA`.
@@ -47,8 +47,9 @@ fn partition_of(alloc: Global, fields: &str) -> CommitRequestPartition<'_> {
     }
 }
 
-/// The codes of all partitions, in the reply's order.
+/// The codes of all partitions, in the reply's order, behind what was told before.
 pub fn tell_codes(reply: &CommitReply<'_>, out: &mut String) -> Result<(), AllocError> {
+    part_words(out)?;
     out.push_str("codes:")?;
     for topic in reply.topics.as_slice() {
         for partition in topic.partitions.as_slice() {

@@ -7,7 +7,7 @@ use group_core::{
 };
 use group_types::EpochNumber;
 use group_types::limits::LONGEST_STRING;
-use kip_msgs::{Array, TopicPartitions};
+use kip_msgs::{Array, CommitRequest, TopicPartitions};
 use std::alloc::{AllocError, Global};
 use std::collections::hash_map::RandomState;
 use std::test::Fail;
@@ -164,15 +164,22 @@ fn tick(told: &mut Told, millis: i32, out: &mut String) -> Result<(), AllocError
     write!(out, "removed:{removed}")
 }
 
-/// Commits offsets. Where a growth is refused the commit is sent once more.
 fn commit(alloc: Global, told: &mut Told, words: &str, out: &mut String) -> Result<(), AllocError> {
     let request = commits::request_of(alloc, words)?;
+    put_codes(told, &request, out)
+}
+
+/// Commits offsets. Where a growth is refused the commit is sent once more.
+fn put_codes(
+    told: &mut Told,
+    request: &CommitRequest<'_>,
+    out: &mut String,
+) -> Result<(), AllocError> {
     let Told { group, image, .. } = told;
-    let reply = match group.commit(&request, image) {
+    let reply = match group.commit(request, image) {
         Ok(reply) => reply,
-        Err(AllocError) => group.commit(&request, image)?,
+        Err(AllocError) => group.commit(request, image)?,
     };
-    part_words(out)?;
     commits::tell_codes(&reply, out)
 }
 
@@ -204,11 +211,23 @@ fn request_of<'a>(
     verb: &str,
     words: &'a str,
 ) -> Result<HeartbeatRequest<'a>, AllocError> {
-    let (id, words) = cut(words);
-    let (first, second) = cut(words);
+    let (_, parts) = cut(words);
+    let (first, second) = cut(parts);
     let names = names_of(alloc, verb, first)?;
     let owned = owned_of(alloc, verb, second)?;
-    Ok(HeartbeatRequest {
+    Ok(with_lists(alloc, verb, words, names, owned))
+}
+
+fn with_lists<'a>(
+    alloc: Global,
+    verb: &str,
+    words: &'a str,
+    names: Option<Array<&'a str>>,
+    owned: Option<Array<TopicPartitions<'a>>>,
+) -> HeartbeatRequest<'a> {
+    let (id, words) = cut(words);
+    let (first, second) = cut(words);
+    HeartbeatRequest {
         group_id: "g",
         member_id: word_if(id != "-", id).unwrap_or(""),
         member_epoch: epoch_of(verb, first),
@@ -219,7 +238,7 @@ fn request_of<'a>(
         server_assignor: word_if(verb == "join" && !second.is_empty(), second),
         topic_partitions: owned,
         tags: TaggedFields::new(alloc),
-    })
+    }
 }
 
 fn word_if(is_said: bool, word: &str) -> Option<&str> {

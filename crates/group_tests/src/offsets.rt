@@ -8,7 +8,7 @@ use offset_guard::{Committed, Offsets};
 use std::alloc::{AllocError, Global};
 use std::collections::hash_map::RandomState;
 use std::test::Fail;
-use test_support::tables::{Answers, part_words, wrong_rows};
+use test_support::tables::{Answers, wrong_rows};
 use topic_meta::Image;
 use uuid::Uuid;
 
@@ -84,8 +84,16 @@ fn put_commit(
     out: &mut String,
 ) -> Result<(), AllocError> {
     let request = request_of(alloc, words)?;
-    let reply = commit(alloc, kept, &request, out)?;
-    part_words(out)?;
+    put_codes(alloc, kept, &request, out)
+}
+
+fn put_codes(
+    alloc: Global,
+    kept: &mut Kept,
+    request: &CommitRequest<'_>,
+    out: &mut String,
+) -> Result<(), AllocError> {
+    let reply = commit(alloc, kept, request, out)?;
     tell_codes(&reply, out)
 }
 

@@ -61,21 +61,20 @@ where
     requires entries { (entries.name ≡ A.name) × (entries.parts ≡ A.parts) × (entries.parts ≡ 4) }
     requires calls { (calls.name ≡ C.name) × (calls.parts ≡ C.parts) × (calls.parts ≡ 258) }
 {
-    let shards = shards_over::<A, C, G, _, R>(rt, gate, moments, entries, calls)?;
-    let (lines, far_ends) = lines_of(rt.alloc(), frames)?;
-    let served = served_over_memory(rt, &shards, moments, plan, lines)?;
-    let right = right_replies(rt.alloc(), &MockTask::new(rt)?, far_ends)?;
-    Ok((served, right, shards.gate().was_late()))
+    match shards_over::<A, C, G, _, R>(rt, gate, moments, entries, calls) {
+        Ok(shards) => told_over_memory(rt, &shards, moments, plan, frames),
+        Err(fault) => Err(fault),
+    }
 }
 
-/// How many lines in memory a server has served.
-fn served_over_memory<A, C, G, M, R>(
+/// The same, over these shards.
+fn told_over_memory<A, C, G, M, R>(
     rt: &R,
     shards: &Shards<A, C, G>,
     moments: &M,
     plan: Plan,
-    lines: VecDeque<MemoryLine>,
-) -> Result<u64, ServerFault>
+    frames: &[Vec<u8>],
+) -> Result<Told, ServerFault>
 where
     A: Ledger + Send + Sync,
     C: Ledger + Send + Sync,
@@ -83,15 +82,11 @@ where
     M: Moments + Clone + Send,
     R: Wait + Threads + Clock + Net + RandomSource + AllocGlobal + Sync,
 {
-    serve(
-        rt,
-        shards,
-        Listed { lines },
-        moments,
-        plan,
-        Unheard,
-        &unlogged(),
-    )
+    let (lines, far_ends) = lines_of(rt.alloc(), frames)?;
+    let incoming = Listed { lines };
+    let served = serve(rt, shards, incoming, moments, plan, Unheard, &unlogged())?;
+    let right = right_replies(rt.alloc(), &MockTask::new(rt)?, far_ends)?;
+    Ok((served, right, shards.gate().was_late()))
 }
 
 /// How many of the replies are right that were written into pipes whose other ends are gone.

@@ -178,19 +178,20 @@ where
     requires entries { (entries.name ≡ A.name) × (entries.parts ≡ A.parts) × (entries.parts ≡ 4) }
     requires calls { (calls.name ≡ C.name) × (calls.parts ≡ C.parts) × (calls.parts ≡ 258) }
 {
-    let shards = shards_over::<A, C, G, _, R>(rt, gate, moments, entries, calls)?;
-    let (served, right) = served_over_sockets(rt, &shards, moments, plan, client)?;
-    Ok((served, right, shards.gate().was_late()))
+    match shards_over::<A, C, G, _, R>(rt, gate, moments, entries, calls) {
+        Ok(shards) => told_over_sockets(rt, &shards, moments, plan, client),
+        Err(fault) => Err(fault),
+    }
 }
 
-/// How many connections of a client a server has served, and how many of their replies were right.
-fn served_over_sockets<A, C, G, M, R>(
+/// The same, over these shards.
+fn told_over_sockets<A, C, G, M, R>(
     rt: &R,
     shards: &Shards<A, C, G>,
     moments: &M,
     plan: Plan,
     client: Client<'_>,
-) -> Result<(u64, usize), ServerFault>
+) -> Result<Told, ServerFault>
 where
     A: Ledger + Send + Sync,
     C: Ledger + Send + Sync,
@@ -214,7 +215,7 @@ where
         move || serve_sockets(rt, shards, socket, moments, plan, Unheard, &unlogged()),
         move || read_all(gate, connections, reply, order),
     );
-    Ok((served?, right?))
+    Ok((served?, right?, gate.was_late()))
 }
 
 /// Two shards over a topic `t` of two partitions, whose gate holds threads up from now on.
@@ -235,14 +236,59 @@ where
     requires calls { (calls.name ≡ C.name) × (calls.parts ≡ C.parts) × (calls.parts ≡ 258) }
 {
     let hasher = RandomState::new(rt)?;
-    let shards = Shards::<A, C, G>::new(rt.alloc(), 2, 0, 0, hasher, gate, entries, calls)?;
-    set_image(rt, &shards, moments.clone()?)?;
-    shards.gate().arm();
-    Ok(shards)
+    match Shards::<A, C, G>::new(rt.alloc(), 2, 0, 0, hasher, gate, entries, calls) {
+        Ok(shards) => armed(rt, shards, moments),
+        Err(fault) => Err(ServerFault::from(fault)),
+    }
+}
+
+/// The shards with a topic `t` of two partitions, and their gate from now on.
+fn armed<A, C, G, M, R>(
+    rt: &R,
+    shards: Shards<A, C, G>,
+    moments: &M,
+) -> Result<Shards<A, C, G>, ServerFault>
+where
+    A: Ledger,
+    C: Ledger,
+    G: Watched,
+    M: Moments + Clone,
+    R: Wait + AllocGlobal,
+{
+    match set_image(rt, &shards, moments) {
+        Ok(()) => {
+            shards.gate().arm();
+            Ok(shards)
+        }
+        Err(fault) => Err(fault),
+    }
 }
 
 /// Gives every shard a topic `t` of two partitions.
-fn set_image<A, C, G, M, R>(rt: &R, shards: &Shards<A, C, G>, moments: M) -> Result<(), ServerFault>
+fn set_image<A, C, G, M, R>(
+    rt: &R,
+    shards: &Shards<A, C, G>,
+    moments: &M,
+) -> Result<(), ServerFault>
+where
+    A: Ledger,
+    C: Ledger,
+    G: Gate,
+    M: Moments + Clone,
+    R: Wait + AllocGlobal,
+{
+    let moments = moments.clone()?;
+    let image = image(rt.alloc())?;
+    give_image(rt, shards, moments, &image, &unlogged())
+}
+
+fn give_image<A, C, G, M, R>(
+    rt: &R,
+    shards: &Shards<A, C, G>,
+    moments: M,
+    image: &Image,
+    log: &EndLog<Vec<u8>>,
+) -> Result<(), ServerFault>
 where
     A: Ledger,
     C: Ledger,
@@ -250,10 +296,8 @@ where
     M: Moments,
     R: Wait + AllocGlobal,
 {
-    let image = image(rt.alloc())?;
-    let log = unlogged();
-    let mut desk = ShardsDesk::new(rt, rt.alloc(), shards, moments, &log)?;
-    desk.set_image(&image)?;
+    let mut desk = ShardsDesk::new(rt, rt.alloc(), shards, moments, log)?;
+    desk.set_image(image)?;
     Ok(())
 }
 

@@ -61,15 +61,66 @@ fn two_callers<A: Ledger + Sync, C: Ledger + Sync, R: Threads + Wait + Sync>(
     let made = Shards::<A, C, AlwaysOpen>::new(
         alloc, 2, 0, 65_536, hasher, AlwaysOpen, entries, calls,
     );
-    let shards = made.map_err(|_| AllocError)?;
-    let mut first = shards.seat(rt, alloc).map_err(|_| AllocError)?;
-    let mut second = shards.seat(rt, alloc).map_err(|_| AllocError)?;
-    let answers = call_by_two(rt, alloc, &shards, &mut first, &mut second)?;
-    let seats = vec![in alloc; first, second]?;
-    let mut out = calls_told(alloc, &seats, &answers)?;
-    let closed = shards.close(alloc, seats).map_err(|_| AllocError)?;
-    put_shards(alloc, hasher, &closed, &answers, &mut out)?;
-    Ok(out)
+    match made {
+        Ok(shards) => told_of_two(rt, alloc, hasher, shards),
+        Err(_) => Err(AllocError),
+    }
+}
+
+fn told_of_two<A: Ledger + Sync, C: Ledger + Sync, R: Threads + Wait + Sync>(
+    rt: &R,
+    alloc: Global,
+    hasher: RandomState,
+    shards: Shards<A, C, AlwaysOpen>,
+) -> Result<String, AllocError> {
+    match called_by_two(rt, alloc, &shards) {
+        Ok(called) => told_behind(alloc, hasher, shards, called),
+        Err(error) => Err(error),
+    }
+}
+
+/// Two seats from which was called, the answers that they had, and what is told of both.
+#[derive(Drop)]
+struct Called<C: Ledger> {
+    seats: Vec<Seat<C>>,
+    answers: Answers,
+    told: String,
+}
+
+fn called_by_two<A: Ledger + Sync, C: Ledger + Sync, R: Threads + Wait + Sync>(
+    rt: &R,
+    alloc: Global,
+    shards: &Shards<A, C, AlwaysOpen>,
+) -> Result<Called<C>, AllocError> {
+    let mut seats = seats_of(rt, alloc, shards, 2)?;
+    let [first, second] = seats.as_mut_slice() else {
+        return Err(AllocError);
+    };
+    let answers = call_by_two(rt, alloc, shards, first, second)?;
+    let told = calls_told(alloc, &seats, &answers)?;
+    Ok(Called {
+        seats,
+        answers,
+        told,
+    })
+}
+
+/// Closes the shards behind the calls, and adds what they come to.
+fn told_behind<A: Ledger, C: Ledger>(
+    alloc: Global,
+    hasher: RandomState,
+    shards: Shards<A, C, AlwaysOpen>,
+    called: Called<C>,
+) -> Result<String, AllocError> {
+    let Called {
+        seats,
+        answers,
+        told,
+    } = called;
+    match shards.close(alloc, seats) {
+        Ok(closed) => with_shards(alloc, hasher, &closed, &answers, told),
+        Err(_) => Err(AllocError),
+    }
 }
 
 /// The code of the heartbeat's answer, and how many calls each seat made.
@@ -84,19 +135,21 @@ fn calls_told<C: Ledger>(
     Ok(out)
 }
 
-/// Puts what the shards come to, and what is wrong with their entries.
-fn put_shards(
+/// Adds what the shards come to, and what is wrong with their entries.
+fn with_shards(
     alloc: Global,
     hasher: RandomState,
     shards: &[Shard],
     answers: &Answers,
-    out: &mut String,
-) -> Result<(), AllocError> {
+    told: String,
+) -> Result<String, AllocError> {
+    let mut told = told;
     for shard in shards {
-        put_shard(shard, out)?;
-        put_history(alloc, hasher, shard, answers, out)?;
+        put_shard(shard, &mut told)?;
+        put_history(alloc, hasher, shard, answers, &mut told)?;
     }
-    out.push_str(" closed")
+    told.push_str(" closed")?;
+    Ok(told)
 }
 
 /// Gives out `count` seats.
@@ -137,14 +190,29 @@ fn call_by_two<A: Ledger + Sync, C: Ledger + Sync, R: Threads + Wait + Sync>(
         || join_all(rt, alloc, shards, one, joins),
         || join_all(rt, alloc, shards, other, joins),
     );
-    let (mut first, second) = (first?, second?);
+    match (first, second) {
+        (Ok(first), Ok(second)) => beat_behind(rt, alloc, shards, one, Answers { first, second }),
+        _ => Err(AllocError),
+    }
+}
+
+/// Sends the heartbeat behind the joins, from the first of the seats.
+fn beat_behind<A: Ledger, C: Ledger, R: Wait>(
+    rt: &R,
+    alloc: Global,
+    shards: &Shards<A, C, AlwaysOpen>,
+    seat: &mut Seat<C>,
+    answers: Answers,
+) -> Result<Answers, AllocError> {
+    let mut answers = answers;
     let stamp = Stamp {
         connection: 2,
         frame: 1,
     };
-    let body = beat(alloc, &second)?;
-    first.push(ask(rt, alloc, shards, one, &body, stamp))?;
-    Ok(Answers { first, second })
+    let body = beat(alloc, &answers.second)?;
+    let answer = ask(rt, alloc, shards, seat, &body, stamp);
+    answers.first.push(answer)?;
+    Ok(answers)
 }
 
 /// Sends joins from a seat, in turn to the groups, and gives their answers.
@@ -351,9 +419,30 @@ fn four_callers<A: Ledger + Sync, C: Ledger + Sync, R: Threads + Wait + Sync>(
     requires calls { (calls.name ≡ C.name) × (calls.parts ≡ C.parts) × (calls.parts ≡ 260) }
 {
     let made = Shards::<A, C, AlwaysOpen>::new(alloc, 4, 0, 0, hasher, AlwaysOpen, entries, calls);
-    let shards = made.map_err(|_| AllocError)?;
-    let mut seats = seats_of(rt, alloc, &shards, 4)?;
-    let shared = &shards;
+    match made {
+        Ok(shards) => told_of_four(rt, alloc, shards),
+        Err(_) => Err(AllocError),
+    }
+}
+
+fn told_of_four<A: Ledger + Sync, C: Ledger + Sync, R: Threads + Wait + Sync>(
+    rt: &R,
+    alloc: Global,
+    shards: Shards<A, C, AlwaysOpen>,
+) -> Result<String, AllocError> {
+    match called_by_four(rt, alloc, &shards) {
+        Ok((seats, told)) => sums_behind(alloc, shards, seats, told),
+        Err(error) => Err(error),
+    }
+}
+
+/// Sends joins from four seats at the same time, and gives the seats and how many calls each made.
+fn called_by_four<A: Ledger + Sync, C: Ledger + Sync, R: Threads + Wait + Sync>(
+    rt: &R,
+    alloc: Global,
+    shards: &Shards<A, C, AlwaysOpen>,
+) -> Result<(Vec<Seat<C>>, String), AllocError> {
+    let mut seats = seats_of(rt, alloc, shards, 4)?;
     let joins = Joins {
         count: 250,
         groups: 4,
@@ -362,13 +451,24 @@ fn four_callers<A: Ledger + Sync, C: Ledger + Sync, R: Threads + Wait + Sync>(
         rt,
         seats.as_mut_slice(),
         4,
-        &|_, seat| send_all(rt, alloc, shared, seat, joins),
+        &|_, seat| send_all(rt, alloc, shards, seat, joins),
     );
-    let mut out = String::new(alloc);
-    put_calls(&seats, &mut out)?;
-    let closed = shards.close(alloc, seats).map_err(|_| AllocError)?;
-    put_sums(&closed, &mut out)?;
-    Ok(out)
+    let mut told = String::new(alloc);
+    put_calls(&seats, &mut told)?;
+    Ok((seats, told))
+}
+
+/// Closes the shards behind the calls, and adds their sums.
+fn sums_behind<A: Ledger, C: Ledger>(
+    alloc: Global,
+    shards: Shards<A, C, AlwaysOpen>,
+    seats: Vec<Seat<C>>,
+    told: String,
+) -> Result<String, AllocError> {
+    match shards.close(alloc, seats) {
+        Ok(closed) => with_sums(&closed, told),
+        Err(_) => Err(AllocError),
+    }
 }
 
 /// Sends joins from a seat, in turn to the groups.
@@ -384,15 +484,17 @@ fn send_all<A: Ledger, C: Ledger, R: Wait>(
     }
 }
 
-/// Puts how many entries of all shards each seat made, and how many are kept.
-fn put_sums(shards: &[Shard], out: &mut String) -> Result<(), AllocError> {
-    out.push_str(" counts")?;
+/// Adds how many entries of all shards each seat made, and how many are kept.
+fn with_sums(shards: &[Shard], told: String) -> Result<String, AllocError> {
+    let mut told = told;
+    told.push_str(" counts")?;
     for seat in 0..4 {
         let count = shards
             .iter()
             .fold(0u64, |sum, shard| sum.saturating_add(shard.count(seat)));
-        write!(out, " {count}")?;
+        write!(told, " {count}")?;
     }
     let kept = shards.iter().any(|shard| !shard.entries().is_empty());
-    write!(out, " kept {} closed {}", u8::from(kept), shards.len())
+    write!(told, " kept {} closed {}", u8::from(kept), shards.len())?;
+    Ok(told)
 }

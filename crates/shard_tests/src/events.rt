@@ -45,14 +45,17 @@ impl Answers for Events {
         let (call, words) = cut(question);
         let (shards, words) = cut(words);
         let event = event_of(alloc, 1, words)?;
-        if call == "copy" {
-            return write!(out, "{}", event.equals(&event.copy(alloc)?));
-        }
-        match number(shards) {
-            0 => Ok(()),
-            shards => write!(out, "{}", home(alloc, &event, shards)?),
+        match (call, number(shards)) {
+            ("copy", _) => put_is_copied(alloc, &event, out),
+            (_, 0) => Ok(()),
+            (_, shards) => write!(out, "{}", home(alloc, &event, shards)?),
         }
     }
+}
+
+fn put_is_copied(alloc: Global, event: &Event, out: &mut String) -> Result<(), AllocError> {
+    let copy = event.copy(alloc)?;
+    write!(out, "{}", event.equals(&copy))
 }
 
 /// What words say: a tick or an image for a shard, with its moment or with how many partitions it has; the join of a group, or a
@@ -170,12 +173,18 @@ pub fn put_answer(alloc: Global, answer: &Answer, out: &mut String) -> Result<()
 fn put_reply(alloc: Global, frame: &[u8], out: &mut String) -> Result<(), AllocError> {
     let body = frame.get(4..).unwrap_or(&[]);
     match read_reply(alloc, Api::Heartbeat, body) {
-        Ok(Reply::Heartbeat(_, reply)) => {
-            let shown = shown(&reply);
+        Ok(reply) => put_fields(&reply, out),
+        Err(_) => Err(AllocError),
+    }
+}
+
+fn put_fields(reply: &Reply<'_>, out: &mut String) -> Result<(), AllocError> {
+    match reply {
+        Reply::Heartbeat(_, reply) => {
+            let shown = shown(reply);
             write!(out, "{}@{}:{shown}", reply.error_code, reply.member_epoch)
         }
-        Ok(Reply::Commit(_, _)) => out.push('?'),
-        Err(_) => Err(AllocError),
+        Reply::Commit(_, _) => out.push('?'),
     }
 }
 

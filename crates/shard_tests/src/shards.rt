@@ -3,7 +3,7 @@
 ghost use Rattle.std.specs.Prelude.{◌≡◌, ◌+◌, ◌*◌, ◌≤◌};
 
 use crate::events::{ask, body_of, event_of, put_answer};
-use coord_shards::{AlwaysOpen, Answer, Seat, Shard, ShardFault, Shards, Stamp};
+use coord_shards::{AlwaysOpen, Answer, Seat, Shard, ShardFault, Shards, Stamp, Unclosed};
 use std::alloc::{AllocError, Global};
 use std::collections::hash_map::RandomState;
 use std::marker::Brand;
@@ -68,15 +68,26 @@ fn shards_answer_and_close(rt: HostRuntime) -> Result<(), Fail> {
 fn wrong_rows<R: Wait>(rt: &R, alloc: Global, hasher: RandomState) -> Result<String, AllocError> {
     let mut wrong = String::new(alloc);
     for row in SHARDS.lines().filter(|row| !row.is_empty()) {
-        let (question, wanted) = row.split_once(" = ").unwrap_or((row, ""));
-        let answer = answer(rt, alloc, hasher, question).or_else(|_| answer(
-            rt, alloc, hasher, question,
-        ))?;
-        if answer.as_str() != wanted {
-            writeln!(wrong, "{question} = {answer}")?;
-        }
+        look(rt, alloc, hasher, row, &mut wrong)?;
     }
     Ok(wrong)
+}
+
+/// Adds a row to the wrong ones where its answer is another one.
+fn look<R: Wait>(
+    rt: &R,
+    alloc: Global,
+    hasher: RandomState,
+    row: &str,
+    wrong: &mut String,
+) -> Result<(), AllocError> {
+    let (question, wanted) = row.split_once(" = ").unwrap_or((row, ""));
+    let first = answer(rt, alloc, hasher, question);
+    let answer = first.or_else(|_| answer(rt, alloc, hasher, question))?;
+    if answer.as_str() == wanted {
+        return Ok(());
+    }
+    writeln!(wrong, "{question} = {answer}")
 }
 
 /// What becomes of a question.
@@ -112,19 +123,29 @@ fn told<A: Ledger, C: Ledger, R: Wait>(
     requires entries { (entries.name ≡ A.name) × (entries.parts ≡ A.parts) × (entries.parts ≡ 2 * question.shards) }
     requires calls { (calls.name ≡ C.name) × (calls.parts ≡ C.parts) × (calls.parts ≡ 256 + question.shards) }
 {
-    let mut out = String::new(alloc);
     let Question { shards, cap, steps } = question;
     let made = Shards::<A, C, AlwaysOpen>::new(
         alloc, shards, 0, cap, hasher, AlwaysOpen, entries, calls,
     );
+    let mut out = String::new(alloc);
     match made {
-        Ok(shards) => {
-            let seats = send_all(rt, alloc, &shards, steps, &mut out)?;
-            close(alloc, shards, seats, &mut out)?;
-        }
+        Ok(shards) => send_and_close(rt, alloc, shards, steps, &mut out)?,
         Err(fault) => put_fault("fault", fault, &mut out)?,
     }
     Ok(out)
+}
+
+fn send_and_close<A: Ledger, C: Ledger, R: Wait>(
+    rt: &R,
+    alloc: Global,
+    shards: Shards<A, C, AlwaysOpen>,
+    steps: &str,
+    out: &mut String,
+) -> Result<(), AllocError> {
+    match send_all(rt, alloc, &shards, steps, out) {
+        Ok(seats) => close(alloc, shards, seats, out),
+        Err(error) => Err(error),
+    }
 }
 
 /// Puts a fault by its number. Want of memory is to be met by asking again.
@@ -135,7 +156,7 @@ fn put_fault(name: &str, fault: ShardFault, out: &mut String) -> Result<(), Allo
     }
 }
 
-/// Sends what the steps say, and gives the seats that were given out.
+/// Sends what the steps say, puts what each seat tells, and gives the seats that were given out.
 fn send_all<A: Ledger, C: Ledger, R: Wait>(
     rt: &R,
     alloc: Global,
@@ -147,16 +168,41 @@ fn send_all<A: Ledger, C: Ledger, R: Wait>(
     let mut frame = 0u64;
     for step in steps.split("; ").filter(|step| !step.is_empty()) {
         frame = frame.saturating_add(1);
-        let (seat, words) = cut(step);
-        if seat == "seats" {
-            sit(rt, alloc, shards, number(words), &mut seats, out)?;
-        } else if let Some(seat) = seats.get_mut(number::<usize>(seat)) {
-            let answer = call(rt, alloc, shards, seat, Step { frame, words }, out)?;
-            part_words(out)?;
-            put_answer(alloc, &answer, out)?;
-        }
+        take_step(
+            rt,
+            alloc,
+            shards,
+            Step { frame, words: step },
+            &mut seats,
+            out,
+        )?;
     }
+    put_seats(&seats, out)?;
     Ok(seats)
+}
+
+fn take_step<A: Ledger, C: Ledger, R: Wait>(
+    rt: &R,
+    alloc: Global,
+    shards: &Shards<A, C, AlwaysOpen>,
+    step: Step<'_>,
+    seats: &mut Vec<Seat<C>>,
+    out: &mut String,
+) -> Result<(), AllocError> {
+    let (seat, words) = cut(step.words);
+    if seat == "seats" {
+        return sit(rt, alloc, shards, number(words), seats, out);
+    }
+    let Some(seat) = seats.get_mut(number::<usize>(seat)) else {
+        return Ok(());
+    };
+    part_words(out)?;
+    let step = Step {
+        frame: step.frame,
+        words,
+    };
+    let answer = call(rt, alloc, shards, seat, step, out)?;
+    put_answer(alloc, &answer, out)
 }
 
 /// Gives out `count` seats. For each that isn't to be had the fault is written.
@@ -232,21 +278,34 @@ fn close<A: Ledger, C: Ledger>(
     seats: Vec<Seat<C>>,
     out: &mut String,
 ) -> Result<(), AllocError> {
-    part_words(out)?;
-    out.push('|')?;
-    put_seats(&seats, out)?;
     let mut seats = seats;
     let Some(last) = seats.pop() else {
         return close_all(alloc, shards, seats, out);
     };
     match shards.close(alloc, seats) {
         Ok(closed) => write!(out, " closed without a seat:{}", closed.len()),
-        Err(kept) => {
-            put_fault(" short", kept.fault, out)?;
-            let mut seats = kept.seats;
-            seats.push(last)?;
-            close_all(alloc, kept.shards, seats, out)
-        }
+        Err(kept) => close_with(alloc, kept, last, out),
+    }
+}
+
+/// Tells why the shards weren't closed, and closes them with one seat more.
+fn close_with<A: Ledger, C: Ledger>(
+    alloc: Global,
+    kept: Unclosed<A, C, AlwaysOpen>,
+    last: Seat<C>,
+    out: &mut String,
+) -> Result<(), AllocError> {
+    let Unclosed {
+        shards,
+        mut seats,
+        fault,
+    } = kept;
+    match put_fault(" short", fault, out) {
+        Ok(()) => match seats.push(last) {
+            Ok(()) => close_all(alloc, shards, seats, out),
+            Err(_) => Err(AllocError),
+        },
+        Err(error) => Err(error),
     }
 }
 
@@ -268,6 +327,8 @@ fn close_all<A: Ledger, C: Ledger>(
 
 /// Puts what each seat tells from which something was called.
 fn put_seats<C: Ledger>(seats: &[Seat<C>], out: &mut String) -> Result<(), AllocError> {
+    part_words(out)?;
+    out.push('|')?;
     for seat in seats.iter().filter(|seat| seat.calls() > 0) {
         let (number, calls, sent) = (seat.number(), seat.calls(), seat.sent().len());
         write!(out, " seat:{number} {calls} {sent}")?;
