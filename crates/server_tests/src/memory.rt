@@ -85,20 +85,20 @@ where
     let (lines, far_ends) = lines_of(rt.alloc(), frames)?;
     let incoming = Listed { lines };
     let served = serve(rt, shards, incoming, moments, plan, Unheard, &unlogged())?;
-    let right = right_replies(rt.alloc(), &MockTask::new(rt)?, far_ends)?;
+    let right = right_replies(rt, far_ends)?;
     Ok((served, right, shards.gate().was_late()))
 }
 
 /// How many of the replies are right that were written into pipes whose other ends are gone.
-fn right_replies(
-    alloc: Global,
-    task: &MockTask,
+fn right_replies<R: RandomSource + AllocGlobal>(
+    rt: &R,
     far_ends: Vec<DuplexStream>,
-) -> Result<usize, AllocError> {
+) -> Result<usize, ServerFault> {
+    let (alloc, task) = (rt.alloc(), MockTask::new(rt)?);
     let reply = frame_of(alloc, JOINED)?;
     let mut right = 0usize;
     for far in far_ends {
-        if written(alloc, task, far)?.as_slice() == reply.as_slice() {
+        if written(alloc, &task, far)?.as_slice() == reply.as_slice() {
             right = right.saturating_add(1);
         }
     }

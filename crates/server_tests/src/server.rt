@@ -11,7 +11,7 @@ use std::alloc::{AllocError, AllocGlobal, Global};
 use std::collections::hash_map::RandomState;
 use std::io::{Read, Write};
 use std::marker::Brand;
-use std::net::{Ipv4Addr, Net, SocketAddr, TcpListener, TcpStream};
+use std::net::{Ipv4Addr, Net, TcpListener, TcpStream};
 use std::random::RandomSource;
 use std::sync::Wait;
 use std::sync::ledger::{Blank, Ledger};
@@ -206,14 +206,12 @@ where
         + Sync,
 {
     let socket = TcpListener::bind(rt, (Ipv4Addr::LOCALHOST, 0))?;
-    let address = socket.local_addr()?;
-    let connections = connect_all(rt, rt.alloc(), address, client.frames)?;
-    let (gate, order) = (shards.gate(), client.order);
-    let reply = frame_of(rt.alloc(), JOINED)?;
+    let connections = connect_all(rt, rt.alloc(), &socket, client.frames)?;
+    let (alloc, gate, order) = (rt.alloc(), shards.gate(), client.order);
     let (served, right) = thread::join(
         rt,
         move || serve_sockets(rt, shards, socket, moments, plan, Unheard, &unlogged()),
-        move || read_all(gate, connections, reply, order),
+        move || read_all(alloc, gate, connections, order),
     );
     Ok((served?, right?, gate.was_late()))
 }
@@ -312,13 +310,14 @@ fn image(alloc: Global) -> Result<Image, AllocError> {
     Image::of(alloc, topics).map_err(|_| AllocError)
 }
 
-/// Connections of their own that were sent their frames, in order.
+/// Connections of their own to a socket that were sent their frames, in order.
 fn connect_all<R: Net<Stream = TcpStream>>(
     rt: &R,
     alloc: Global,
-    address: SocketAddr,
+    socket: &TcpListener,
     frames: &[Vec<u8>],
 ) -> io::Result<Vec<TcpStream>> {
+    let address = socket.local_addr()?;
     let mut connections = Vec::new(alloc);
     for frame in frames {
         let mut connection = TcpStream::connect(rt, address)?;
@@ -331,11 +330,12 @@ fn connect_all<R: Net<Stream = TcpStream>>(
 
 /// Reads the replies of the connections in an order, and says how many were right. Then all are closed.
 fn read_all<G: Watched>(
+    alloc: Global,
     gate: &G,
     connections: Vec<TcpStream>,
-    wanted: Vec<u8>,
     order: &[usize],
 ) -> io::Result<usize> {
+    let wanted = frame_of(alloc, JOINED)?;
     let mut connections = connections;
     let mut right = 0usize;
     for place in order {
