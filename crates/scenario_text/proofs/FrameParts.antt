@@ -2,10 +2,11 @@
 use Rattle.std.proofs.Common.{◌≡◌, ℕ, zero, suc, ◌+◌, ◌^◌, ◌<◌, ◌≤◌, List, [], ◌∷◌, ◌++◌, length, take, drop, get_or, refl, sym, ap, ◌∙◌, arith, length-append, take-append-drop}
 use Rattle.std.specs.Int.{w32, to_be_bytes, from_be_bytes}
 use Rattle.std.specs.Prelude.{pos}
-use Rattle.std.proofs.lemmas.List.{take_at, drop_at, length-take-le}
+use Rattle.std.proofs.lemmas.List.{take_at, length-take-le}
 use Rattle.std.proofs.lemmas.Nat.{be_bytes_4, from_be_bytes-to_be_bytes_4}
 use Rattle.flex_wire.specs.Spelling.{int32, signed}
 use Rattle.group_types.specs.Frames.{IsFrame}
+use Rattle.group_types.proofs.FrameLemmas.{frame_body}
 
 int32-pos : (n : ℕ) → int32 (pos n) ≡ to_be_bytes w32 n
 unfolding signed
@@ -27,7 +28,7 @@ frame_parts body frame framed small =
     let head = int32 (pos (length body)) in
     let cut = ap (take 4) framed.bytes ∙ take_at head body 4 (length-int32 (length body)) ∙ int32-pos (length body) in (
       ap (from_be_bytes w32) cut ∙ from_be_bytes-to_be_bytes_4 (length body) small,
-      ap (drop 4) framed.bytes ∙ drop_at head body 4 (length-int32 (length body)),
+      frame_body body frame framed,
     )
 
 bytes_of_take : (n : ℕ) (bytes : List ℕ) → ((i : ℕ) → get_or bytes i 0 < 256) → (i : ℕ) → get_or (take n bytes) i 0 < 256
@@ -51,8 +52,3 @@ frame_of_parts frame head body size are heads bodies long value right small =
       size = record { sfits = small };
       bytes = whole ∙ ap (λ n. to_be_bytes w32 n ++ body) right ∙ ap (λ l. l ++ body) (sym (int32-pos (length body)));
     }
-
--- the bodies of one frame are equally long
-pub one_body : (one other frame : List ℕ) → IsFrame one frame → IsFrame other frame → length one ≡ length other
-one_body one other frame a b =
-    omega (arith, ap length a.bytes, ap length b.bytes, length-append (int32 (pos (length one))) one, length-append (int32 (pos (length other))) other, length-int32 (length one), length-int32 (length other))
