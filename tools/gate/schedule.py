@@ -96,7 +96,7 @@ class Lanes:
 def proof_jobs():
     """What `rt ci` is told by its environment: to prove one crate more at once than there are processors, by one job each.
 
-    By itself it plans with two to three times the memory that our crates take, which leaves processors idle. It is left to that
+    By itself it plans with one and a half to three times the memory that our crates take, which leaves processors idle. It is left to that
     where it was told otherwise, or where there is less memory than so many of them take. The one more keeps all processors
     busy when the last of the long checks begin.
     """
