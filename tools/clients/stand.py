@@ -49,15 +49,29 @@ class Ports:
     def _takes(self, first: int, count: int) -> bool:
         """A name that begins with a null byte is of no file, and only one socket can have it."""
         try:
-            self.lock.bind(f"\0clients-ports-{first}")
+            self.lock.bind(f"\0loopback-ports-{first}")
             for port in range(first, first + count):
-                socket.create_server((HOST, port)).close()
+                self._bind(port)
             return True
         except OSError:
             return False
 
+    @staticmethod
+    def _bind(port: int) -> None:
+        """Fails where somebody listens. It doesn't listen itself: a program that another thread starts just now has the socket, too, until it runs,
+        and then nobody else could listen."""
+        with socket.socket() as taken:
+            taken.setsockopt(socket.SOL_SOCKET, socket.SO_REUSEADDR, 1)
+            taken.bind((HOST, port))
+
     def close(self) -> None:
         self.lock.close()
+
+    def __enter__(self) -> List[int]:
+        return self.numbers
+
+    def __exit__(self, *_: object) -> None:
+        self.close()
 
 
 class Stand:
