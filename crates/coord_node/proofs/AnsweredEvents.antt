@@ -1,5 +1,5 @@
 -- Whatever comes to a coordinator that serves has its answer: the step that there is, and the frame that spells it.
-use Rattle.std.proofs.Common.{◌≡◌, ℕ, zero, suc, ◌≤◌, ◌<◌, ◌+◌, ◌^◌, ℤ, pos, negsuc, Bool, true, false, cond, ◌||◌, nat_le, List, [], ◌∷◌, ◌++◌, length, map, Result, Ok, Err, Option, option_map, Some, None, All, IfSome, inl, inr, ◌⊎◌, refl, sym, ap, subst, ◌∙◌, arith}
+use Rattle.std.proofs.Common.{◌≡◌, ℕ, ◌≤◌, ◌<◌, ◌+◌, ◌^◌, ℤ, pos, Bool, true, false, cond, ◌||◌, List, [], ◌∷◌, ◌++◌, length, map, Ok, Err, Option, option_map, Some, None, All, IfSome, inl, inr, ◌⊎◌, refl, sym, ap, subst, ◌∙◌, arith}
 use Rattle.std.specs.Prelude.{FitsSigned, codes}
 use Rattle.std.specs.FinMap as finite
 use Rattle.std.specs.Int.{w16, w32}
@@ -11,8 +11,8 @@ use Rattle.std.proofs.lemmas.Bool.{cases_lt}
 use Rattle.std.proofs.lemmas.List.Elements.{All-from_recursion, All-map, All-weaker, recursion_from_All}
 use Rattle.flex_wire.specs.Laws.{AreBytes}
 use Rattle.flex_wire.specs.Spelling.{FitsNullableText, FitsText, FitsUuid, int32}
-use Rattle.kip_msgs.specs.Values.{AssignmentValue, CommitReplyTopicValue, CommitRequestPartitionValue, CommitRequestTopicValue, CommitRequestValue, HeartbeatRequestValue, ReplyValue, RequestHeaderValue, RequestValue, TopicPartitionsValue, commit_request, heartbeat_request}
-use Rattle.kip_msgs.specs.Spelling.{FitsAssignment, FitsCommitReply, FitsCommitReplyPartition, FitsCommitReplyTopic, FitsCommitRequest, FitsCommitRequestPartition, FitsCommitRequestTopic, FitsHeartbeatReply, FitsReply, FitsTopicPartitions, SpellsRequest, reply_body, request_body}
+use Rattle.kip_msgs.specs.Values.{CommitRequestPartitionValue, CommitRequestTopicValue, CommitRequestValue, ReplyValue, RequestValue, TopicPartitionsValue, commit_request, heartbeat_request}
+use Rattle.kip_msgs.specs.Spelling.{FitsAssignment, FitsCommitReply, FitsCommitReplyPartition, FitsCommitReplyTopic, FitsCommitRequest, FitsCommitRequestPartition, FitsCommitRequestTopic, FitsReply, FitsTopicPartitions, reply_body}
 use Rattle.kip_msgs.specs.Writable.{IsWritableAssignment, IsWritableTopic}
 use Rattle.kip_msgs.specs.Reading.{request_at}
 use Rattle.kip_msgs.proofs.RequestLaws.{read_spells, spells_read}
@@ -28,7 +28,7 @@ use Rattle.group_types.specs.Sets.{has, in_order, size}
 use Rattle.group_types.specs.Partition.{partition_cmp, Partitions}
 use Rattle.group_types.specs.Group.{Group, new_group}
 use Rattle.group_types.specs.Sound.{IsSound}
-use Rattle.group_types.specs.Commit.{Commit, Commitment, CommitReply, TopicCommitments, answers_by, code_of_taken, commit_reply, offsets_after, refusal_of_commit}
+use Rattle.group_types.specs.Commit.{Commitment, CommitReply, TopicCommitments, answers_by, code_of_taken, commit_reply, offsets_after, refusal_of_commit}
 use Rattle.group_types.specs.HeartbeatStep.{Arrival}
 use Rattle.group_types.specs.HeartbeatStep as group
 use Rattle.group_types.specs.Laws.{EveryGroupIsSound}
@@ -42,16 +42,16 @@ use Rattle.group_core.specs.Existence.{HasAnAnswer}
 use Rattle.kip_msgs.specs.Listing.{alone, before}
 use Rattle.group_core.specs.Listing.{listed}
 use Rattle.group_core.specs.Outcome.{reply_room}
-use Rattle.coord_node.specs.Answers.{CommitsIn, HasShortId, IsSendable}
-use Rattle.coord_node.specs.Coordinator.{Coordinator, Event, Frame, Tick, Image, Answer, Replied, Closes, Done, opening}
-use Rattle.coord_node.specs.Replies.{IsReplyFrame, assignment_value, commit_value, heartbeat_reply_value, reply_value}
+use Rattle.coord_node.specs.Answers.{CommitsIn, IsSendable}
+use Rattle.coord_node.specs.Coordinator.{Coordinator, Event, Frame, Tick, Image, Answer, Replied, Closes, opening}
+use Rattle.coord_node.specs.Replies.{IsReplyFrame, assignment_value, commit_value, reply_value}
 use Rattle.coord_node.specs.Steps.{CommitAt, FrameStepBy, HeartbeatAt, IsRequest, Makes, MakesBy, RequestStep, Run, Sends, Step, has_room, is_success, message_of}
 use Rattle.coord_node.specs.Existence.{CoordinatorsServe, EventsAreAnswered, IsComing, RunsAreAnswered}
 use Rattle.coord_node.specs.Laws.{IsServing, StepsAreSound}
 use Rattle.coord_node.proofs.CommitLemmas.{HasRoomInFrame-commit}
 use Rattle.coord_node.proofs.CommitLengths.{answers_of_topics, length-answers, length-commit_fields, length-topics_answers}
 use Rattle.coord_node.proofs.FittingAnswers.{AreWritten, IsTold, IsToldIn, IsWritten, is_told, refused_told}
-use Rattle.coord_node.proofs.LengthLemmas.{HaveAssignedIds, HaveIds}
+use Rattle.coord_node.proofs.LengthLemmas.{HaveAssignedIds}
 use Rattle.coord_node.proofs.ReplyLemmas.{FitsTaggedFields-nil, HasRoomInFrame-reply}
 use Rattle.coord_node.proofs.SoundGroups.{opening_serves, serves_on}
 
@@ -262,7 +262,7 @@ module _ (every : EveryGroupIsSound) (steps_are_sound : StepsAreSound Step) (hea
       let fits = is.spells.fits in
       let (reply, new, step, written) = commits_at c (finite.get c.groups v.group_id) v fits.1 in
       let long = length-commit_fields header v in
-      let most = is.most in
+      let most = is.is_body.1 in
       let whole = ap length is.spells.bytes in
       let commits : CommitsIn c v (commit_reply_value reply) new = record { reply = reply; step = step; says = refl } in
       let room = HasRoomInFrame-commit c new header.correlation_id v (commit_reply_value reply) (length body) (length body) commits fits.1 (omega arith) most (omega arith) in
@@ -272,12 +272,12 @@ module _ (every : EveryGroupIsSound) (steps_are_sound : StepsAreSound Step) (hea
   -- a body is a request or it isn't
   requests_or_none : (body : List ℕ) → AreBytes body → ((v : RequestValue) × IsRequest v body) ⊎ ((v : RequestValue) → ¬ IsRequest v body)
   requests_or_none body are = elim (cases_lt (length body) SMALLEST_BODY) [
-    | inl short ↦ inr (λ v is. let least = is.least in omega arith)
+    | inl short ↦ inr (λ v is. let least = is.is_body.0 in omega arith)
     | inr least ↦ elim (cases_lt LARGEST_BODY (length body)) [
-      | inl long ↦ inr (λ v is. let most = is.most in omega arith)
+      | inl long ↦ inr (λ v is. let most = is.is_body.1 in omega arith)
       | inr most ↦
           elim (request_at body) as (λ x. request_at body ≡ x → ((v : RequestValue) × IsRequest v body) ⊎ ((v : RequestValue) → ¬ IsRequest v body)) [
-            | Ok v ↦ λ is. inl (v, record { least = least; most = most; spells = read_spells body v are is })
+            | Ok v ↦ λ is. inl (v, record { is_body = (least, most); spells = read_spells body v are is })
             | Err fault ↦ λ is. inr (λ v other. let read = spells_read body v other.spells in cc)
           ] refl
     ]

@@ -1,5 +1,5 @@
 -- Every answer to a heartbeat can be spelled: a consistent group tells an epoch that fits, and assigns partitions of its view.
-use Rattle.std.proofs.Common.{◌≡◌, ℕ, zero, suc, ◌≤◌, ◌<◌, ◌+◌, ℤ, pos, negsuc, Bool, true, false, ◌||◌, ◌&&◌, nat_le, cond, List, [], ◌∷◌, ◌++◌, Option, Some, None, IfSome, max, ◌==◌, inl, refl, sym, ap, subst, ◌∙◌, arith, true≢false}
+use Rattle.std.proofs.Common.{◌≡◌, ℕ, suc, ◌≤◌, ◌+◌, ℤ, pos, negsuc, Bool, true, false, ◌||◌, ◌&&◌, nat_le, cond, [], ◌∷◌, ◌++◌, Option, Some, None, IfSome, max, ◌==◌, inl, refl, sym, ap, subst, ◌∙◌, arith, true≢false}
 use Rattle.std.specs.Prelude.{FitsSigned}
 use Rattle.std.specs.Cmp.{second_so}
 use Rattle.std.specs.Option.{MatchOption}
@@ -17,7 +17,7 @@ use Rattle.group_types.specs.declared.partition.Partition.{Partition}
 use Rattle.group_types.specs.Limits.{GREATEST_EPOCH, MOST_PARTITIONS, MOST_TOPIC_PARTITIONS}
 use Rattle.group_types.specs.Text.{Text}
 use Rattle.group_types.specs.Sets.{common, has, size}
-use Rattle.group_types.specs.Partition.{partition_cmp, Partitions}
+use Rattle.group_types.specs.Partition.{Partitions}
 use Rattle.group_types.specs.Topics.{Topics}
 use Rattle.group_types.specs.Images.{AreImageTopics}
 use Rattle.group_types.specs.MemberId.{made_id}
@@ -29,7 +29,7 @@ use Rattle.group_types.specs.Join.{IsNamed, Name, name_of_serial}
 use Rattle.group_types.specs.Leave.{last_epoch, last_epoch_at}
 use Rattle.group_types.specs.Renewal.{Renews, changed_if, is_subscribed, view_for}
 use Rattle.group_types.specs.Checks.{Verdict, Accepted, Refused, Overtaken, Member, Sender, sender_of, verdict_on}
-use Rattle.group_types.specs.HeartbeatStep.{Answer, Arrival, BeatsWith, ByVerdict, Closes, Draft, GoesAwayWith, HeartbeatStep, IsRefused, JoinsAs, Replied, Reply, Stages, StepOf, TakesIn, acceptance, assignment_of, draft_of_beat, draft_of_join, draft_under, epoch_number, farewell, is_news, refusal, shown}
+use Rattle.group_types.specs.HeartbeatStep.{Answer, Arrival, BeatsWith, ByVerdict, Closes, Draft, GoesAwayWith, HeartbeatStep, IsRefused, JoinsAs, Replied, Reply, Stages, StepOf, TakesIn, acceptance, assignment_of, draft_of_join, draft_under, epoch_number, farewell, is_news, refusal, shown}
 use Rattle.group_types.specs.Sound.{IsOfView}
 use Rattle.group_types.proofs.Consistent.{IsConsistent}
 use Rattle.group_types.proofs.Drafts.{IsReady, beat_is_ready, join_is_ready}

@@ -1,5 +1,5 @@
 -- How long a reply is spelled.
-use Rattle.std.proofs.Common.{◌≡◌, ℕ, zero, suc, ◌+◌, ◌*◌, ◌≤◌, ℤ, pos, Bool, true, false, cond, List, [], ◌∷◌, ◌++◌, length, Option, option_map, Some, None, All, IfSome, refl, ap, arith, nat_lt, ◌%◌, ◌/◌, length-append}
+use Rattle.std.proofs.Common.{◌≡◌, ℕ, zero, suc, ◌+◌, ◌*◌, ◌≤◌, ℤ, pos, true, false, cond, List, [], ◌∷◌, ◌++◌, length, Option, option_map, Some, None, All, IfSome, refl, ap, arith, nat_lt, ◌%◌, ◌/◌, length-append}
 use Rattle.std.specs.List.{flat_map}
 use Rattle.std.specs.Option.{option_map_or}
 use Rattle.group_types.specs.declared.code.Code.{Code}

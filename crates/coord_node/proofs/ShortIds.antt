@@ -1,5 +1,5 @@
 -- A reply names the id of the request, or one that was made, which is short.
-use Rattle.std.proofs.Common.{◌≡◌, ℕ, ◌≤◌, Bool, [], ◌∷◌, length, Option, Some, None, IfSome, max, refl, sym, ap, subst, arith}
+use Rattle.std.proofs.Common.{◌≡◌, ℕ, ◌≤◌, [], ◌∷◌, length, Option, Some, None, IfSome, max, refl, sym, ap, subst, arith}
 use Rattle.std.specs.Option.{MatchOption}
 use Rattle.group_types.specs.Limits.{LONGEST_STRING}
 use Rattle.group_types.specs.Text.{Text}

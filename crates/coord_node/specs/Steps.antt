@@ -1,9 +1,10 @@
 -- The coordinator's run: what each event does to the node, and what is answered.
-use Rattle.std.specs.Prelude.{◌≡◌, ◌⊎◌, ℕ, ◌≤◌, ℤ, Bool, true, false, nat_lt, List, [], ◌∷◌, length, map, sum_by, Option, Some, None}
+use Rattle.std.specs.Prelude.{◌≡◌, ◌⊎◌, ℕ, ℤ, Bool, true, false, nat_lt, List, [], ◌∷◌, map, sum_by, Option, Some, None}
 use Rattle.std.specs.FinMap as finite
 use Rattle.kip_msgs.specs.Values.{RequestValue, ReplyValue, heartbeat_request, commit_request}
 use Rattle.kip_msgs.specs.Spelling.{SpellsRequest}
-use Rattle.group_types.specs.Limits.{SMALLEST_BODY, LARGEST_BODY, MOST_GROUPS}
+use Rattle.group_types.specs.Limits.{MOST_GROUPS}
+use Rattle.group_types.specs.Frames.{IsBody}
 use Rattle.group_types.specs.declared.code.Code.{Code}
 use Rattle.group_types.specs.declared.code.Code.TheVariants.{NoError, UnknownTopicOrPartition, OffsetMetadataTooLarge, CoordinatorNotAvailable, UnknownMemberId, InvalidRequest, GroupIdNotFound, GroupMaxSizeReached, FencedMemberEpoch, UnreleasedInstanceId, UnsupportedAssignor, StaleMemberEpoch}
 use Rattle.group_types.specs.declared.stamp.Stamp.{Stamp}
@@ -100,8 +101,7 @@ RequestStep c (commit_request header v) stamp moment answer new =
 
 -- a body's length is within the limits, and it is the request
 pub record IsRequest (v : RequestValue) (body : List ℕ) : Type 0 where
-  pub least : SMALLEST_BODY ≤ length body
-  pub most : length body ≤ LARGEST_BODY
+  pub is_body : IsBody body
   pub spells : SpellsRequest v body
 
 -- what a request does to a coordinator

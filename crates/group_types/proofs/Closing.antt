@@ -1,8 +1,8 @@
 -- On which heartbeats a connection is closed.
-use Rattle.std.proofs.Common.{◌≡◌, ◌≢◌, ℤ, pos, negsuc, ℕ, zero, suc, false, ◌&&◌, int_le, refl, sym, ap, subst, ◌∙◌}
-use Rattle.group_types.specs.Request.{Heartbeat, Kind, Joins, Beats, Leaves, GoesAway, MeansNothing, is_unknown, is_unsupported, kind_of}
+use Rattle.std.proofs.Common.{◌≡◌, ◌≢◌, ℤ, pos, negsuc, ℕ, zero, suc, false, ◌&&◌, int_le, refl, ap, subst}
+use Rattle.group_types.specs.Request.{Heartbeat, Kind, Joins, Beats, is_unknown, is_unsupported, kind_of}
 use Rattle.group_types.specs.Group.{Group}
-use Rattle.group_types.specs.Checks.{Verdict, Overtaken, sender_of, verdict_on}
+use Rattle.group_types.specs.Checks.{sender_of}
 use Rattle.group_types.specs.HeartbeatStep.{Answer, Closes, Arrival, ByVerdict, StepOf, HeartbeatStep}
 use Rattle.group_types.proofs.Consistent.{IsConsistent, consistent}
 use Rattle.group_types.specs.Fencing.{ClosesOnTheOvertaken, IsInOrder, IsOvertaken}

@@ -1,12 +1,12 @@
 -- A member epoch rises where its member has given up what it lost.
-use Rattle.std.proofs.Common.{◌≡◌, ◌≢◌, ◌⊎◌, inl, inr, ◌<◌, Bool, true, false, not, ◌&&◌, ◌||◌, max, Option, Some, None, IsTrue, refl, sym, ap, subst, ◌∙◌, arith, true≢false}
+use Rattle.std.proofs.Common.{◌≡◌, ◌≢◌, ◌⊎◌, inl, inr, ◌<◌, Bool, true, false, not, ◌&&◌, ◌||◌, max, Option, Some, None, IsTrue, refl, sym, ap, ◌∙◌, arith, true≢false}
 use Rattle.std.specs.FinMap as finite
 use Rattle.group_types.specs.declared.partition.Partition.{Partition}
 use Rattle.group_types.specs.Text.{Text}
 use Rattle.group_types.specs.Sets.{common, has, is_nothing, minus}
 use Rattle.group_types.specs.Partition.{Partitions}
-use Rattle.group_types.specs.Request.{Heartbeat, reported}
-use Rattle.group_types.specs.Group.{Record, Records, Grants, Group, Target, held, wanted}
+use Rattle.group_types.specs.Request.{reported}
+use Rattle.group_types.specs.Group.{Record, Grants, Group, Target, held, wanted}
 use Rattle.group_types.specs.Leave.{away, last_epoch}
 use Rattle.group_types.specs.Settle.{may_move, grants_after, settled_record}
 use Rattle.group_types.specs.HeartbeatStep.{Answer, Arrival, Draft}

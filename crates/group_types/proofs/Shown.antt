@@ -1,5 +1,5 @@
 -- What a reply shows, and when it shows nothing.
-use Rattle.std.proofs.Common.{◌≡◌, ◌↔◌, ℕ, pos, negsuc, ℤ, Bool, true, false, not, ◌&&◌, ◌||◌, Option, Some, None, IsTrue, refl, sym, ap, subst, ◌∙◌, true≢false}
+use Rattle.std.proofs.Common.{◌≡◌, ℕ, pos, negsuc, ℤ, Bool, true, false, not, ◌&&◌, ◌||◌, Option, Some, None, IsTrue, refl, sym, ap, subst, ◌∙◌, true≢false}
 use Rattle.std.specs.Cmp.{first_so, second_so}
 use Rattle.std.specs.FinMap as finite
 use Rattle.group_types.specs.declared.partition.Partition.{Partition}
@@ -7,7 +7,7 @@ use Rattle.group_types.specs.Text.{Text}
 use Rattle.group_types.specs.Sets.{are_same, has}
 use Rattle.group_types.specs.Partition.{Partitions}
 use Rattle.group_types.specs.Owners.{owns}
-use Rattle.group_types.specs.Request.{Heartbeat, is_full}
+use Rattle.group_types.specs.Request.{is_full}
 use Rattle.group_types.specs.Group.{Record, Group, held, wanted}
 use Rattle.group_types.specs.HeartbeatStep.{Answer, Reply, Arrival, Draft, acceptance, assignment_of, is_news, sent_after, shown}
 use Rattle.group_types.proofs.Consistent.{consistent}

@@ -7,7 +7,7 @@ use Rattle.kip_msgs.specs.Values.{ResponseHeaderValue, HeartbeatReplyValue, Repl
 use Rattle.kip_msgs.specs.Spelling.{SpellsReply}
 use Rattle.member_core.specs.Client.{Client}
 use Rattle.member_core.specs.Taking as client
-use Rattle.member_core.specs.Taking.{Meaning, MeansSuccess, MeansFenced, MeansRetry, MeansEnd, meaning_of, news_of, News, Tells, TakesIf, after_news}
+use Rattle.member_core.specs.Taking.{Meaning, MeansSuccess, MeansFenced, MeansRetry, MeansEnd, meaning_of, news_of, News, Tells, after_news}
 use Rattle.member_core.specs.declared.meaning.Meaning as code
 use Rattle.member_core.specs.declared.meaning.Meaning.TheVariants as meanings
 use Rattle.member_core.specs.declared.news.News as told

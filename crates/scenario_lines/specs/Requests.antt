@@ -2,7 +2,7 @@
 use Rattle.std.specs.Prelude.{◌≡◌, ◌⊎◌, ℕ, List, [], ◌∷◌, ◌++◌, codes, decimal, Ok}
 use Rattle.hex.specs.Hex.{decode_of, encode_lower}
 use Rattle.group_types.specs.declared.stamp.Stamp.{Stamp}
-use Rattle.scenario_text.specs.RequestFrames.{IsRequestFrame}
+use Rattle.scenario_text.specs.RequestFrames.{IsFrameWithinLimits}
 use Rattle.coord_node.specs.Coordinator.{Coordinator, Frame, Answer, Replied, Closes, Done}
 use Rattle.coord_node.specs.Steps.{Step}
 use Rattle.scenario_text.specs.Reports.{line}
@@ -10,8 +10,8 @@ use Rattle.scenario_text.specs.Reports.{line}
 -- the coordinator answers the body of a frame, and other bytes close
 abbrev pub BytesStep : Coordinator → List ℕ → Stamp → ℕ → Answer → Coordinator → Type 0
 BytesStep c bytes stamp moment answer new =
-    ((body : List ℕ) × IsRequestFrame body bytes × Step c (Frame body stamp moment) answer new)
-    ⊎ (((body : List ℕ) → ¬ IsRequestFrame body bytes) × (answer ≡ Closes) × (new ≡ c))
+    ((body : List ℕ) × IsFrameWithinLimits body bytes × Step c (Frame body stamp moment) answer new)
+    ⊎ (((body : List ℕ) → ¬ IsFrameWithinLimits body bytes) × (answer ≡ Closes) × (new ≡ c))
 
 -- the frame of a reply in hex, `close`, or how many members were removed
 abbrev pub text_of : Answer → List ℕ

@@ -1,14 +1,14 @@
 //! The frame of a request.
 ghost use Rattle.std.specs.Prelude.{ℕ, List, IfSome, IfNone};
 ghost use Rattle.group_types.specs.Frames.{IsFrame};
-ghost use Rattle.scenario_text.specs.RequestFrames.{IsRequestFrame};
+ghost use Rattle.scenario_text.specs.RequestFrames.{IsFrameWithinLimits};
 
 use group_types::limits::{LARGEST_BODY, SMALLEST_BODY};
 
 /// The body of a frame, where its size is one that a body may have and is the number of the bytes after it.
 pub fn body_of(frame: &[u8]) -> Option<&[u8]>
-    ensures some { IfSome result (λ body. IsRequestFrame body.now frame.now) }
-    ensures none { IfNone result ((body : List ℕ) → ¬ IsRequestFrame body frame.now) }
+    ensures some { IfSome result (λ body. IsFrameWithinLimits body.now frame.now) }
+    ensures none { IfNone result ((body : List ℕ) → ¬ IsFrameWithinLimits body frame.now) }
 {
     let body = framed(frame)?;
     if body.len() < SMALLEST_BODY || LARGEST_BODY < body.len() {

@@ -1,5 +1,5 @@
 -- The partitions of a view in partition order, and who subscribes them.
-use Rattle.std.proofs.Common.{◌≡◌, ℕ, suc, ◌<◌, true, false, cond, List, [], ◌∷◌, pos, negsuc, ℤ, refl, sym, ap, subst, ◌∙◌, Some}
+use Rattle.std.proofs.Common.{◌≡◌, ℕ, suc, ◌<◌, true, false, cond, List, [], ◌∷◌, pos, refl, sym, ap, ◌∙◌, Some}
 use Rattle.std.specs.Cmp.{Equal-is}
 use Rattle.std.specs.FinMap as finite
 use Rattle.std.specs.FinMap.{find}

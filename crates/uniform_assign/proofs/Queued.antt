@@ -1,5 +1,5 @@
 -- The queue of a class's takers, and what a partition that is given changes in it.
-use Rattle.std.proofs.Common.{◌≡◌, ◌⊎◌, ℕ, zero, suc, ◌<◌, ◌≤◌, ◌+◌, List, [], ◌∷◌, ◌++◌, length, get_or, set as set_at, slice_get, refl, sym, ap, subst, ◌∙◌, arith, inl, inr, Option, Some, None, length-set, get_or-set_other, get_or-set_same}
+use Rattle.std.proofs.Common.{◌≡◌, ◌⊎◌, ℕ, zero, suc, ◌<◌, ◌≤◌, ◌+◌, List, [], ◌∷◌, ◌++◌, length, get_or, set as set_at, slice_get, refl, sym, ap, ◌∙◌, arith, inl, inr, Option, Some, None, length-set, get_or-set_other, get_or-set_same}
 use Rattle.std.specs.Global.{Vec}
 use Rattle.std.proofs.lemmas.List.{length-map, length_push, set-set}
 use Rattle.std.proofs.lemmas.Bool.{cases_lt, cases_order}

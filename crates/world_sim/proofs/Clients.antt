@@ -1,5 +1,5 @@
 -- What is kept beside a member stays true of it.
-use Rattle.std.proofs.Common.{◌≡◌, ℕ, suc, ◌+◌, Bool, true, false, List, [], drop, length, ◌++◌, Option, Some, None, unwrap_or, ◌≤◌, Result, Ok, Err, if◌then◌else◌, refl, sym, ap, subst, ◌∙◌, arith, string_bytes}
+use Rattle.std.proofs.Common.{◌≡◌, ℕ, suc, ◌+◌, Bool, true, false, List, [], drop, length, Option, Some, None, unwrap_or, ◌≤◌, Result, Ok, Err, if◌then◌else◌, refl, sym, ap, subst, ◌∙◌, arith}
 use Rattle.kip_msgs.specs.Values.{CommitRequestTopicValue}
 use Rattle.kip_msgs.specs.Spelling.{SpellsRequest}
 use Rattle.group_types.specs.Text.{Text}
@@ -14,7 +14,7 @@ use Rattle.std.specs.declared.alloc.AllocError.{AllocError}
 use Rattle.group_types.specs.declared.partition.Partition.{Partition}
 use Rattle.member_core.specs.Client.{Client}
 use Rattle.member_core.specs.Asking.{Ask, Join, Beat, Leave, GoAway, after_asking, after_giving_up}
-use Rattle.member_core.specs.Taking.{News, Accepts, Fences, Retries, Ends, TakesIf, after_news, showing}
+use Rattle.member_core.specs.Taking.{News, Accepts, Fences, Retries, Ends, TakesIf, after_news}
 use Rattle.group_types.specs.Limits.{LARGEST_BODY}
 use Rattle.group_types.specs.Partition.{Partitions}
 use Rattle.member_core.specs.Releasing.{after_release, released_if}

@@ -1,13 +1,12 @@
 -- What becomes of messages that the coordinator answers.
-use Rattle.std.proofs.Common.{◌≡◌, ◌⊎◌, ℕ, suc, ◌+◌, ◌≤◌, Bool, true, false, not, List, [], ◌∷◌, ◌++◌, length, drop, map, Option, Some, None, refl, sym, ap, subst, ◌∙◌, inl, inr, zero-lt-suc}
+use Rattle.std.proofs.Common.{◌≡◌, ℕ, suc, ◌+◌, ◌≤◌, List, [], ◌++◌, length, drop, Some, refl, sym, ap, subst, ◌∙◌, inl, inr, zero-lt-suc}
 use Rattle.flex_wire.specs.Spelling.{signed}
-use Rattle.kip_msgs.specs.Values.{RequestHeaderValue, HeartbeatRequestValue, ResponseHeaderValue, HeartbeatReplyValue, CommitReplyValue, CommitRequestTopicValue, RequestValue, heartbeat_request, commit_request, commit_reply}
+use Rattle.kip_msgs.specs.Values.{RequestHeaderValue, HeartbeatRequestValue, ResponseHeaderValue, HeartbeatReplyValue, RequestValue, heartbeat_request, commit_request, commit_reply}
 use Rattle.kip_msgs.specs.Values.{CommitRequestValue}
 use Rattle.kip_msgs.specs.Spelling.{SpellsRequest, SpellsReply, request_body, request_header_fields}
 use Rattle.kip_msgs.specs.Laws.{OneRequestABody}
-use Rattle.group_types.specs.Limits.{LARGEST_BODY, SMALLEST_BODY}
+use Rattle.group_types.specs.Limits.{LARGEST_BODY}
 use Rattle.group_types.proofs.FrameLemmas.{frame_body}
-use Rattle.group_types.specs.Commit.{CommitReply}
 use Rattle.group_types.specs.HeartbeatStep as group
 use Rattle.offset_guard.specs.Replies.{commit_reply_value}
 use Rattle.coord_node.specs.declared.event.Answered.TheVariants as kinds
@@ -15,7 +14,6 @@ use Rattle.coord_node.specs.Coordinator.{Coordinator, Answer, Frame, Replied, Cl
 use Rattle.coord_node.specs.Replies.{heartbeat_reply_value}
 use Rattle.coord_node.specs.Steps.{RequestStep, Sends, Step, message_of, IsRequest}
 use Rattle.coord_node.specs.Answers as node
-use Rattle.world_sim.specs.declared.shown.Shown.{Shown}
 use Rattle.world_sim.specs.declared.shown.Shown.TheVariants as shows
 use Rattle.world_sim.specs.World.{World, Request, Commit, with_coordinator, with_reply}
 use Rattle.world_sim.specs.Acts.{Outcome, IsReplied, IsClosed, IsAnswered, Pools, Answers, BringStep, no_stamp}
@@ -30,7 +28,7 @@ some_bytes header v = zero-lt-suc _
 pub commit_is_request : (header : RequestHeaderValue) (v : CommitRequestValue) (body : List ℕ) → SpellsRequest (commit_request header v) body → length body ≤ LARGEST_BODY
     → IsRequest (commit_request header v) body
 commit_is_request header v body spells most =
-    record { least = subst (λ (b : List ℕ). 1 ≤ length b) (sym spells.bytes) (some_bytes header v); most = most; spells = spells }
+    record { is_body = (subst (λ (b : List ℕ). 1 ≤ length b) (sym spells.bytes) (some_bytes header v), most); spells = spells }
 
 module _ (one_request : OneRequestABody) (w : World) where
   -- ---- a request

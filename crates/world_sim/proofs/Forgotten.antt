@@ -1,5 +1,5 @@
 -- Joins under ids that aren't remembered.
-use Rattle.std.proofs.Common.{◌≡◌, Bool, true, false, not, List, ℕ, Option, Some, None, refl, sym, ap, subst, ◌∙◌}
+use Rattle.std.proofs.Common.{◌≡◌, Bool, not, List, ℕ, Option, Some, None, refl, ap, ◌∙◌}
 use Rattle.kip_msgs.specs.Values.{RequestHeaderValue, HeartbeatRequestValue, RequestValue, heartbeat_request}
 use Rattle.kip_msgs.specs.Spelling.{SpellsRequest}
 use Rattle.kip_msgs.specs.Laws.{OneRequestABody}

@@ -94,7 +94,7 @@ some_bytes header v = zero-lt-suc _
 pub heartbeat_is_request : (header : RequestHeaderValue) (v : HeartbeatRequestValue) (body : List ℕ) → SpellsRequest (heartbeat_request header v) body → length body ≤ LARGEST_BODY
     → IsRequest (heartbeat_request header v) body
 heartbeat_is_request header v body spells most =
-    record { least = subst (λ (b : List ℕ). 1 ≤ length b) (sym spells.bytes) (some_bytes header v); most = most; spells = spells }
+    record { is_body = (subst (λ (b : List ℕ). 1 ≤ length b) (sym spells.bytes) (some_bytes header v), most); spells = spells }
 
 abbrev pub IsReply : Outcome → Type 0
 IsReply outcome = (k : ℕ) × (said : HeartbeatReplyValue) × (outcome ≡ IsReplied k said)

@@ -1,5 +1,5 @@
 -- Where every group has the grants that it had, no commit has anything to be cut.
-use Rattle.std.proofs.Common.{◌≡◌, ℕ, suc, ◌+◌, Bool, true, false, cond, List, [], ◌∷◌, length, map, sum_by, Option, Some, None, IsTrue, inl, inr, refl, sym, ap, ap₂, subst, ◌∙◌, arith}
+use Rattle.std.proofs.Common.{◌≡◌, ℕ, suc, ◌+◌, Bool, true, false, cond, List, [], ◌∷◌, length, map, sum_by, Option, Some, None, inl, inr, refl, sym, ap, ap₂, subst, ◌∙◌, arith}
 use Rattle.std.proofs.lemmas.List.Sums.{sum_by-cons}
 use Rattle.std.specs.Option.{option_map}
 use Rattle.std.specs.Ordering.{eq_by_cmp}
@@ -7,12 +7,11 @@ use Rattle.std.specs.FinMap as finite
 use Rattle.std.specs.FinMap.{find}
 use Rattle.kip_msgs.specs.Values.{RequestValue, commit_request}
 use Rattle.kip_msgs.specs.Laws.{OneRequestABody}
-use Rattle.group_types.specs.declared.partition.Partition.{Partition}
 use Rattle.group_types.specs.declared.stamp.Stamp.{Stamp}
 use Rattle.group_types.specs.Text.{Text, text_cmp}
 use Rattle.group_types.specs.Sets.{has}
 use Rattle.group_types.specs.Partition.{Partitions}
-use Rattle.group_types.specs.Group.{Grants, Group, Record, new_group}
+use Rattle.group_types.specs.Group.{Grants, Group, Record}
 use Rattle.group_types.specs.Tick.{at_moment, due, expired, removed_by_tick, ticked}
 use Rattle.group_types.specs.Commit as group
 use Rattle.group_types.specs.Commit.{CommitReply}
@@ -20,7 +19,7 @@ use Rattle.group_types.proofs.GrantLemmas.{has-held}
 use Rattle.group_types.proofs.Lookups.{Tie, ties, differs, tie, not_none, some_is}
 use Rattle.group_epochs.specs.Request.{commit_of}
 use Rattle.coord_node.specs.Coordinator.{Coordinator, Answer, Replied, Closes, Done, Image, Tick}
-use Rattle.coord_node.specs.Steps.{CommitAt, FrameStepBy, RequestStep, Step, all_ticked, removed_from_all, with_group}
+use Rattle.coord_node.specs.Steps.{CommitAt, FrameStepBy, RequestStep, Step, removed_from_all, with_group}
 use Rattle.member_core.specs.Asking.{header_of}
 use Rattle.member_core.specs.Committing.{commit_value}
 use Rattle.world_sim.specs.World.{World, Commit, cut, granted}

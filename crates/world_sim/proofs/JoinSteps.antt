@@ -1,5 +1,5 @@
 -- A join of a new member is a turn, from its draft on.
-use Rattle.std.proofs.Common.{◌≡◌, suc, ◌<◌, ◌≤◌, ◌==◌, Bool, true, false, ◌&&◌, ◌||◌, if◌then◌else◌, Option, Some, None, refl, sym, ap, subst, ◌∙◌, ⊎_elim, true≢false, arith, nat_le}
+use Rattle.std.proofs.Common.{◌≡◌, suc, ◌<◌, ◌≤◌, ◌==◌, Bool, true, false, ◌&&◌, ◌||◌, if◌then◌else◌, Some, None, refl, sym, ap, subst, ◌∙◌, ⊎_elim, true≢false, arith, nat_le}
 use Rattle.std.specs.List.{Contains}
 use Rattle.std.specs.FinMap as finite
 use Rattle.group_types.specs.declared.code.Code.TheVariants as codes

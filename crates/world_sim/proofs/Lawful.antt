@@ -1,10 +1,8 @@
 -- A renewed target is lawful, also once its member has settled.
-use Rattle.std.proofs.Common.{◌≡◌, ◌≢◌, ℕ, suc, ◌==◌, Bool, true, false, cond, ◌&&◌, ◌||◌, nat_le, max, List, [], ◌∷◌, map, Option, Some, None, refl, sym, ap, subst, ◌∙◌, inl, inr}
+use Rattle.std.proofs.Common.{◌≡◌, ◌≢◌, ℕ, suc, ◌==◌, Bool, true, false, cond, ◌&&◌, nat_le, max, List, [], ◌∷◌, map, Option, Some, None, refl, sym, ap, subst, ◌∙◌, inl, inr}
 use Rattle.std.specs.List.{All, AllByRecursion, Contains}
 use Rattle.std.specs.Option.{MatchOption, option_map}
 use Rattle.std.specs.Ordering.{eq_by_cmp}
-use Rattle.std.specs.Str.{bytes_eq}
-use Rattle.std.proofs.lemmas.Slice.Eq.{bytes_eq-Decides}
 use Rattle.std.specs.FinMap as finite
 use Rattle.std.specs.FinMap.{find}
 use Rattle.std.proofs.lemmas.List.Elements.{All-contains, All-from_recursion, All-map}
@@ -20,24 +18,21 @@ use Rattle.group_types.specs.Text.{Text, text_cmp}
 use Rattle.group_types.specs.Partition.{Partitions}
 use Rattle.group_types.specs.Topics.{Topics}
 use Rattle.group_types.specs.Assignors.{Subscriber, assignor_of}
-use Rattle.group_types.specs.Owners.{Spread, IsLawful, IsSubscribed, IsSubscriber, renamed, renamed_id}
-use Rattle.group_types.specs.Request.{Heartbeat, Kind, Joins, Beats, Leaves, GoesAway, MeansNothing, kind_of, is_full, reported}
+use Rattle.group_types.specs.Owners.{Spread, IsLawful, IsSubscribed, IsSubscriber}
+use Rattle.group_types.specs.Request.{Heartbeat, Kind, Joins, Beats, Leaves, GoesAway, MeansNothing, kind_of, reported}
 use Rattle.group_types.specs.Group.{Group, Record, Records, Target, wanted}
 use Rattle.group_types.specs.Settle.{arrived, asked, may_settle, settled, settled_by, settled_record}
 use Rattle.group_types.specs.Renewal.{AreOwners, IsTarget, RenewsWhere, changed_if, subscriber_of, view_for}
-use Rattle.group_types.specs.Join.{IsNamed, Name}
-use Rattle.group_types.specs.Checks.{Verdict, Accepted, Refused, Overtaken, Member, Sender, checks_of, sender_of, verdict_on}
+use Rattle.group_types.specs.Join.{Name}
+use Rattle.group_types.specs.Checks.{Verdict, Accepted, Refused, Overtaken, Member, Sender, sender_of, verdict_on}
 use Rattle.group_types.specs.HeartbeatStep.{Answer, Arrival, Draft, BeatsWith, ByVerdict, GoesAwayWith, HeartbeatStep, IsRefused, Stages, StepOf, TakesIn, draft_of_beat, draft_of_join, draft_under, sent_after}
 use Rattle.group_types.specs.Sound.{IsSound}
 use Rattle.group_types.proofs.Entries.{entries_found}
-use Rattle.group_types.proofs.Lookups.{Found, this, another, found, found_without, Tie, ties, differs, tie, get-inserted, get-insert_other, not_none, some_is, text_ties}
-use Rattle.group_types.proofs.Orders.{text_cmp_total}
-use Rattle.group_types.proofs.SpreadLemmas.{get-renamed}
+use Rattle.group_types.proofs.Lookups.{Found, this, another, found, Tie, ties, differs, tie, get-inserted, get-insert_other, not_none, some_is, text_ties}
 use Rattle.range_assign.specs.Laws.{RangeIsLawful}
 use Rattle.uniform_assign.specs.Laws.{UniformIsLawful}
 use Rattle.world_sim.specs.Exclusivity.{HasLawfulTarget, subscribers}
 use Rattle.world_sim.proofs.Lists.{In, from_in}
-use Rattle.world_sim.proofs.Verdicts.{none_applies}
 
 -- ---- who subscribes, by the records
 

@@ -1,5 +1,5 @@
 -- An act leaves a live world live.
-use Rattle.std.proofs.Common.{◌≡◌, ◌⊎◌, ℕ, zero, suc, ◌≤◌, ◌<◌, ◌+◌, ℤ, pos, negsuc, Bool, true, false, ◌&&◌, ◌||◌, not, nat_le, List, [], ◌∷◌, ◌++◌, map, length, Option, option_map, Some, None, All, IfSome, inl, inr, refl, sym, ap, subst, ◌∙◌, arith, true≢false}
+use Rattle.std.proofs.Common.{◌≡◌, ◌⊎◌, ℕ, zero, suc, ◌+◌, ℤ, pos, negsuc, Bool, true, false, ◌||◌, not, List, [], ◌∷◌, ◌++◌, map, length, Option, option_map, Some, None, IfSome, inl, inr, refl, sym, ap, subst, ◌∙◌, arith, true≢false}
 use Rattle.std.specs.Prelude.{FitsSigned}
 use Rattle.std.specs.Cmp.{Equal-is, second_so}
 use Rattle.std.specs.Int.{w32}
@@ -8,8 +8,8 @@ use Rattle.std.specs.Ordering.{eq_by_cmp}
 use Rattle.std.proofs.lemmas.Bool.{leb-true}
 use Rattle.std.proofs.lemmas.List.Elements.{recursion_from_All}
 use Rattle.flex_wire.specs.Spelling.{FitsNullableText, FitsText, FitsUuid}
-use Rattle.kip_msgs.specs.Values.{AssignmentValue, HeartbeatReplyValue, TopicPartitionsValue}
-use Rattle.kip_msgs.specs.Spelling.{FitsAssignment, FitsHeartbeatReply, FitsTopicPartitions, SpellsRequest}
+use Rattle.kip_msgs.specs.Values.{AssignmentValue, TopicPartitionsValue}
+use Rattle.kip_msgs.specs.Spelling.{FitsAssignment, FitsTopicPartitions, SpellsRequest}
 use Rattle.group_types.specs.Limits.{LARGEST_BODY}
 use Rattle.group_types.specs.declared.partition.Partition.{Partition}
 use Rattle.group_types.specs.Text.{Text}
@@ -32,7 +32,7 @@ use Rattle.member_core.specs.Settings.{FitsSettings}
 use Rattle.member_core.specs.Taking as taking
 use Rattle.member_core.specs.Taking.{Accepts, Ends, Fences, Meaning, MeansEnd, MeansFenced, MeansRetry, MeansSuccess, News, Retries, TakesIf, Tells, after_news, assigned, meaning_of, news_by, showing}
 use Rattle.world_sim.specs.World.{Commit, Reply, Request, World, cut, numbered, renumbered, with_client, with_commit, with_coordinator, with_reply, with_request}
-use Rattle.world_sim.specs.Acts.{Act, ActStep, Answers, Asks, AsksIf, AsksStep, Bring, BringStep, ChangesIf, Clock, Commits, CommitsBy, CommitsIf, CommitsStep, Deliver, DeliversIf, DeliverStep, GivesUp, GivesUpStep, Outcome, Passes, Pools, Release, ReleaseStep, Sees, SendsIf, Take, TakeBy, TakenAs, TakeStep, commit_by, fits_frame, is_forgotten, may_commit}
+use Rattle.world_sim.specs.Acts.{Act, ActStep, Answers, Asks, AsksIf, AsksStep, Bring, BringStep, ChangesIf, Clock, Commits, CommitsBy, CommitsIf, CommitsStep, Deliver, DeliversIf, DeliverStep, GivesUp, GivesUpStep, Outcome, Passes, Pools, Release, ReleaseStep, Sees, SendsIf, Take, TakeBy, TakenAs, TakeStep, commit_by, fits_frame, is_forgotten}
 use Rattle.world_sim.specs.Existence.{ActsLeaveLiveWorlds, CanBeTaken, IsCommit, IsLive, IsPooled}
 use Rattle.world_sim.proofs.Delivered.{commit_is_request}
 use Rattle.world_sim.proofs.FullTurns.{heartbeat_is_request}

@@ -21,7 +21,7 @@ use Rattle.group_types.specs.Text.{Text, text_cmp}
 use Rattle.group_types.specs.Sets.{has, is_nothing, minus, nothing, with_one}
 use Rattle.group_types.specs.Partition.{partition_cmp, Partitions}
 use Rattle.group_types.specs.Topics.{Topics}
-use Rattle.group_types.specs.Request.{Joins, is_full, reported}
+use Rattle.group_types.specs.Request.{Joins, reported}
 use Rattle.group_types.specs.Assignors.{Subscriber, assignor_of, member_cmp}
 use Rattle.group_types.specs.Owners.{IsRange}
 use Rattle.group_types.specs.Group.{Record, Records, Target, Grants, Group, held, wanted}

@@ -294,7 +294,7 @@ module _ (x : Newcomer) (e : Exchange) (is : IsSpelled x e) where
           subst (λ b. DeliversIf b w (sent_in x e after) (IsReplied (suc (length w.replies)) (value_in x e)) (answering x e after w c)) (sym known) (
             Replied (int32 (pos (length (reply_bytes x e))) ++ reply_bytes x e),
             c,
-            inl (request_in x e, record { least = leb-true 1 (length (request_bytes x e)) is.sized.some_bytes; most = leb-true (length (request_bytes x e)) LARGEST_BODY is.sized.request_fits; spells = request_spelled }, requested),
+            inl (request_in x e, record { is_body = (leb-true 1 (length (request_bytes x e)) is.sized.some_bytes, leb-true (length (request_bytes x e)) LARGEST_BODY is.sized.request_fits); spells = request_spelled }, requested),
             (reply_bytes x e, header_in e, value_in x e, framed, reply_spelled, (refl, refl)),
           ),
         )

@@ -1,16 +1,15 @@
 -- That an act's step is made, from what the code's parts did.
-use Rattle.std.proofs.Common.{◌≡◌, ℕ, suc, Bool, true, false, not, ◌&&◌, nat_le, List, [], ◌∷◌, ◌++◌, length, map, Option, Some, None, IsTrue, refl, sym, ap, subst, ◌∙◌, if◌then◌else◌}
+use Rattle.std.proofs.Common.{◌≡◌, ℕ, suc, Bool, true, false, List, length, Option, Some, None, refl, sym, subst, if◌then◌else◌}
 use Rattle.group_types.specs.declared.partition.Partition.{Partition}
-use Rattle.group_types.specs.declared.stamp.Stamp.{Stamp}
 use Rattle.kip_msgs.specs.Values.{CommitRequestTopicValue}
 use Rattle.member_core.specs.Client.{Client, state_of}
-use Rattle.member_core.specs.Asking.{Ask, may_ask, request_for, after_giving_up}
+use Rattle.member_core.specs.Asking.{Ask, request_for, after_giving_up}
 use Rattle.member_core.specs.Taking as taking
 use Rattle.member_core.specs.Releasing.{may_release, after_release}
 use Rattle.world_sim.specs.declared.fault.WorldFault.{WorldFault}
 use Rattle.world_sim.specs.declared.fault.WorldFault.TheVariants as faults
 use Rattle.world_sim.specs.World.{World, Request, Reply, Commit, numbered, with_client, with_request}
-use Rattle.world_sim.specs.Acts.{Act, Asks, GivesUp, Deliver, Take, Release, Commits, Bring, NoSuchClient, NoSuchMessage, WrongState, Outcome, IsRefused, IsSent, Is, IsIgnored, ActStep, AsksStep, AsksIf, SendsIf, GivesUpStep, ReleaseStep, ChangesIf, TakeStep, TakeBy, TakenAs, CommitsStep, CommitsIf, CommitsBy, DeliverStep, BringStep, stamp_of, with_sent, may_commit, commit_by}
+use Rattle.world_sim.specs.Acts.{Asks, GivesUp, Deliver, Take, Release, Commits, Bring, NoSuchClient, NoSuchMessage, WrongState, Outcome, IsRefused, IsSent, Is, IsIgnored, ActStep, AsksStep, AsksIf, SendsIf, GivesUpStep, ReleaseStep, ChangesIf, TakeStep, TakeBy, CommitsStep, DeliverStep, BringStep, stamp_of, with_sent}
 use Rattle.world_sim.specs.Standing.{CannotAsk}
 use Rattle.world_sim.specs.Clients.{AsksWithin}
 use Rattle.world_sim.specs.Acting.{IsRefusedFor}

@@ -1,9 +1,8 @@
 -- That a scene's acts are the world's.
 use Rattle.std.proofs.lemmas.List.{length-map}
-use Rattle.std.proofs.Common.{◌≡◌, ◌⊎◌, ℕ, suc, ◌+◌, ◌<◌, ◌≤◌, Bool, true, false, List, [], ◌∷◌, ◌++◌, length, map, set, slice_get, Option, Some, None, Ok, Err, Result, inl, inr, refl, sym, ap, ap₂, subst, ◌∙◌, add-one, arith, length-append}
+use Rattle.std.proofs.Common.{◌≡◌, ◌⊎◌, ℕ, suc, ◌+◌, ◌<◌, true, false, List, [], ◌∷◌, ◌++◌, length, map, slice_get, Option, Some, None, Ok, Err, Result, refl, sym, ap, ap₂, subst, ◌∙◌, add-one, length-append}
 use Rattle.group_types.specs.declared.partition.Partition.{Partition}
 use Rattle.group_types.specs.declared.stamp.Stamp.{Stamp}
-use Rattle.kip_msgs.specs.Values.{CommitRequestTopicValue}
 use Rattle.member_core.specs.Client.{Client, state_of}
 use Rattle.member_core.specs.Asking.{Ask, after_giving_up}
 use Rattle.member_core.specs.Releasing.{may_release, after_release}
@@ -14,15 +13,14 @@ use Rattle.world_sim.specs.declared.shown.Shown.TheVariants as shows
 use Rattle.world_sim.specs.declared.state.ClientState.{ClientState}
 use Rattle.world_sim.specs.declared.fault.WorldFault.{WorldFault}
 use Rattle.world_sim.specs.declared.fault.WorldFault.TheVariants as faults
-use Rattle.world_sim.specs.World.{World, Request, Reply, Commit, numbered, with_client, with_request}
-use Rattle.world_sim.specs.Acts.{Asks, GivesUp, Release, Take, Outcome, Is, IsSent, IsIgnored, IsRefused, NoSuchClient, NoSuchMessage, WrongState, ActStep, stamp_of}
-use Rattle.world_sim.specs.Mail.{request_value, requests_of, reply_value, replies_of, AreNamed}
+use Rattle.world_sim.specs.World.{World, Request, Reply, numbered, with_client, with_request}
+use Rattle.world_sim.specs.Acts.{Asks, GivesUp, Release, Take, Is, IsSent, IsIgnored, WrongState, ActStep, stamp_of}
+use Rattle.world_sim.specs.Mail.{request_value, requests_of, replies_of, AreNamed}
 use Rattle.world_sim.specs.Scene.{scene_view}
-use Rattle.world_sim.specs.Standing.{state_value}
-use Rattle.world_sim.specs.Acting.{Acted, IsRefusedFor, IsShown}
+use Rattle.world_sim.specs.Acting.{Acted}
 use Rattle.world_sim.specs.Places.{AskedAt, ChangedAt, ShowsChange, ShowsTaken, TookAt}
 use Rattle.world_sim.proofs.MailLemmas.{nothing_there}
-use Rattle.world_sim.proofs.Performs.{nobody_asks, nobody_gives_up, nobody_releases, asks, asks_not, gives_up, releases, takes}
+use Rattle.world_sim.proofs.Performs.{asks, asks_not, gives_up, releases, takes}
 use Rattle.world_sim.proofs.SceneLemmas.{at_number, changed_world, same_world, sent_world}
 
 -- a number past the last

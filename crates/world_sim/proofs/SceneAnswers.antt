@@ -1,6 +1,6 @@
 -- That what a scene's coordinator answers is the world's.
 use Rattle.std.proofs.lemmas.List.{length-map}
-use Rattle.std.proofs.Common.{◌≡◌, ℕ, suc, ◌+◌, ◌≤◌, List, [], ◌∷◌, ◌++◌, length, map, drop, slice_get, Option, Some, None, Ok, Err, refl, sym, ap, ap₂, subst, ◌∙◌, add-one, length-append}
+use Rattle.std.proofs.Common.{◌≡◌, ℕ, suc, ◌+◌, ◌≤◌, List, [], ◌∷◌, ◌++◌, length, map, drop, slice_get, Option, Some, Ok, refl, sym, ap, ap₂, subst, ◌∙◌, add-one, length-append}
 use Rattle.kip_msgs.specs.Values.{commit_request}
 use Rattle.kip_msgs.specs.Laws.{OneRequestABody}
 use Rattle.group_types.specs.Limits.{LARGEST_BODY}
@@ -12,10 +12,9 @@ use Rattle.member_core.specs.Committing.{commit_value}
 use Rattle.world_sim.specs.declared.mail.Request as mail
 use Rattle.world_sim.specs.declared.mail.Reply as answer
 use Rattle.world_sim.specs.declared.scene.Scene.{Scene}
-use Rattle.world_sim.specs.declared.shown.Shown.{Shown}
 use Rattle.world_sim.specs.declared.shown.Shown.TheVariants as shows
 use Rattle.world_sim.specs.World.{World, Request, Reply, Commit, numbered, cut, with_coordinator, with_reply}
-use Rattle.world_sim.specs.Acts.{Bring, BringStep, Outcome, ActStep, no_stamp}
+use Rattle.world_sim.specs.Acts.{Bring, BringStep, no_stamp}
 use Rattle.world_sim.specs.Invariant.{Keeps}
 use Rattle.world_sim.specs.Mail.{requests_of, reply_value, replies_of}
 use Rattle.world_sim.specs.Scene.{scene_view}

@@ -1,5 +1,5 @@
 -- What a scene is as a world, once something in it has changed.
-use Rattle.std.proofs.Common.{◌≡◌, ℕ, zero, suc, ◌+◌, ◌<◌, List, [], ◌∷◌, ◌++◌, length, map, set, slice_get, get_or, Option, Some, None, unwrap_or, refl, sym, ap, ap₂, ◌∙◌, arith, add-one}
+use Rattle.std.proofs.Common.{◌≡◌, ℕ, zero, suc, ◌+◌, ◌<◌, List, [], ◌∷◌, ◌++◌, length, map, set, slice_get, get_or, Option, Some, unwrap_or, refl, sym, ap, ap₂, ◌∙◌, arith, add-one}
 use Rattle.std.proofs.lemmas.List.{set-get_or}
 use Rattle.group_types.proofs.Lookups.{not_none}
 use Rattle.member_core.specs.Client.{Client}

@@ -1,16 +1,13 @@
 -- That a scene's deliveries and commits are the world's.
-use Rattle.std.proofs.Common.{◌≡◌, ◌⊎◌, ℕ, suc, ◌+◌, ◌<◌, ◌≤◌, Bool, true, false, ◌&&◌, nat_le, List, [], ◌∷◌, ◌++◌, length, map, slice_get, Option, Some, None, Ok, Err, Result, IsTrue, inl, inr, refl, sym, ap, ap₂, subst, ◌∙◌, arith}
-use Rattle.std.specs.List.{Contains}
+use Rattle.std.proofs.Common.{◌≡◌, ℕ, suc, ◌<◌, ◌≤◌, Bool, true, false, ◌&&◌, nat_le, List, length, slice_get, Option, Some, Ok, Err, Result, IsTrue, refl, sym, ap, ap₂, subst, ◌∙◌, arith}
 use Rattle.std.proofs.lemmas.Bool.{le-leb, leb-true}
-use Rattle.kip_msgs.specs.Values.{RequestHeaderValue, HeartbeatRequestValue, CommitRequestTopicValue, heartbeat_request}
-use Rattle.kip_msgs.specs.Spelling.{SpellsRequest}
+use Rattle.kip_msgs.specs.Values.{CommitRequestTopicValue}
 use Rattle.group_types.specs.Limits.{LARGEST_BODY}
 use Rattle.member_core.specs.Limits.{GREATEST_NUMBER}
 use Rattle.member_core.specs.Client.{Client}
 use Rattle.member_core.specs.Asking.{header_of, heartbeat_value}
 use Rattle.member_core.specs.Committing.{may_commit_at, commit_for}
 use Rattle.member_core.specs.Refusing.{is_too_large}
-use Rattle.world_sim.specs.declared.scene.Scene.{Scene}
 use Rattle.world_sim.specs.declared.shown.Shown.{Shown}
 use Rattle.world_sim.specs.declared.shown.Shown.TheVariants as shows
 use Rattle.world_sim.specs.declared.fault.WorldFault.{WorldFault}
@@ -18,7 +15,7 @@ use Rattle.world_sim.specs.declared.fault.WorldFault.TheVariants as faults
 use Rattle.world_sim.specs.World.{World, Request, Commit, numbered, cut, with_commit}
 use Rattle.world_sim.specs.Acts.{Commits, Deliver, Outcome, IsCommitted, IsRefused, NoSuchClient, NoSuchMessage, WrongState, Forgotten, ActStep, CommitsBy, CommitsIf, CommitsStep, DeliversIf, DeliverStep, commit_by, is_forgotten, may_commit}
 use Rattle.world_sim.specs.Invariant.{Keeps}
-use Rattle.world_sim.specs.Acting.{Acted, IsRefusedFor, IsShown}
+use Rattle.world_sim.specs.Acting.{Acted, IsRefusedFor}
 use Rattle.world_sim.specs.Clients.{IsCommitOf}
 use Rattle.world_sim.specs.Passing.{Answered, AnswersOne, IsHeartbeat}
 use Rattle.world_sim.specs.Stands.{CannotCommit}

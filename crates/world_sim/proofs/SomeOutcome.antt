@@ -1,19 +1,17 @@
 -- An act has an outcome in a live world.
-use Rattle.std.proofs.Common.{◌≡◌, ℕ, suc, ◌≤◌, ◌<◌, ◌+◌, pos, Bool, true, false, ◌&&◌, nat_le, List, length, Option, Some, None, unwrap_or, inl, refl, sym, ap, subst, ◌∙◌, arith}
+use Rattle.std.proofs.Common.{◌≡◌, ℕ, suc, ◌≤◌, Bool, true, false, ◌&&◌, nat_le, List, length, Option, Some, None, inl, refl, arith}
 use Rattle.std.proofs.lemmas.Bool.{leb-true}
-use Rattle.std.specs.Ordering.{int_eq}
 use Rattle.flex_wire.specs.Composed.{FitsArray}
-use Rattle.kip_msgs.specs.Values.{CommitReplyValue, CommitRequestTopicValue, HeartbeatReplyValue, ReplyValue, RequestHeaderValue, RequestValue, ResponseHeaderValue, commit_reply, commit_request, heartbeat_reply, heartbeat_request}
+use Rattle.kip_msgs.specs.Values.{CommitRequestTopicValue, HeartbeatReplyValue, RequestHeaderValue, ResponseHeaderValue, commit_request, heartbeat_reply, heartbeat_request}
 use Rattle.kip_msgs.specs.Laws.{OneReplyABody}
-use Rattle.kip_msgs.specs.Spelling.{FitsCommitRequestTopic, FitsRequest, SpellsReply, SpellsRequest, request_body}
-use Rattle.group_types.specs.declared.stamp.Stamp.{Stamp}
+use Rattle.kip_msgs.specs.Spelling.{FitsCommitRequestTopic, FitsRequest, SpellsReply, request_body}
 use Rattle.group_types.specs.HeartbeatStep as group
 use Rattle.group_types.specs.Laws.{EveryGroupIsSound}
 use Rattle.group_core.specs.Existence.{HasAnAnswer}
-use Rattle.coord_node.specs.Coordinator.{Coordinator, Answer, Frame, Replied, Closes, Done}
+use Rattle.coord_node.specs.Coordinator.{Answer, Replied, Closes, Done}
 use Rattle.coord_node.specs.Laws.{StepsAreSound}
-use Rattle.coord_node.specs.Replies.{IsReplyFrame, commit_value, reply_value}
-use Rattle.coord_node.specs.Steps.{IsRequest, RequestStep, Sends, Step, message_of}
+use Rattle.coord_node.specs.Replies.{commit_value}
+use Rattle.coord_node.specs.Steps.{IsRequest, Sends, Step, message_of}
 use Rattle.coord_node.proofs.AnsweredEvents.{requests}
 use Rattle.member_core.specs.Limits.{GREATEST_NUMBER}
 use Rattle.member_core.specs.Client.{Client}
@@ -22,7 +20,6 @@ use Rattle.member_core.specs.Committing.{commit_for, may_commit_at}
 use Rattle.member_core.specs.Existence.{AsksAreMade, CanSay}
 use Rattle.member_core.specs.Refusing.{is_too_large}
 use Rattle.member_core.specs.Releasing.{after_release, may_release}
-use Rattle.member_core.specs.Taking.{TakesIf}
 use Rattle.member_core.proofs.Answered.{id_fits, no_tags, takes_spelled}
 use Rattle.world_sim.specs.World.{Commit, Reply, Request, World, numbered, with_coordinator}
 use Rattle.world_sim.specs.Acts.{Act, ActStep, Answers, Asks, AsksIf, AsksStep, Bring, BringStep, ChangesIf, Clock, Commits, CommitsBy, CommitsIf, CommitsStep, Deliver, DeliversIf, DeliverStep, GivesUp, GivesUpStep, Outcome, Passes, Pools, Release, ReleaseStep, Sees, SendsIf, Take, TakeBy, TakenAs, TakeStep, commit_by, fits_frame, is_forgotten, may_commit, no_stamp}

@@ -1,15 +1,14 @@
 -- The client whose request a reply answers is there.
-use Rattle.std.proofs.Common.{◌≡◌, ℕ, zero, suc, ◌+◌, ◌<◌, List, [], length, slice_get, Option, Some, None, unwrap_or, refl, sym, ap, subst, ◌∙◌, arith}
+use Rattle.std.proofs.Common.{◌≡◌, ℕ, zero, suc, ◌+◌, ◌<◌, List, [], length, slice_get, Option, Some, unwrap_or, sym, ap, ◌∙◌, arith}
 use Rattle.std.proofs.lemmas.Option.{slice_get_within}
 use Rattle.group_types.proofs.Lookups.{not_none}
-use Rattle.member_core.specs.Client.{Client}
 use Rattle.world_sim.specs.declared.mail.Request as mail
 use Rattle.world_sim.specs.declared.mail.Reply as answer
 use Rattle.world_sim.specs.declared.scene.Scene.{Scene}
-use Rattle.world_sim.specs.World.{World, Request, Reply, numbered}
+use Rattle.world_sim.specs.World.{Request, Reply, numbered}
 use Rattle.world_sim.specs.Acts.{no_stamp}
 use Rattle.world_sim.specs.Invariant.{Keeps}
-use Rattle.world_sim.specs.Mail.{request_value, requests_of, reply_value, replies_of}
+use Rattle.world_sim.specs.Mail.{request_value, reply_value, replies_of}
 use Rattle.world_sim.specs.Scene.{scene_view}
 use Rattle.world_sim.proofs.Numbered.{numbered_in}
 use Rattle.world_sim.proofs.SceneLemmas.{mapped}

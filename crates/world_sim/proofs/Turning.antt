@@ -11,7 +11,7 @@ use Rattle.world_sim.specs.declared.fault.WorldFault.TheVariants as faults
 use Rattle.world_sim.specs.declared.shown.Shown.{Shown}
 use Rattle.world_sim.specs.declared.shown.Shown.TheVariants as shows
 use Rattle.world_sim.specs.World.{World, Request, Reply, numbered, renumbered, with_client, with_coordinator, with_request}
-use Rattle.world_sim.specs.Acts.{Act, Asks, Deliver, GivesUp, Take, Release, Fault, NoSuchClient, NoSuchMessage, WrongState, TooLarge, Forgotten, Outcome, IsRefused, IsSent, IsReplied, Is, ActStep, AsksIf, AsksStep, DeliversIf, DeliverStep, Pools, Run, TakeBy, TakeStep, SendsIf, stamp_of}
+use Rattle.world_sim.specs.Acts.{Asks, Deliver, GivesUp, Take, Release, Fault, NoSuchClient, NoSuchMessage, WrongState, TooLarge, Forgotten, Outcome, IsRefused, IsSent, IsReplied, Is, ActStep, AsksIf, AsksStep, DeliversIf, DeliverStep, Pools, TakeBy, TakeStep, SendsIf, stamp_of}
 use Rattle.world_sim.specs.Acting.{Acted, IsShown, IsTooLarge}
 use Rattle.world_sim.specs.Places.{ChangedAt}
 use Rattle.world_sim.specs.declared.state.ClientState.{ClientState}

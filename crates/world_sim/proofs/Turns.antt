@@ -1,5 +1,5 @@
 -- A heartbeat of a member with a record is a turn of its group: a beat, and a join under its own id.
-use Rattle.std.proofs.Common.{◌≡◌, ◌⊎◌, ℕ, ◌<◌, ◌≤◌, ◌==◌, pos, Bool, true, false, ◌&&◌, ◌||◌, if◌then◌else◌, List, Option, Some, None, refl, sym, ap, subst, subst₂, ◌∙◌, inl, inr, true≢false, arith, le_refl, nat_le}
+use Rattle.std.proofs.Common.{◌≡◌, ◌⊎◌, ℕ, ◌<◌, ◌≤◌, ◌==◌, pos, Bool, true, false, ◌&&◌, ◌||◌, if◌then◌else◌, List, Option, Some, refl, sym, ap, subst, subst₂, ◌∙◌, inl, inr, true≢false, arith, le_refl, nat_le}
 use Rattle.std.specs.List.{Contains}
 use Rattle.std.specs.FinMap as finite
 use Rattle.group_types.specs.declared.code.Code.{Code}
@@ -22,7 +22,7 @@ use Rattle.group_types.specs.Limits.{GREATEST_EPOCH}
 use Rattle.group_types.specs.Leave.{last_epoch, last_epoch_at}
 use Rattle.group_types.specs.Sound.{IsSound}
 use Rattle.world_sim.specs.Turn.{Names, Holds, IsLater, IsGiven, HasActed, Came, Kept, Acted, Promises, WasPast, Turn}
-use Rattle.group_types.proofs.Lookups.{found, Found, this, another, get-inserted, get-insert_other, some_is}
+use Rattle.group_types.proofs.Lookups.{found, Found, this, another, get-inserted, get-insert_other}
 use Rattle.world_sim.proofs.Stages.{shows_held, IsAtEpoch, sent_at, settled_same, given_same, IsRenewed, renewed_by, HasSettled, has_settled, told_by}
 use Rattle.world_sim.proofs.Acts.{IsDrafted, Acts, acts}
 

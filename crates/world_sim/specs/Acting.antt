@@ -1,5 +1,5 @@
 -- What the code's acts are, and what they show.
-use Rattle.std.specs.Prelude.{◌≡◌, ℕ, suc, true, List, length, map, All, Some, Ok, Err, Result, IsTrue}
+use Rattle.std.specs.Prelude.{◌≡◌, suc, true, length, map, All, Some, Ok, Err, Result, IsTrue}
 use Rattle.kip_msgs.specs.Values.{ResponseHeaderValue, HeartbeatReplyValue, CommitReplyValue, commit_reply}
 use Rattle.kip_msgs.specs.Spelling.{SpellsReply}
 use Rattle.kip_msgs.specs.Views.{commit_request_topic_value}

@@ -1,7 +1,7 @@
 -- That every act has an outcome.
 use Rattle.std.specs.Prelude.{◌≡◌, ℕ, List, All, Some}
 use Rattle.std.specs.List.{Contains}
-use Rattle.kip_msgs.specs.Values.{CommitRequestTopicValue, CommitRequestValue, HeartbeatReplyValue, HeartbeatRequestValue, RequestHeaderValue, ResponseHeaderValue, commit_request, heartbeat_reply, heartbeat_request}
+use Rattle.kip_msgs.specs.Values.{CommitRequestValue, HeartbeatReplyValue, HeartbeatRequestValue, RequestHeaderValue, ResponseHeaderValue, commit_request, heartbeat_reply, heartbeat_request}
 use Rattle.kip_msgs.specs.Spelling.{FitsCommitRequestTopic, SpellsReply}
 use Rattle.flex_wire.specs.Composed.{FitsArray}
 use Rattle.coord_node.specs.Laws.{IsServing}

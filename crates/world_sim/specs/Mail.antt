@@ -1,7 +1,6 @@
 -- What the code's requests and replies are as the world's.
-use Rattle.std.specs.Prelude.{ℕ, ◌<◌, ◌≤◌, List, [], length, map, slice_get, unwrap_or}
+use Rattle.std.specs.Prelude.{◌<◌, ◌≤◌, List, [], length, map, slice_get, unwrap_or}
 use Rattle.std.specs.List.{Contains}
-use Rattle.std.specs.Option.{option_map}
 use Rattle.world_sim.specs.declared.mail.Request as mail
 use Rattle.world_sim.specs.declared.mail.Reply as answer
 use Rattle.group_types.specs.Limits.{LARGEST_BODY}

@@ -3,7 +3,7 @@ use Rattle.std.specs.Prelude.{◌≡◌, ℕ, Bool, true, false, IsTrue, List, V
 use Rattle.std.specs.declared.alloc.AllocError.{AllocError}
 use Rattle.std.specs.declared.alloc.Global.{Global}
 use Rattle.kip_msgs.specs.Values.{CommitRequestTopicValue}
-use Rattle.member_core.specs.Client.{Client, State, state_of}
+use Rattle.member_core.specs.Client.{Client}
 use Rattle.member_core.specs.Asking.{Ask}
 use Rattle.member_core.specs.Taking.{Takes}
 use Rattle.member_core.specs.Committing.{may_commit_at, commit_for}

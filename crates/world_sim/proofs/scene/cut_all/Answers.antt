@@ -1,4 +1,4 @@
-use Rattle.std.proofs.Common.{◌≡◌, ◌<◌, ◌≤◌, length, drop, set, sym, ap, subst, ◌∙◌, arith}
+use Rattle.std.proofs.Common.{◌≡◌, ◌<◌, ◌≤◌, length, drop, set, sym, ap, subst, ◌∙◌}
 use Rattle.world_sim.specs.World.{cut}
 use Rattle.world_sim.proofs.Cutting.{before_rest, turned, whole}
 use Rattle.world_sim.proofs.scene.cut_all.Goals as goal

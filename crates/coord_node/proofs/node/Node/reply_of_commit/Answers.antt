@@ -3,7 +3,6 @@ use Rattle.std.specs.FinMap as finite
 use Rattle.std.proofs.lemmas.Result.{IfOk-weaker, on_err_weaker}
 use Rattle.indexmap.specs.IndexMap.{set_value_at}
 use Rattle.kip_msgs.specs.Views.{commit_request_value, commit_reply_value}
-use Rattle.group_types.specs.Group.{Group}
 use Rattle.group_types.specs.Topics.{Topics}
 use Rattle.group_epochs.specs.Request.{commit_of}
 use Rattle.group_core.specs.Commits.{Commits}

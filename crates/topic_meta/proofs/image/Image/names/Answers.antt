@@ -1,5 +1,4 @@
-use Rattle.std.proofs.Common.{◌≡◌, List, [], ◌∷◌, map, refl, ap, sym, ◌∙◌, string_bytes, String}
-use Rattle.std.specs.declared.alloc.Global.{Global}
+use Rattle.std.proofs.Common.{map, ap, sym, ◌∙◌, string_bytes}
 use Rattle.std.specs.FinMap as finite
 use Rattle.topic_meta.proofs.Shown.{entries-topics_in, keys-pairs_in}
 use Rattle.topic_meta.proofs.image.Image.names.Goals as goal

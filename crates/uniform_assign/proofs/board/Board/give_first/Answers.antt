@@ -12,7 +12,6 @@ use Rattle.uniform_assign.proofs.Boards.{all_takers, no_takers}
 use Rattle.uniform_assign.proofs.Filled.{Fills-fewest, Fills-nobody}
 use Rattle.uniform_assign.proofs.Moves.{fewest-shown}
 use Rattle.uniform_assign.proofs.Queued.{AreOnce-takers, IsFirstIn, IsFirstIn-of, IsQueued, IsQueued-of, counts_of-given, first-within}
-use Rattle.uniform_assign.proofs.Lists.{slice_get-map_at}
 use Rattle.uniform_assign.proofs.board.Board.give_first.Goals as goal
 use Rattle.uniform_assign.specs.Boards.{members_on}
 

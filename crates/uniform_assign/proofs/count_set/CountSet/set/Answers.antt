@@ -1,4 +1,4 @@
-use Rattle.std.proofs.Common.{◌≡◌, List, ℕ, length, set as set_at, sym, ap, subst, ◌∙◌, arith}
+use Rattle.std.proofs.Common.{List, ℕ, length, set as set_at, sym, ap, subst, ◌∙◌, arith}
 use Rattle.uniform_assign.specs.CountSets.{IsTree, counts_in}
 use Rattle.uniform_assign.proofs.Ranked.{counts_in-tree}
 use Rattle.uniform_assign.proofs.count_set.CountSet.set.Goals as goal

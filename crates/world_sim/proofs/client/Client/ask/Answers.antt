@@ -1,4 +1,4 @@
-use Rattle.std.proofs.Common.{List, ℕ, ◌+◌, Ok, Result, sym, subst}
+use Rattle.std.proofs.Common.{List, ℕ, ◌+◌, Ok, sym, subst}
 use Rattle.member_core.specs.Client.{Client}
 use Rattle.member_core.specs.Refusing.{Sends}
 use Rattle.world_sim.specs.declared.standing.Standing.{Standing}

@@ -1,4 +1,4 @@
-use Rattle.std.proofs.Common.{map, ap, subst, ◌∙◌}
+use Rattle.std.proofs.Common.{map, subst, ◌∙◌}
 use Rattle.kip_msgs.specs.Views.{commit_request_topic_value}
 use Rattle.member_core.specs.Client.{Client}
 use Rattle.world_sim.specs.Standing.{client_of}

@@ -1,13 +1,13 @@
-use Rattle.std.proofs.Common.{◌≡◌, ◌∙◌, ◌<◌, ◌++◌, ◌∷◌, [], List, ℕ, Option, Some, length, slice_get, ap, ap₂, sym, subst, refl, true, false}
+use Rattle.std.proofs.Common.{◌∙◌, ◌<◌, ◌++◌, ◌∷◌, [], List, ℕ, Option, ap, ap₂, sym, subst, refl}
 use Rattle.std.proofs.lemmas.Result.{err_from_is_err_and}
-use Rattle.world_sim.specs.World.{World, Request, Reply, Commit, numbered}
+use Rattle.world_sim.specs.World.{Request, Reply}
 use Rattle.world_sim.specs.Scene.{scene_view}
 use Rattle.coord_node.specs.declared.event.Answered.{Answered}
 use Rattle.coord_node.specs.declared.event.Answered.TheVariants as kinds
 use Rattle.coord_node.specs.Coordinator.{Coordinator, Frame}
 use Rattle.coord_node.specs.Answers as node
 use Rattle.world_sim.specs.declared.mail.Reply as answer
-use Rattle.world_sim.specs.Mail.{AreNamed, replies_of, request_value, requests_of}
+use Rattle.world_sim.specs.Mail.{AreNamed, replies_of, request_value}
 use Rattle.world_sim.specs.Passing.{IsHeartbeat}
 use Rattle.world_sim.proofs.MailLemmas.{named_more, small_cut}
 use Rattle.world_sim.proofs.SceneAnswers.{answer_closes, answer_kept}

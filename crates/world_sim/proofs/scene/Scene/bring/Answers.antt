@@ -1,6 +1,5 @@
-use Rattle.std.proofs.Common.{◌≡◌, ◌∙◌, ◌<◌, ◌++◌, ◌∷◌, [], List, ℕ, Option, Some, length, slice_get, ap, ap₂, sym, subst, refl, true, false}
+use Rattle.std.proofs.Common.{◌<◌, List, ℕ, Some, length, ap, subst, refl}
 use Rattle.std.proofs.lemmas.Result.{err_from_is_err_and}
-use Rattle.world_sim.specs.World.{World, Request, Reply, Commit, numbered}
 use Rattle.world_sim.specs.Scene.{scene_view}
 use Rattle.coord_node.specs.declared.event.Answered.{Answered}
 use Rattle.coord_node.specs.Coordinator.{Coordinator, Frame}

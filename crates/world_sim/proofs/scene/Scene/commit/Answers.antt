@@ -1,11 +1,10 @@
-use Rattle.std.proofs.Common.{◌≡◌, ◌∙◌, ◌<◌, ◌≤◌, ◌+◌, ◌-◌, ◌++◌, ◌∷◌, [], List, ℕ, suc, Option, Some, length, slice_get, map, ap, ap₂, sym, subst, refl, true, false, arith}
+use Rattle.std.proofs.Common.{◌≡◌, ◌∙◌, ◌<◌, ◌≤◌, ◌+◌, ◌-◌, ◌++◌, ◌∷◌, [], List, suc, Some, length, map, ap, ap₂, sym, subst, refl, true, false, arith}
 use Rattle.std.proofs.lemmas.Result.{err_from_is_err_and}
-use Rattle.world_sim.specs.World.{World, Request, Reply, Commit, numbered}
+use Rattle.world_sim.specs.World.{Commit}
 use Rattle.world_sim.specs.Scene.{scene_view}
 use Rattle.kip_msgs.specs.Views.{commit_request_topic_value}
-use Rattle.group_types.specs.Limits.{LARGEST_BODY}
 use Rattle.member_core.specs.Limits.{GREATEST_NUMBER}
-use Rattle.std.proofs.Common.{nat_le, Ok}
+use Rattle.std.proofs.Common.{Ok}
 use Rattle.world_sim.specs.declared.shown.Shown.TheVariants as shows
 use Rattle.world_sim.specs.World.{cut}
 use Rattle.world_sim.specs.Acts.{Commits}

@@ -1,4 +1,4 @@
-use Rattle.std.proofs.Common.{◌≡◌, ◌∙◌, ◌++◌, ◌∷◌, [], length, ap, sym, subst, refl}
+use Rattle.std.proofs.Common.{length, ap, refl}
 use Rattle.world_sim.specs.Scene.{scene_view}
 use Rattle.world_sim.proofs.Performs.{nobody_gives_up}
 use Rattle.world_sim.proofs.SceneActs.{gives_up_any, nobody}

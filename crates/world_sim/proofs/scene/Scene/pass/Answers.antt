@@ -1,4 +1,4 @@
-use Rattle.std.proofs.Common.{◌≡◌, List, ap, refl}
+use Rattle.std.proofs.Common.{List, ap, refl}
 use Rattle.world_sim.specs.World.{Commit}
 use Rattle.world_sim.specs.Acts.{IsRemoved}
 use Rattle.world_sim.specs.Scene.{scene_view}

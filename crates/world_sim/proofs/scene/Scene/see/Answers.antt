@@ -1,4 +1,4 @@
-use Rattle.std.proofs.Common.{◌≡◌, List, ap, refl, sym}
+use Rattle.std.proofs.Common.{List, ap, refl, sym}
 use Rattle.coord_node.specs.Coordinator.{Done}
 use Rattle.world_sim.specs.World.{Commit}
 use Rattle.world_sim.specs.Acts.{IsDone}

@@ -1,6 +1,5 @@
-use Rattle.std.proofs.Common.{◌≡◌, ◌∙◌, ◌<◌, ◌≤◌, ◌+◌, ◌-◌, ◌++◌, ◌∷◌, [], List, ℕ, suc, Option, Some, length, slice_get, map, ap, ap₂, sym, subst, refl, true, false, arith}
+use Rattle.std.proofs.Common.{◌∙◌, ◌<◌, ◌-◌, List, ℕ, Some, length, ap, sym, subst, refl}
 use Rattle.std.proofs.lemmas.Result.{err_from_is_err_and}
-use Rattle.world_sim.specs.World.{World, Request, Reply, Commit, numbered}
 use Rattle.world_sim.specs.Scene.{scene_view}
 use Rattle.std.proofs.Common.{Ok}
 use Rattle.member_core.specs.Client.{Client}

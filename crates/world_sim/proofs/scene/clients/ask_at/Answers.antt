@@ -1,12 +1,8 @@
-use Rattle.std.proofs.Common.{◌≡◌, ◌<◌, ◌∙◌, Some, length, slice_get, set, ap, sym, subst, if◌then◌else◌}
-use Rattle.member_core.specs.Client.{Client, state_of}
+use Rattle.std.proofs.Common.{◌<◌, ◌∙◌, ap, subst}
 use Rattle.world_sim.proofs.SceneLemmas.{indexed, put_back}
-use Rattle.std.proofs.Common.{suc, ◌+◌, ℕ, Err, Result, add-one, refl}
+use Rattle.std.proofs.Common.{suc, ℕ, add-one, refl}
 use Rattle.std.proofs.lemmas.Result.{err_from_is_err_and}
 use Rattle.group_types.specs.declared.stamp.Stamp.{Stamp}
-use Rattle.world_sim.specs.declared.fault.WorldFault.{WorldFault}
-use Rattle.world_sim.specs.Standing.{ask_value, CannotAsk}
-use Rattle.world_sim.specs.Places.{AskedAt}
 use Rattle.world_sim.proofs.scene.clients.ask_at.Goals as goal
 
 pub returns : goal.returns

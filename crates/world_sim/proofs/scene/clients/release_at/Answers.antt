@@ -1,5 +1,5 @@
-use Rattle.std.proofs.Common.{◌≡◌, ◌<◌, ◌∙◌, Some, length, slice_get, set, ap, sym, subst, if◌then◌else◌}
-use Rattle.member_core.specs.Client.{Client, state_of}
+use Rattle.std.proofs.Common.{◌≡◌, ◌<◌, ◌∙◌, set, ap, sym, subst, if◌then◌else◌}
+use Rattle.member_core.specs.Client.{state_of}
 use Rattle.world_sim.proofs.SceneLemmas.{indexed, put_back}
 use Rattle.member_core.specs.Releasing.{after_release}
 use Rattle.world_sim.proofs.scene.clients.release_at.Goals as goal

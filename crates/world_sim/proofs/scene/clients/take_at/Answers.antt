@@ -1,11 +1,9 @@
-use Rattle.std.proofs.Common.{◌≡◌, ◌<◌, ◌∙◌, Some, length, slice_get, set, ap, sym, subst, if◌then◌else◌}
-use Rattle.member_core.specs.Client.{Client, state_of}
+use Rattle.std.proofs.Common.{◌≡◌, ◌<◌, subst, if◌then◌else◌}
+use Rattle.member_core.specs.Client.{Client}
 use Rattle.world_sim.proofs.SceneLemmas.{indexed, put_back}
-use Rattle.std.proofs.Common.{true, false, Ok, Err, Bool, Result, List, ℕ, refl}
-use Rattle.std.specs.declared.alloc.AllocError.{AllocError}
+use Rattle.std.proofs.Common.{true, false, refl}
 use Rattle.std.proofs.lemmas.Result.{err_from_is_err_and}
 use Rattle.member_core.specs.Taking.{Takes}
-use Rattle.world_sim.specs.Stands.{TakesReply}
 use Rattle.world_sim.proofs.Took.{untaken}
 use Rattle.world_sim.proofs.scene.clients.take_at.Goals as goal
 

@@ -1,4 +1,4 @@
-use Rattle.std.proofs.Common.{◌≡◌, ◌<◌, length, ap, subst}
+use Rattle.std.proofs.Common.{◌<◌, length, ap, subst}
 use Rattle.world_sim.proofs.SceneActs.{nobody}
 use Rattle.world_sim.proofs.SceneLemmas.{numbered_index}
 use Rattle.world_sim.proofs.world.World.client.Goals as goal
