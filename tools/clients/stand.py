@@ -12,7 +12,7 @@ import time
 from typing import Dict, List, Optional, Sequence
 
 HERE = pathlib.Path(__file__).resolve().parent
-FRONT_END = HERE.parent.parent / "examples/broker"
+TOP = HERE.parent.parent
 HOST = "127.0.0.1"
 # Below the ports that Linux gives to clients, so that none takes one of them meanwhile. A stand has a block of them.
 PORTS, BLOCK = range(20_000, 32_000), 16
@@ -117,7 +117,7 @@ class Stand:
         """Starts a program, and waits until it prints a line that begins so."""
         path = self.folder / f"{name}.txt"
         with open(path, "w", encoding="utf-8") as printed:
-            process = subprocess.Popen(words, cwd=FRONT_END, stdin=subprocess.DEVNULL, stdout=printed, stderr=subprocess.STDOUT)
+            process = subprocess.Popen(words, cwd=TOP, stdin=subprocess.DEVNULL, stdout=printed, stderr=subprocess.STDOUT)
         self.running[name] = process
         until = time.monotonic() + START_SECONDS
         while not any(it.startswith(line) for it in path.read_text(encoding="utf-8").splitlines(keepends=True)):

@@ -138,12 +138,12 @@ def watched(library: Library, edges: pathlib.Path, reply: pathlib.Path) -> Itera
 
 
 def of_examples(library: Library) -> Iterator[Check]:
-    embed, broker = library.top / "examples/embed", library.top / "examples/broker"
+    embed = library.top / "examples/embed"
     yield "examples/embed/broker.c", serves(library.top, library.compiled("examples/embed/broker.c", "-D_GNU_SOURCE"))
     python = [sys.executable, "-B", "-m", "unittest"]
     os.environ["MIGWELUN_LIBRARY"] = os.environ["BROKER_TEST_LIBRARY"] = str(library.shared)
     yield "examples/embed/python", run([*python, "test_migwelun"], embed / "python")
-    yield "examples/broker --embedded", run([*python, "tests.test_program.Program.test_two_members_of_another_hand_embedded"], broker)
+    yield "broker --embedded", run([*python, "broker.tests.test_program.Program.test_two_members_of_another_hand_embedded"], library.top)
     if shutil.which("cargo") is None:
         yield "examples/embed/rust", f"{NOT_RUN}there is no cargo"
         return

@@ -13,7 +13,7 @@ from unittest import mock
 from broker import link, relay
 from broker.frames import framed
 from broker.link import Coordinator
-from tests.support import HOST, Client, accept_all, data, front, small_cluster
+from broker.tests.support import HOST, Client, accept_all, data, front, small_cluster
 
 # The headers have the correlation ids 1, 2 .. so that replies can be told apart.
 VERSIONS = "0012 0000 {:08x} 0001 'c'"

@@ -13,7 +13,7 @@ from broker.link import Connection, Coordinator, CoordinatorClosed, Link
 from broker.starter import Ended
 from broker.topics import Topics
 
-MODULE = pathlib.Path(__file__).resolve().parents[2] / "embed/python/migwelun.py"
+MODULE = pathlib.Path(__file__).resolve().parents[1] / "examples/embed/python/migwelun.py"
 TICK_SECONDS = 0.5
 SIZE = 4
 

@@ -12,7 +12,7 @@ from broker.call import Call
 from broker.cluster import Cluster, group_number, java_hash
 from broker.frames import read_request
 from broker.watch import Watch
-from tests.support import data, small_cluster
+from broker.tests.support import data, small_cluster
 
 TABLE = pathlib.Path(__file__).with_name("apis.txt")
 # `String.hashCode` as Java's own documentation and its users know it; the last is the least number of 32 bits.

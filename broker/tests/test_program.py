@@ -18,10 +18,10 @@ import urllib.request
 from typing import IO, Iterator, List, Optional
 
 from broker.starter import free_port
-from tests.support import HOST, ORDERS, SECONDS, data
+from broker.tests.support import HOST, ORDERS, SECONDS, data
 
-FOLDER = pathlib.Path(__file__).resolve().parents[1]
-CLIENT = FOLDER.parent / "client.py"
+TOP = pathlib.Path(__file__).resolve().parents[2]
+CLIENT = TOP / "examples/client.py"
 PROGRAM = os.environ.get("BROKER_TEST_PROGRAM", "")
 COORDINATORS = 3
 GROUPS = [f"group-{number}" for number in range(9)]
@@ -61,7 +61,7 @@ class Broker:
 
     def __init__(self, words: List[str]) -> None:
         command = [sys.executable, "-B", "-m", "broker", "--port", "0", "--status", "0", *words]
-        self.process = subprocess.Popen(command, cwd=FOLDER, stdout=subprocess.PIPE, stderr=subprocess.PIPE, text=True)
+        self.process = subprocess.Popen(command, cwd=TOP, stdout=subprocess.PIPE, stderr=subprocess.PIPE, text=True)
         assert self.process.stdout is not None
         self.stdout: IO[str] = self.process.stdout
         self.ports: List[int] = []
@@ -135,7 +135,7 @@ class Program(unittest.TestCase):
         found = []
         for words, _ in REFUSED:
             command = [sys.executable, "-B", "-m", "broker", *words]
-            ran = subprocess.run(command, cwd=FOLDER, capture_output=True, text=True, timeout=SECONDS, check=False)
+            ran = subprocess.run(command, cwd=TOP, capture_output=True, text=True, timeout=SECONDS, check=False)
             found.append((ran.returncode, ran.stdout, ran.stderr))
         fits = [(status, out, said.startswith("broker: "), said.count("\n"), why in said) for (status, out, said), (_, why) in zip(found, REFUSED)]
         self.assertEqual(fits, [(2, "", True, 1, True)] * len(REFUSED), found)
@@ -149,7 +149,7 @@ class Program(unittest.TestCase):
             ]
             for words, why in rows:
                 command = [sys.executable, "-B", "-m", "broker", *words, f"t:{ORDERS}:2"]
-                ran = subprocess.run(command, cwd=FOLDER, capture_output=True, text=True, timeout=SECONDS, check=False)
+                ran = subprocess.run(command, cwd=TOP, capture_output=True, text=True, timeout=SECONDS, check=False)
                 self.assertEqual((ran.returncode, ran.stdout, ran.stderr.count("\n"), why in ran.stderr), (1, "", 1, True), ran.stderr)
 
     @needs_program

@@ -11,7 +11,7 @@ from typing import List, NoReturn, Optional, Sequence, Tuple, Union
 
 from broker.topics import Topic, Topics, read
 
-TOP = pathlib.Path(__file__).resolve().parents[3]
+TOP = pathlib.Path(__file__).resolve().parents[1]
 LAUNCHER, LIBRARY = TOP / "coord", TOP / "crates/coord_c/out/libmigwelun.so"
 MOST_RECORDS_A_SECOND = 10_000
 START, EMBEDDED = None, "embedded"

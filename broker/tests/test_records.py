@@ -5,7 +5,7 @@ from __future__ import annotations
 import unittest
 
 from broker.records import Record, crc32c, record_batch
-from tests.support import data
+from broker.tests.support import data
 
 # The check value of CRC-32C, and the examples of RFC 3720, appendix B.4.
 CHECKSUMS = [

@@ -10,8 +10,8 @@ from typing import AsyncIterator, Dict, Tuple
 
 from broker.acceptor import listen
 from broker.status import Status
-from tests.support import HOST, SECONDS
-from tests.test_groups import REBALANCE, Conversation
+from broker.tests.support import HOST, SECONDS
+from broker.tests.test_groups import REBALANCE, Conversation
 
 Answer = Tuple[str, Dict[str, str], bytes]
 

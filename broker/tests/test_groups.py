@@ -17,9 +17,9 @@ from broker.offsets import Committed
 from broker.watch import Watch
 from broker.words import Partition as Place
 from broker.words import in_words, plain
-from tests.support import ORDERS, small_cluster
+from broker.tests.support import ORDERS, small_cluster
 
-README = pathlib.Path(__file__).resolve().parents[3] / "README.md"
+README = pathlib.Path(__file__).resolve().parents[2] / "README.md"
 A, B, C = (f"00000000-0000-0000-0000-00000000000{number}" for number in (1, 2, 3))
 
 

@@ -6,7 +6,7 @@ import unittest
 
 from broker import fields
 from broker.fields import Reader, Unreadable
-from tests.support import ORDERS, data
+from broker.tests.support import ORDERS, data
 
 # What is written, its bytes, and what reads them.
 WRITTEN = [
