@@ -2,20 +2,21 @@
 
 import pathlib
 import re
+from typing import Dict, Iterator, List, Set, Tuple
 
-from model.definitions import WORD, names_in
+from model.definitions import WORD, Definition, Key, names_in
 
 EXPORT = re.compile(r"^pub use ([\w:]+)(?:::\{([^}]*)\})?;", re.M)
-ITEM = re.compile(r"^pub (?:fn|struct|enum|trait) (\w+)", re.M)
-OWNER = re.compile(r"^(?:pub )?(?:unsafe )?(impl|trait)\b(.*)")
-FUNCTION = re.compile(r"( *)(pub )?(?:const )?(?:extern \"C\" )?fn (\w+)")
+ITEM = re.compile(r"^pub (?:unsafe )?(?:fn|struct|enum|trait) (\w+)", re.M)
+OWNER = re.compile(r"^(?:pub )?(?:unsafe )?(impl|trait|struct|enum)\b(.*)")
+FUNCTION = re.compile(r"( *)(pub )?(?:const )?(?:unsafe )?(?:extern \"C\" )?fn (\w+)")
 # What a static library gives to C.
-FOR_C = re.compile(r"^pub extern \"C\" fn (\w+)", re.M)
+FOR_C = re.compile(r"^pub (?:unsafe )?extern \"C\" fn (\w+)", re.M)
 # (How a model is stored says nothing of what it means.)
 CLAUSE = re.compile(r" +(?:requires|ensures|ghost (?!use |coded))")
 
 
-def exported(root_file):
+def exported(root_file: pathlib.Path) -> Set[str]:
     """The names that a crate's root file gives out, and its public modules; of a program, all public names."""
     if root_file.name == "main.rt":
         files = root_file.parent.glob("**/*.rt")
@@ -27,15 +28,14 @@ def exported(root_file):
     return found
 
 
-def clauses_in(path, public):
-    """The text of the clauses of a file's public items."""
-    lines = path.read_text(encoding="utf-8").split("\n")
-    owner_is_public, in_trait, is_open, kept = False, False, False, []
+def clauses_in(lines: List[str], public: Set[str]) -> Iterator[str]:
+    """The lines of the clauses of a file's public items."""
+    owner_is_public = in_trait = is_open = False
     depth = 0
     for line in lines:
         if depth > 0:
             # a clause of several lines goes on
-            kept.append(line)
+            yield line
             depth += line.count("{") - line.count("}")
             continue
         owner = OWNER.match(line)
@@ -45,31 +45,22 @@ def clauses_in(path, public):
             is_open = False
         function = FUNCTION.match(line)
         if function:
-            is_method = bool(function[1])
-            is_open = (owner_is_public and (function[2] or in_trait)) if is_method else function[3] in public
+            is_open = (owner_is_public and bool(function[2] or in_trait)) if function[1] else function[3] in public
         if CLAUSE.match(line) and (is_open or owner_is_public and line.lstrip().startswith("ghost")):
-            kept.append(line)
+            yield line
             depth = line.count("{") - line.count("}")
-    return lines, kept
 
 
-def roots_of(root, crate, found):
+def roots_of(root, crate: str, found: Dict[Key, Definition]) -> Iterator[Definition]:
     """The definitions that the clauses of a crate's public items name."""
     folder = pathlib.Path(root, "crates", crate, "src")
-    top = folder / "lib.rt"
-    if not top.is_file():
-        top = folder / "main.rt"
-    public = exported(top)
+    public = exported(next(it for it in (folder / "lib.rt", folder / "main.rt") if it.is_file()))
     for path in sorted(folder.glob("**/*.rt")):
-        lines, kept = clauses_in(path, public | functions_of(path, public))
+        text = path.read_text(encoding="utf-8")
+        lines = text.split("\n")
+        # A public module gives out its functions, too.
+        functions = {*re.findall(r"^pub fn (\w+)", text, re.M)} if path.stem in public else set()
         names = names_in(lines)
-        for word in (it for line in kept for it in WORD.findall(line)):
-            key = names.meaning(word)
-            if key in found:
-                yield found[key]
-
-
-def functions_of(path, public):
-    """The functions that a public module gives out."""
-    text = path.read_text(encoding="utf-8")
-    return {*re.findall(r"^pub fn (\w+)", text, re.M)} if path.stem in public else set()
+        for line in clauses_in(lines, public | functions):
+            for word in WORD.findall(line):
+                yield from (found[key] for key in names.meanings(word) if key in found)
