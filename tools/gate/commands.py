@@ -1,7 +1,7 @@
 """Starts programs, measures them, and ends them all when this process is told to stop.
 
-Every program runs in a session of its own. This process adopts what its programs leave behind, so that
-whatever they have started can be found below it, in whatever session, and be ended.
+Every program runs in a session of its own. This process adopts what its programs leave behind, so that whatever they have started can be
+found below it, in whatever session, and be ended.
 """
 
 import contextlib
@@ -49,15 +49,18 @@ def run(words, folder=None, given=b"", limit=None, merged=True, nice=0):
         given_file, output, errors = (files.enter_context(tempfile.TemporaryFile()) for _ in range(3))
         given_file.write(given)
         given_file.seek(0)
-        began = time.monotonic()
+        began, was_cut = time.monotonic(), threading.Event()
         child = start(words, folder, given_file, output, subprocess.STDOUT if merged else errors, nice)
-        with time_limit(child, limit) as was_cut:
-            status, processor = wait_for(child)
-        wall = time.monotonic() - began
+        timer = threading.Timer(limit or threading.TIMEOUT_MAX, lambda: (was_cut.set(), end(child)))
+        timer.daemon = True
+        timer.start()
+        status, processor = wait_for(child)
+        timer.cancel()
         kill(members_of(child.pid))
         if stopping.is_set():
             raise Stopped
-        return Ran(status, contents(output), contents(errors), wall, processor, was_cut.is_set())
+        texts = [it.read() for it in (output, errors) if it.seek(0) == 0]
+        return Ran(status, *texts, time.monotonic() - began, processor, was_cut.is_set())
 
 
 def start(words, folder, given, output, errors, nice=0):
@@ -65,9 +68,7 @@ def start(words, folder, given, output, errors, nice=0):
     if stopping.is_set():
         raise Stopped
     words = ["nice", "-n", str(nice), *words] if nice else words
-    child = subprocess.Popen(
-        words, cwd=folder, stdin=given, stdout=output, stderr=errors, start_new_session=True
-    )
+    child = subprocess.Popen(words, cwd=folder, stdin=given, stdout=output, stderr=errors, start_new_session=True)
     if nice:
         set_nice_of_session(child.pid, nice)
     if stopping.is_set():
@@ -90,24 +91,6 @@ def set_nice_of_session(leader, nice):
         return
 
 
-@contextlib.contextmanager
-def time_limit(child, seconds):
-    """Ends a program that is still running after `seconds`, and tells whether it had to."""
-    was_cut = threading.Event()
-
-    def cut():
-        was_cut.set()
-        end(child)
-
-    timer = threading.Timer(seconds or threading.TIMEOUT_MAX, cut)
-    timer.daemon = True
-    timer.start()
-    try:
-        yield was_cut
-    finally:
-        timer.cancel()
-
-
 def wait_for(child):
     """The exit status and the processor time of a program and of all that it waited for."""
     _, status, used = os.wait4(child.pid, 0)
@@ -115,16 +98,9 @@ def wait_for(child):
     return child.returncode, used.ru_utime + used.ru_stime
 
 
-def contents(file):
-    file.seek(0)
-    return file.read()
-
-
 def processes():
     """The processes of the machine that have not ended: number, parent and session."""
-    for name in os.listdir("/proc"):
-        if not name.isdigit():
-            continue
+    for name in filter(str.isdigit, os.listdir("/proc")):
         with contextlib.suppress(OSError):
             with open(f"/proc/{name}/stat", encoding="utf-8", errors="replace") as file:
                 # The program's name stands in brackets, and can have spaces and brackets itself.
@@ -173,18 +149,28 @@ def stop(number, _frame):
     sys.exit(STOPPED_STATUS + number)
 
 
+def take_signals():
+    """From here on a signal to stop ends all that was started.
+
+    A shell without jobs starts what stands before `&` with SIGINT ignored, and nohup with SIGHUP: they stay so here. But a program that is
+    started from here on gets SIGINT as everywhere else: a signal that a handler takes is its default in a child, and one that is ignored
+    is ignored there, too.
+    """
+    for it in (signal.SIGINT, signal.SIGTERM, signal.SIGHUP):
+        if signal.getsignal(it) != signal.SIG_IGN:
+            signal.signal(it, stop)
+        elif it == signal.SIGINT:
+            signal.signal(it, lambda *_: None)
+
+
 @contextlib.contextmanager
 def room(name, parent=None):
     """A folder that others can read and that is removed at the end, whatever ends it but SIGKILL.
 
-    What is written meanwhile to the folder for temporary files, also by the programs, lies in it. From here on a
-    signal to stop also ends every program that was started.
+    What is written meanwhile to the folder for temporary files, also by the programs, lies in it. Signals: see `take_signals`.
     """
     ctypes.CDLL(None, use_errno=True).prctl(PR_SET_CHILD_SUBREAPER, 1, 0, 0, 0)
-    for it in (signal.SIGINT, signal.SIGTERM, signal.SIGHUP):
-        # nohup has the last of them ignored.
-        if signal.getsignal(it) != signal.SIG_IGN:
-            signal.signal(it, stop)
+    take_signals()
     folder = os.path.realpath(tempfile.mkdtemp(prefix=f"{name}-", dir=parent))
     before = tempfile.gettempdir()
     tempfile.tempdir = os.environ["TMPDIR"] = f"{folder}/tmp"
@@ -197,6 +183,18 @@ def room(name, parent=None):
         end_all()
         tempfile.tempdir = os.environ["TMPDIR"] = before
         shutil.rmtree(folder, ignore_errors=True)
+
+
+def usage(doc, words, known=()):
+    """Prints the help and ends where it is asked for; ends with the usage where a word is an option that isn't known."""
+    if {"--help", "-h"} & {*words}:
+        signal.signal(signal.SIGPIPE, signal.SIG_DFL)
+        print(doc.strip())
+        sys.exit(0)
+    if any(it.startswith("-") for it in words if it not in known):
+        lines = doc.strip().split("\n\n")[1]
+        print(lines, file=sys.stderr)
+        sys.exit(2)
 
 
 def need(program):

@@ -1,5 +1,7 @@
 """The crates of a tree, as crates.txt lists them, and how the checker is called for one of them."""
 
+import contextlib
+import hashlib
 import os
 
 from gate import commands
@@ -97,6 +99,43 @@ class Tree:
         return None
 
 
+class Kept:
+    """What came out as it must before on this machine, and isn't tried again: in the folder for caches, by the sum of all that it rests on."""
+
+    FOLDER = os.path.join(os.environ.get("XDG_CACHE_HOME") or os.path.expanduser("~/.cache"), "migwelun-refused")
+
+    def __init__(self, tree, *words):
+        self.tree, self.sums, self.words = tree, {}, [*words, content(f"{tree.kit}/KIT-ID")]
+
+    def place(self, names, *words):
+        parts = [*self.words, *words, *map(self.crate, names)]
+        return f"{self.FOLDER}/{hashlib.sha256(repr(parts).encode()).hexdigest()}"
+
+    def crate(self, name):
+        """The sum of a crate's sources and of those below it."""
+        if name not in self.sums:
+            texts = [(it, content(f"{self.tree.folder(name)}/{it}")) for it in self.tree.sources(name)]
+            parts = [name, self.tree.uses[name], texts, [self.crate(it) for it in self.tree.own(name)]]
+            self.sums[name] = hashlib.sha256(repr(parts).encode()).hexdigest()
+        return self.sums[name]
+
+    def has(self, names, *words):
+        return os.path.isfile(self.place(names, *words))
+
+    def keep(self, names, *words):
+        with contextlib.suppress(OSError):
+            os.makedirs(self.FOLDER, 0o700, exist_ok=True)
+            with open(self.place(names, *words), "w", encoding="utf-8"):
+                pass
+
+
+def content(path):
+    """A file's bytes; none where there is no such file."""
+    with contextlib.suppress(OSError), open(path, "rb") as file:
+        return file.read()
+    return b""
+
+
 def listed(file):
     """What crates.txt says: each crate, and the libraries that it names."""
     found = {}
@@ -122,4 +161,4 @@ def repository():
 def work_tree():
     """The repository as it stands, with what earlier checks left in it."""
     commands.need("rt")
-    return Tree(repository(), kit_folder())
+    return Tree(repository(), kit_folder(), is_proved=os.environ.get("GATE_PROVED") == "1")

@@ -86,6 +86,26 @@ def name_in(crate, function, known):
     return found[0] if len(found) == 1 else None
 
 
+def names_by_source(crate, sources):
+    """The names of functions as their files have them, where no verdict has told them: those of free functions, and of methods by the
+    module in which their type stands. `sources` are texts by path.
+    """
+    types = {}
+    for path, text in sources.items():
+        for name in re.findall(r"^(?:pub(?:\([^)]*\))? )?(?:struct|enum|trait) (\w+)", text, re.M):
+            types[name] = "::".join([crate, *module_of(path)])
+    for path, text in sources.items():
+        for it in functions_in(path, text):
+            module = "::".join([crate, *module_of(path)])
+            trait, of, type_name = without_parameters(it.owner).partition(" for ")
+            if not it.owner:
+                yield f"{module}::{it.name}"
+            elif of:
+                yield f"{module}::{last_name(type_name)}{last_name(trait)}::{it.name}"
+            else:
+                yield f"{types.get(last_name(trait), module)}::{last_name(trait)}::{it.name}"
+
+
 def module_of(path):
     """The module of a file, as segments below the crate."""
     parts = path.removeprefix("src/").removesuffix(".rt").split("/")

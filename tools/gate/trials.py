@@ -1,22 +1,17 @@
-"""Edits that the prover accepts and that only a test, or a case, refuses.
+"""Wrong bodies that the prover accepts and that only a test, or a case, refuses.
 
-The test is built and run by `rt try`, from the sources of the whole tree and with no proof: the edited body has its
-proof from the round before. Of the test's crate all other tests are left out, which makes the build shorter. The
-test or case must pass without the edit, built in the same way.
+The test is built and run by `rt try`, from the sources of the whole tree and with no proof. Of the test's crate all other tests are left
+out, which makes the build shorter. It must pass without the wrong body, built in the same way.
 """
 
-import collections
 import os
 import re
 import shutil
 import tempfile
 import threading
 
-from gate import cases, commands, crates, functions, schedule
+from gate import cases, commands, crates, functions
 
-PASSES, FAILS = "passes", "fails"
-# What the tests' program says of a test.
-OUTCOMES = {"ok": PASSES, "FAILED": FAILS}
 # How long a build with its run may take, in seconds.
 LIMIT = 2400
 
@@ -26,100 +21,65 @@ class NotRun(Exception):
 
 
 class Trials:
-    """Runs single tests and cases over a tree with changed texts. `tests` are all that will be asked for. `nice`: see `commands.start`."""
+    """Runs single tests and cases over a tree with changed texts."""
 
-    def __init__(self, tree, room, tests, say, clock, nice=0):
-        self.tree, self.room, self.say, self.clock, self.nice = tree, room, say, clock, nice
+    def __init__(self, tree, room, tried):
+        self.tree, self.room, self.lock, self.without = tree, room, threading.Lock(), {}
+        self.tests = {}
+        for it in tried:
+            crate, _, test = it.whom.partition("::")
+            self.tests.setdefault(crate, set()).add(test)
         self.rt = f"{kit_without_hints(tree.kit, tempfile.mkdtemp(prefix='kit-', dir=room))}/bin/rt"
-        self.tests = collections.defaultdict(set)
-        for crate, _, test in (it.partition("::") for it in tests):
-            self.tests[crate].add(test)
-        self.lock, self.without = threading.Lock(), {}
 
-    def outcome(self, edit, texts):
-        """What the edit's test or case comes to with these texts in its crate."""
-        if self.passes_unchanged(edit) != PASSES:
-            raise NotRun("its test or case does not pass without the edit")
-        if edit.case:
-            return self.run_case(edit.case, edit.crate, texts, edit.label)
-        test_crate, _, test = edit.test.partition("::")
-        found = self.run_tests(test_crate, {test}, edit.crate, texts, edit.label)[test]
-        if found is None:
-            raise NotRun("its test did not run")
-        return found
-
-    def passes_unchanged(self, edit):
-        """What the edit's test or case comes to without the edit. All tests of a crate are looked at in one run."""
-        test_crate, _, test = (edit.test or "").partition("::")
-        key = edit.case or test_crate
+    def passes(self, it, texts):
+        """Whether the test or case of a wrong body passes with these texts in its crate. Without them it has to."""
+        crate, _, test = it.whom.partition("::")
         with self.lock:
-            if key not in self.without:
-                self.without[key] = self.control(key)
-        found = self.without[key]
-        if isinstance(found, NotRun):
-            raise found
-        return found if edit.case else found[test]
+            if crate not in self.without:
+                self.without[crate] = self.outcomes(it, None, {})
+        if not self.without[crate].get(test):
+            raise NotRun("its test or case does not pass without it")
+        passes = self.outcomes(it, it.crate, texts).get(test)
+        if passes is None:
+            raise NotRun("its test did not run")
+        return passes
 
-    def control(self, key):
-        label = f"{key} without an edit"
+    def outcomes(self, it, crate, texts):
+        """Whether the tests of a crate, or the case, pass."""
+        folder = tempfile.mkdtemp(prefix="try-", dir=self.room)
         try:
-            if key in self.tests:
-                return self.run_tests(key, self.tests[key], None, {}, label)
-            return self.run_case(key, None, {}, label)
-        except NotRun as why:
-            return why
+            self.lay(folder, crate, texts)
+            if it.kind == "case":
+                return {"": self.case_passes(it.whom, f"{folder}/crates/{cases.PROGRAM_CRATE}")}
+            test_crate, _, test = it.whom.partition("::")
+            kept = {test} if crate else self.tests[test_crate]
+            leave_out_tests(f"{folder}/crates/{test_crate}/src", {name.rpartition("::")[2] for name in kept})
+            ran = commands.run([self.rt, "try", "--test"], f"{folder}/crates/{test_crate}", limit=LIMIT)
+            found = [re.match(r"test (\S+) \.\.\. (\w+)", line) for line in ran.lines()]
+            if not any(found):
+                raise NotRun(f"the tests of {test_crate} did not run: {told(ran.lines())}")
+            return {line[1]: line[2] == "ok" for line in found if line}
+        finally:
+            shutil.rmtree(folder, ignore_errors=True)
 
-    def laid(self, label, crate, texts):
+    def lay(self, folder, crate, texts):
         """A copy of the tree's sources, with these texts in the crate."""
-        folder = tempfile.mkdtemp(prefix=f"try-{re.sub(r'[^a-z0-9]+', '-', label.lower())}-", dir=self.room)
         for name in ("crates.txt", "HANDLES"):
-            if os.path.isfile(f"{self.tree.root}/{name}"):
-                shutil.copyfile(f"{self.tree.root}/{name}", f"{folder}/{name}")
+            shutil.copyfile(f"{self.tree.root}/{name}", f"{folder}/{name}")
         for name in self.tree.uses:
-            for part in crates.PARTS:
-                source = f"{self.tree.folder(name)}/{part}"
-                if os.path.isdir(source):
-                    shutil.copytree(source, f"{folder}/crates/{name}/{part}")
+            for part in filter(lambda part: os.path.isdir(f"{self.tree.folder(name)}/{part}"), crates.PARTS):
+                shutil.copytree(f"{self.tree.folder(name)}/{part}", f"{folder}/crates/{name}/{part}")
         for path, text in texts.items():
             write(f"{folder}/crates/{crate}/{path}", text)
-        return folder
 
-    def run_tests(self, test_crate, tests, crate, texts, label):
-        """What these tests of a crate come to, by their paths in it: None for one that there is not."""
-        if test_crate not in self.tree.uses:
-            raise NotRun(f"crates.txt names no {test_crate}")
-        folder = self.laid(label, crate, texts)
-        leave_out_tests(f"{folder}/crates/{test_crate}/src", {it.rpartition("::")[2] for it in tests})
-        lines = self.tried([self.rt, "try", "--test"], f"{folder}/crates/{test_crate}", label).lines()
-        shutil.rmtree(folder, ignore_errors=True)
-        found = {it[1]: it[2] for it in (re.match(r"test (\S+) \.\.\. (\w+)", line) for line in lines) if it}
-        if not found:
-            raise NotRun(f"the tests of {test_crate} did not run: {told(lines)}")
-        return {it: OUTCOMES.get(found.get(it)) for it in tests}
-
-    def run_case(self, label, crate, texts, what):
-        """What a case comes to: its standard output and its status; rt writes lines of its own to standard error."""
-        try:
-            case = cases.read_case(self.tree.root, label)
-        except (cases.BadCase, OSError) as why:
-            raise NotRun(f"{label}: {why}") from None
-        folder = self.laid(what, crate, texts)
-        words = [self.rt, "try", "--", *case.words]
-        ran = self.tried(words, f"{folder}/crates/{cases.PROGRAM_CRATE}", what, case.given)
-        shutil.rmtree(folder, ignore_errors=True)
+    def case_passes(self, label, folder):
+        """By its standard output and its status; rt writes lines of its own to standard error."""
+        case = cases.read_case(self.tree.root, label)
+        ran = commands.run([self.rt, "try", "--", *case.words], folder, case.given, LIMIT, merged=False)
         ended = re.search(rb"^run=ended status=(\d+) .*proved=no\n\Z", ran.errors, re.M)
         if not ended:
             raise NotRun(f"{label} was not run: {told(ran.errors.decode(errors='replace').split(chr(10)))}")
-        is_same = ran.output == case.output and int(ended[1]) == case.status
-        return PASSES if is_same else FAILS
-
-    def tried(self, words, folder, what, given=b""):
-        limit = min(LIMIT, self.clock.seconds_left() or LIMIT)
-        ran = commands.run(words, folder, given, limit, merged="--test" in words, nice=self.nice)
-        if ran.was_cut and self.clock.is_over():
-            raise schedule.OutOfTime
-        self.say(f"   {what}: built and run: {ran.processor:.0f} s of processor time, {ran.wall:.0f} s")
-        return ran
+        return ran.output == case.output and int(ended[1]) == case.status
 
 
 def kit_without_hints(kit, folder, scripts=None):
@@ -160,23 +120,16 @@ def leave_out_tests(folder, kept):
         for name in (it for it in names if it.endswith(".rt")):
             with open(f"{at}/{name}", encoding="utf-8") as file:
                 text = file.read()
-            left = without_tests(text, kept)
-            if left != text:
-                write(f"{at}/{name}", left)
+            write(f"{at}/{name}", without_tests(text, kept))
 
 
 def without_tests(text, kept):
     """The text with empty lines in place of the tests that have none of these names."""
     lines = text.split("\n")
     for it in functions.functions_in("", text):
-        above = heading_of(lines, it.first)
+        above = it.first
+        while above and lines[above - 1].lstrip().startswith(("///", "#[")):
+            above -= 1
         if it.name not in kept and any(line.strip() == "#[test]" for line in lines[above : it.first]):
             lines[above : it.last + 1] = [""] * (it.last + 1 - above)
     return "\n".join(lines)
-
-
-def heading_of(lines, first):
-    """The first of the comments and attributes right above a function."""
-    while first and lines[first - 1].lstrip().startswith(("///", "#[")):
-        first -= 1
-    return first
