@@ -10,59 +10,63 @@ from typing import List
 sys.path[0] = os.path.dirname(os.path.dirname(os.path.realpath(__file__)))
 
 from gate import commands, crates  # noqa: E402
-from launch import build, command_line, sources, unproved  # noqa: E402
+from launch import build, sources, unproved  # noqa: E402
 
-UNPROVED = "--unproved"
+UNPROVED, VERSION, HELP = "--unproved", ("--version", "-V"), ("--help", "-h")
+SUBCOMMANDS = ("reply", "frame", "run", "serve")
+TEXTS = pathlib.Path(__file__).parent / "texts"
 
 
 def main(words: List[str]) -> int:
     tree = crates.Tree(crates.repository(), "")
-    if words[:1] == [UNPROVED]:
-        return run_unproved(tree, words[1:])
-    kept = sources.Kept(tree, "coord")
-    if not kept.is_current():
-        answer = command_line.answer_of(words)
-        if answer is not None:
-            return answer.tell()
-        if not has_toolchain(tree) or not build.build(tree, kept):
+    is_proved = words[:1] != [UNPROVED]
+    words = words if is_proved else words[1:]
+    kept = sources.program(tree) if is_proved else sources.Kept(tree, unproved.NAME)
+    is_there = kept.is_current()
+    state = "proved" if is_proved else unproved.STATE
+    if len(words) == 1 and words[0] in VERSION:
+        print(f"{text('version').strip()}, {state if is_there else 'not built'}")
+        return 0
+    if not is_there:
+        asked = help_for(words)
+        if asked:
+            sys.stderr.write(text(asked))
+            return 2
+        make = build.build if is_proved else unproved.compile_program
+        if not has_toolchain(tree) or not make(tree, kept):
             return 1
-    return run(kept, words)
-
-
-def run_unproved(tree: crates.Tree, words: List[str]) -> int:
-    kept = sources.Kept(tree, "coord-unproved")
-    if not kept.is_current():
-        answer = command_line.answer_of(words)
-        if answer is not None:
-            return answer.tell()
-        if not has_toolchain(tree):
-            return 1
-        try:
-            if not unproved.native(tree, kept):
-                return unproved.tried(tree, words)
-        except unproved.Refused as why:
-            print(why, file=sys.stderr)
-            build.tell("the sources are no program")
-            return 1
-    build.tell("an unproved run: nothing of what it does is proved")
-    return run(kept, words)
-
-
-def run(kept: sources.Kept, words: List[str]) -> int:
+    if not is_proved:
+        build.say(state)
     # Python ignores this signal, and the program would inherit that.
     signal.signal(signal.SIGPIPE, signal.SIG_DFL)
-    return os.execv(kept.program, ["coord", *words])
+    return os.execv(kept.file, ["coord", *words])
+
+
+def help_for(words: List[str]) -> str:
+    """The name of the help that the words ask for, if they ask for no more."""
+    if not words:
+        return "nothing"
+    if len(words) == 1 and words[0] in ("help", *HELP):
+        return "coord"
+    if len(words) == 2 and (words[0] == "help" or words[1] in HELP):
+        name = words[1] if words[0] == "help" else words[0]
+        return name if name in SUBCOMMANDS else ""
+    return ""
+
+
+def text(name: str) -> str:
+    return (TEXTS / f"{name}.txt").read_text()
 
 
 def has_toolchain(tree: crates.Tree) -> bool:
-    """Whether rt is there. A kit other than the one that the project was proved with is said in one line."""
+    """Whether rt is there. A kit other than the one that the project was proved with is named in one line."""
     if not shutil.which("rt"):
-        build.tell("rt, the command of the Rattle toolchain that builds the program, is not on PATH")
+        build.say("rt, the command of the Rattle toolchain that builds the program, is not on PATH")
         return False
     wanted = pathlib.Path(tree.root, "KIT").read_text().strip()
     found = commands.run(["rt", "version"]).lines()[0].strip()
     if found != wanted:
-        build.tell(f"the kit here is {found}; the project was proved with {wanted}")
+        build.say(f"the kit here is {found}; the project was proved with {wanted}")
     return True
 
 

@@ -1,4 +1,4 @@
-"""Proves the crates that the program is made of, side by side, and builds the program.
+"""Proves the crates that the program, or the library, is made of, side by side, and builds it.
 
 A crate is checked over the statements of the libraries below it, as `rt ci` does, and not over their proofs: that is faster the more stands
 below it. What is proved of a library is kept in its folder out/proved, with a checksum of all that it was made of.
@@ -6,7 +6,6 @@ below it. What is proved of a library is kept in its folder out/proved, with a c
 
 import concurrent.futures
 import contextlib
-import dataclasses
 import fcntl
 import os
 import pathlib
@@ -15,7 +14,7 @@ import signal
 import sys
 import threading
 import time
-from typing import Dict, Iterator, List, Optional
+from typing import Dict, Iterator, List, Tuple
 
 from gate import commands, crates, schedule, whole
 from launch import progress, sources
@@ -30,7 +29,7 @@ SHOWN = 20
 NEAR, BESIDE = 0.9, 10
 
 
-def tell(text: str) -> None:
+def say(text: str) -> None:
     print(f"coord: {text}", file=sys.stderr, flush=True)
 
 
@@ -42,7 +41,7 @@ def turn(tree: crates.Tree) -> Iterator[None]:
         try:
             fcntl.flock(lock, fcntl.LOCK_EX | fcntl.LOCK_NB)
         except BlockingIOError:
-            tell("another build is under way in this folder: waiting for it")
+            say("another build is under way in this folder: waiting for it")
             fcntl.flock(lock, fcntl.LOCK_EX)
         yield
     finally:
@@ -53,88 +52,75 @@ def turn(tree: crates.Tree) -> Iterator[None]:
 def room(tree: crates.Tree) -> Iterator[str]:
     """A folder for the copies, on the disk of the tree where that has a folder of git's. What a killed build left is removed."""
     git = f"{tree.root}/.git"
-    parent = git if os.path.isdir(git) else None
     for left in pathlib.Path(git).glob("coord-*"):
         shutil.rmtree(left, ignore_errors=True)
-    with commands.room("coord", parent) as folder:
+    with commands.room("coord", git if os.path.isdir(git) else None) as folder:
         yield folder
 
 
 class Over(crates.Tree):
-    """A copy of the sources, which later edits don't reach, over the libraries that are kept in the tree itself."""
+    """A copy of the sources of one crate and those below, which later edits don't reach, over the libraries that are kept in the tree itself."""
 
-    def __init__(self, home: crates.Tree, copied: crates.Tree, kit: str) -> None:
+    def __init__(self, home: crates.Tree, copied: crates.Tree, kit: str, goal: str) -> None:
         super().__init__(copied.root, kit)
-        self.home = home
+        self.home, self.goal = home, goal
+        # Those that `rt ci` has just built serve where it has built all.
+        self.is_by_ci = all(map(home.is_made, home.below(goal)))
 
     def library(self, crate: str) -> str:
-        return f"{self.home.folder(crate)}/out/proved/{crate}.rlib"
+        return self.home.library(crate) if self.is_by_ci else f"{self.home.folder(crate)}/out/proved/{crate}.rlib"
 
     def note(self, crate: str) -> pathlib.Path:
         return pathlib.Path(f"{self.library(crate)}.sum")
 
-    def sum_of(self, crate: str) -> str:
-        return sources.sum_of(self, crate, self.kit)
-
     def is_kept(self, crate: str) -> bool:
         """Whether there is a library of the crate's sources and of those below it as they are in the copy."""
         try:
-            return os.path.isdir(self.library(crate)) and self.note(crate).read_text() == self.sum_of(crate)
+            return self.is_by_ci or os.path.isdir(self.library(crate)) and self.note(crate).read_text() == sources.sum_of(self, crate, self.kit)
         except OSError:
             return False
 
-    def build_words(self, crate: str, program: str) -> List[str]:
-        """The words that prove a crate and build it: a library for the crates above, or what is linked into the program."""
-        if crate == sources.CRATE:
-            made = ["--toolchain", f"{self.kit}/toolchain", "-o", f"{program}.o"]
-        else:
-            made = ["--statements", "-o", self.library(crate)]
-        return [*self.check_words(crate, verb="build"), *made]
-
-
-@dataclasses.dataclass
-class Task:
-    """A crate that is being proved."""
-
-    crate: str
-    memory: float
-    jobs: int
-    nice: int
+    def build_words(self, crate: str, made: str) -> List[str]:
+        """The words that prove a crate and build it: a library for the crates above, or what is linked into the program, or the C library."""
+        if crate != self.goal:
+            return [*self.check_words(crate, verb="build"), "--statements", "-o", self.library(crate)]
+        is_program = self.root_file(crate).endswith("main.rt")
+        made_as = ["-o", f"{made}.o"] if is_program else ["--crate-type", "staticlib", "--backend", "llvm", "-o", f"{made}.a"]
+        return [*self.check_words(crate, verb="build"), "--toolchain", f"{self.kit}/toolchain", *made_as]
 
 
 class Build:
     """One build: what is left to do, and what runs."""
 
-    def __init__(self, tree: crates.Tree, folder: str) -> None:
-        copied = sources.copy(tree, f"{folder}/sources")
-        self.over, self.program = Over(tree, copied, crates.kit_folder()), f"{folder}/{sources.CRATE}"
-        self.made_of = sources.sum_of(copied)
+    def __init__(self, tree: crates.Tree, folder: str, goal: str, made: str) -> None:
+        copied = sources.copy(tree, f"{folder}/sources", goal)
+        self.over, self.goal, self.made = Over(tree, copied, crates.kit_folder(), goal), goal, made
+        self.made_of = sources.sum_of(copied, goal)
         self.processors, self.memory = schedule.processors(), schedule.USED_MEMORY * schedule.free_memory()
-        self.every = sources.crates_of(tree)
+        self.every = sources.crates_of(copied, goal)
         # Statements fit the very libraries that they were made over.
-        self.names = self.over.above([it for it in self.every if it == sources.CRATE or not self.over.is_kept(it)])
+        self.names = self.over.above([it for it in self.every if it == goal or not self.over.is_kept(it)])
         self.lanes = min(self.processors, MOST_LANES, len(self.names))
-        self.progress = progress.Progress(tree, self.names, self.lanes)
+        self.progress = progress.Progress(copied, self.names, self.lanes)
         self.chains = self.progress.chains()
-        self.order = sorted(self.names, key=lambda it: self.chains[it], reverse=True)
-        self.running: Dict["concurrent.futures.Future[commands.Ran]", Task] = {}
+        # What runs: its crate, and the memory that is set aside for it.
+        self.running: Dict["concurrent.futures.Future[commands.Ran]", Tuple[str, float]] = {}
         self.finished: List[str] = []
         self.is_over = threading.Event()
 
-    def run(self) -> bool:
-        """Proves every crate, and links the program. Whether there is one."""
-        began = time.monotonic()
-        left, count = len(self.names), len(self.every)
+    def run(self, what: str) -> bool:
+        """Proves every crate, and builds of them what is wanted. Whether that was built."""
+        began, left, count = time.monotonic(), len(self.names), len(self.every)
         which = f"its {count} crates are" if left == count else f"{left} of its {count} crates {'is' if left == 1 else 'are'}"
-        tell(f"building the program: {which} proved first, side by side; {self.progress.minutes_left()} on this machine")
+        say(f"building the {what}: {which} proved first, side by side; {self.progress.time_left()} on this machine")
         with concurrent.futures.ThreadPoolExecutor(self.lanes) as pool:
             try:
-                is_built = self.prove_all(pool) and self.link()
+                is_built = self.prove_all(pool)
             finally:
                 self.is_over.set()
                 commands.end_all()
         if is_built:
-            tell(f"built in {time.monotonic() - began:.0f} s")
+            say(f"built in {time.monotonic() - began:.0f} s")
         return is_built
 
     def prove_all(self, pool: concurrent.futures.Executor) -> bool:
@@ -143,98 +129,84 @@ class Build:
             self.begin(pool)
             # A signal that comes right before a wait is seen at its end, so that this has one.
             for it in concurrent.futures.wait(self.running, 1, concurrent.futures.FIRST_COMPLETED).done:
-                if not self.end(self.running.pop(it), it.result()):
+                if not self.end(self.running.pop(it)[0], it.result()):
                     return False
         return True
 
     def begin(self, pool: concurrent.futures.Executor) -> None:
-        """Begins those crates that are ready, as many as there is memory for."""
-        running = [it.crate for it in self.running.values()]
-        waits = {*self.names} - {*self.finished}
-        ready = [it for it in self.order if it in waits and it not in running and not waits & {*self.over.below(it)}]
-        longest = max((self.chains[it] for it in (*running, *ready)), default=0)
-        foremost = [it for it in (*running, *ready) if self.chains[it] >= NEAR * longest]
-        for crate in ready:
-            task = self.task(crate, foremost)
-            if task is not None:
-                self.running[pool.submit(self.prove, task)] = task
-
-    def task(self, crate: str, foremost: List[str]) -> Optional[Task]:
-        """The crate with its jobs, or nothing where there is no room for it now.
+        """Begins those crates that are ready, the longest chains first, as many as there is memory for.
 
         The longest chains share the processors, and the others have what they leave: where one comes to its last functions, say.
         """
-        room = self.memory - sum(it.memory for it in self.running.values())
-        need = schedule.need_of(self.over, crate)
-        if len(self.running) >= self.lanes or self.running and room < need:
-            return None
-        fitting = 1 + int(max(room / need - 1, 0) / schedule.JOB_MEMORY)
-        sharers = min(len(foremost), 2) if crate in foremost else 2
-        jobs = min(fitting, schedule.MOST_JOBS, max(1, self.processors // sharers))
-        return Task(crate, need * (1 + schedule.JOB_MEMORY * (jobs - 1)), jobs, 0 if crate in foremost else BESIDE)
+        running = [crate for crate, _ in self.running.values()]
+        waits = {*self.names} - {*self.finished}
+        ready = [it for it in self.names if it in waits and it not in running and not waits & {*self.over.below(it)}]
+        longest = max((self.chains[it] for it in (*running, *ready)), default=0)
+        foremost = [it for it in (*running, *ready) if self.chains[it] >= NEAR * longest]
+        for crate in sorted(ready, key=lambda it: self.chains[it], reverse=True):
+            is_foremost = crate in foremost
+            jobs, memory = self.fitting(crate, self.processors // (min(len(foremost), 2) if is_foremost else 2))
+            if jobs and len(self.running) < self.lanes:
+                self.running[pool.submit(self.prove, crate, jobs, 0 if is_foremost else BESIDE)] = crate, memory
 
-    def prove(self, task: Task) -> commands.Ran:
+    def fitting(self, crate: str, most: int) -> Tuple[int, float]:
+        """With how many jobs there is memory for the crate now, and how much that is. Alone it always gets one."""
+        room = self.memory - sum(memory for _, memory in self.running.values())
+        need = schedule.need_of(self.over, crate)
+        for jobs in range(min(most, schedule.MOST_JOBS), 1, -1):
+            if need * (1 + schedule.JOB_MEMORY * (jobs - 1)) <= room:
+                return jobs, need * (1 + schedule.JOB_MEMORY * (jobs - 1))
+        return int(need <= room or not self.running), need
+
+    def prove(self, crate: str, jobs: int, nice: int) -> commands.Ran:
         """Proves and builds a crate. Where its jobs are too much for the memory, one has to do."""
-        os.makedirs(os.path.dirname(self.over.library(task.crate)), exist_ok=True)
-        for jobs in dict.fromkeys((task.jobs, 1)):
-            words = [*self.over.build_words(task.crate, self.program), "--jobs", str(jobs)]
-            ran = commands.run(words, self.over.folder(task.crate), nice=task.nice)
+        os.makedirs(os.path.dirname(self.over.library(crate)), exist_ok=True)
+        for some in dict.fromkeys((jobs, 1)):
+            ran = commands.run([*self.over.build_words(crate, self.made), "--jobs", str(some)], self.over.folder(crate), nice=nice)
             if ran.status != -signal.SIGKILL or self.is_over.is_set():
                 break
-        if ran.status == 0 and task.crate != sources.CRATE:
-            self.over.note(task.crate).write_text(self.over.sum_of(task.crate))
+        if ran.status == 0 and crate != self.goal:
+            self.over.note(crate).write_text(sources.sum_of(self.over, crate, self.over.kit))
         return ran
 
-    def link(self) -> bool:
-        """Links the program. Whether that succeeds."""
-        ran = commands.run(link_words(self.over.kit, f"{self.program}.o", self.program))
-        if ran.status:
-            print(*said_of(ran), sep="\n", file=sys.stderr)
-        return ran.status == 0
-
-    def end(self, task: Task, ran: commands.Ran) -> bool:
+    def end(self, crate: str, ran: commands.Ran) -> bool:
         """Says how a crate came out, and whether it is proved."""
-        self.finished.append(task.crate)
-        self.progress.done(task.crate, ran.processor)
-        title = f"{len(self.finished)} of {len(self.names)}, {task.crate}"
-        if ran.status:
-            tell(f"{title}: failed")
-            print(*said_of(ran), sep="\n", file=sys.stderr)
-            return False
-        left = f"; {self.progress.minutes_left()} left" if self.progress.left else ""
-        tell(f"{title}: {ran.wall:.0f} s{left}")
-        return True
+        self.finished.append(crate)
+        self.progress.done(crate, ran.processor)
+        left = f"; {self.progress.time_left()} left" if self.progress.left else ""
+        say(f"{len(self.finished)} of {len(self.names)}, {crate}: " + ("failed" if ran.status else f"{ran.wall:.0f} s{left}"))
+        return succeeds(ran)
 
 
-def said_of(ran: commands.Ran) -> List[str]:
-    """The last lines of what was said of a crate that isn't proved, without those of what is."""
-    said = [it for it in ran.lines() if not whole.NOISE.match(it)][-SHOWN:] or ran.lines()[-SHOWN:]
-    return [*said, *[f"the toolchain was ended by signal {-ran.status}"] * (ran.status < 0)]
+def succeeds(ran: commands.Ran) -> bool:
+    """Whether a program had the status 0. Else the last lines of what it said are shown, without those of what is proved."""
+    if ran.status:
+        said = [it for it in ran.lines() if not whole.NOISE.match(it)][-SHOWN:] or ran.lines()[-SHOWN:]
+        print(*said, *[f"the toolchain was ended by signal {-ran.status}"] * (ran.status < 0), sep="\n", file=sys.stderr)
+    return ran.status == 0
 
 
-def link_words(kit: str, module: str, program: str) -> List[str]:
-    """The words that link a compiled module into a program."""
-    libraries = [f"{kit}/c/libos_c.a", f"{kit}/c/liblibc_c.a"]
-    return [f"{kit}/bin/rattle-link", "--target", TARGET, "--toolchain", f"{kit}/toolchain", "-o", program, module, *libraries]
+def link(kit: str, folder: str, module: str, program: str) -> bool:
+    """Links a compiled module into a program. Whether that succeeds."""
+    words = [f"{kit}/bin/rattle-link", "--target", TARGET, "--toolchain", f"{kit}/toolchain", "-o", program, module]
+    return succeeds(commands.run([*words, f"{kit}/c/libos_c.a", f"{kit}/c/liblibc_c.a"], folder))
 
 
 def build(tree: crates.Tree, kept: sources.Kept) -> bool:
-    """Proves and builds the program, unless another launcher has just done it. Whether there is one."""
+    """Proves and builds what is to be kept, unless another launcher has just done it. Whether it is there."""
+    what, stem = "library" if kept.crate == sources.LIBRARY else "program", kept.file.stem
     with turn(tree):
-        return kept.is_current() or made(tree, kept)
-
-
-def made(tree: crates.Tree, kept: sources.Kept) -> bool:
-    """Proves and builds the program, and keeps it. Whether it was built."""
-    try:
-        with room(tree) as folder:
-            build_of = Build(tree, folder)
-            if not build_of.run():
-                tell("the program was not built")
-                return False
-            kept.keep(pathlib.Path(build_of.program), build_of.made_of)
-    except SystemExit:
-        tell("interrupted, and the program was not built")
-        raise
-    kept.is_current()
+        if kept.is_current():
+            return True
+        try:
+            with room(tree) as folder:
+                build_of = Build(tree, folder, kept.crate, f"{folder}/{stem}")
+                is_linked = build_of.run(what) and (what == "library" or link(build_of.over.kit, folder, f"{stem}.o", stem))
+                if not is_linked:
+                    say(f"the {what} was not built")
+                    return False
+                kept.keep(folder, build_of.made_of)
+        except SystemExit:
+            say(f"interrupted, and the {what} was not built")
+            raise
     return True

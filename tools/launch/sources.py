@@ -1,7 +1,7 @@
-"""Which program was made of which sources.
+"""Which file of out/ was made of which sources.
 
-Beside a kept program NAME stand two notes. NAME.sum has the checksum of the sources that it was made of, and its own. NAME.list is what
-`list-sources` printed when these agreed: while it still prints the same, nothing has changed, and no file needs to be read.
+Beside a file NAME are two notes. NAME.sum has the checksum of the sources that it was made of, and its own. NAME.list is what `list-sources`
+printed when these agreed: while it still prints the same, nothing has changed, and no file needs to be read.
 """
 
 import contextlib
@@ -10,43 +10,47 @@ import os
 import pathlib
 import shutil
 import subprocess
-import time
-from typing import List, Optional
+from typing import Sequence
 
 from gate import crates
 
-# The crate of the program.
-CRATE = "scenario_cli"
-# How long a change may hide behind one of the same moment, in seconds, and how often a moment that is past is waited for.
-TICK, TRIES = 0.02, 50
+PROGRAM, LIBRARY = "scenario_cli", "coord_c"
+# How long a change may hide behind one of the same moment, in seconds.
+TICK = 0.02
 
 
 class Kept:
-    """A program that is kept with the notes of what it was made of."""
+    """A file that was built of a crate, with the notes of what it was made of. `beside` are more files that the same build makes."""
 
-    def __init__(self, tree: crates.Tree, name: str) -> None:
-        self.tree = tree
-        self.out = pathlib.Path(tree.folder(CRATE), "out")
-        self.program = self.out / name
+    def __init__(self, tree: crates.Tree, name: str, crate: str = PROGRAM, beside: Sequence[str] = ()) -> None:
+        self.tree, self.crate = tree, crate
+        self.out = pathlib.Path(tree.root, "out")
+        self.file, *self.beside = (self.out / it for it in (name, *beside))
         self.list, self.sum = self.out / f"{name}.list", self.out / f"{name}.sum"
 
     def is_current(self) -> bool:
-        """Whether the program was made of the sources as they are. If so, the list is noted that says it sooner next time."""
+        """Whether the file was made of the sources as they are. If so, the list is noted that shows it sooner next time."""
         try:
-            noted = self.sum.read_text().split()
-            listed = self.settled_list()
-            if noted != [sum_of(self.tree), sum_of_file(self.program)]:
+            listed, clock = self.listed(), self.file_clock()
+            if self.sum.read_text() != self.sums(sum_of(self.tree, self.crate)):
                 return False
         except OSError:
             return False
-        if listed is not None and listed == self.listed():
+        changes = [float(line.rpartition(b" ")[2]) for line in listed.splitlines()]
+        if max(changes, default=clock) < clock - TICK and listed == self.listed():
             self.write(self.list, listed)
         return True
 
-    def keep(self, program: pathlib.Path, made_of: str) -> None:
-        """Takes a program that was made of the sources with this checksum."""
-        self.write(self.sum, f"{made_of} {sum_of_file(program)}\n".encode())
-        self.write(self.program, program.read_bytes(), mode=0o755)
+    def sums(self, made_of: str) -> str:
+        files = (hashlib.sha256(it.read_bytes()).hexdigest() for it in (self.file, *self.beside))
+        return " ".join([made_of, *files]) + "\n"
+
+    def keep(self, folder: str, made_of: str) -> None:
+        """Takes the files from the folder, where they were made of the sources with this checksum."""
+        for it in (*self.beside, self.file):
+            made = pathlib.Path(folder, it.name)
+            self.write(it, made.read_bytes(), made.stat().st_mode & 0o777)
+        self.write(self.sum, self.sums(made_of).encode())
 
     def write(self, file: pathlib.Path, content: bytes, mode: int = 0o644) -> None:
         """Writes a file so that nobody meets half of it."""
@@ -60,21 +64,8 @@ class Kept:
             part.unlink(missing_ok=True)
 
     def listed(self) -> bytes:
-        words = [f"{self.tree.root}/tools/launch/list-sources", self.program.name]
+        words = [f"{self.tree.root}/tools/launch/list-sources", self.file.name]
         return subprocess.run(words, stdout=subprocess.PIPE).stdout
-
-    def settled_list(self) -> Optional[bytes]:
-        """The list, once the last change in it is past, so that each later one shows."""
-        for _ in range(TRIES):
-            now = self.file_clock()
-            listed = self.listed()
-            changes = [float(line.rpartition(b" ")[2]) for line in listed.splitlines()]
-            if not changes:
-                break
-            if max(changes) < now - TICK:
-                return listed
-            time.sleep(TICK)
-        return None
 
     def file_clock(self) -> float:
         """The present moment by the clock that dates the files, which may be another machine's."""
@@ -82,17 +73,22 @@ class Kept:
         return self.out.stat().st_ctime
 
 
-def crates_of(tree: crates.Tree) -> List[str]:
-    """The crates that the program is made of, lowest first."""
-    return [*tree.below(CRATE), CRATE]
+def program(tree: crates.Tree) -> Kept:
+    """The proved program. The object that it is linked of is kept for packages."""
+    return Kept(tree, "coord", beside=["coord.o"])
 
 
-def sum_of(tree: crates.Tree, name: str = CRATE, kit: str = "") -> str:
-    """A checksum of all that a crate is made of, the program's if none is named: its sources, those below it, and the toolchain where given."""
+def crates_of(tree: crates.Tree, crate: str) -> Sequence[str]:
+    """The crates that this one is made of, lowest first, and itself."""
+    return [*tree.below(crate), crate]
+
+
+def sum_of(tree: crates.Tree, name: str, kit: str = "") -> str:
+    """A checksum of all that a crate is made of: its sources, those below it, and the toolchain where given."""
     made = hashlib.sha256()
     with contextlib.suppress(OSError):
         made.update(pathlib.Path(kit, "KIT-ID").read_bytes() if kit else b"")
-    for crate in [*tree.below(name), name]:
+    for crate in crates_of(tree, name):
         made.update(repr((crate, tree.uses[crate])).encode())
         for path in tree.sources(crate):
             content = pathlib.Path(tree.folder(crate), path).read_bytes()
@@ -100,16 +96,12 @@ def sum_of(tree: crates.Tree, name: str = CRATE, kit: str = "") -> str:
     return made.hexdigest()
 
 
-def sum_of_file(file: pathlib.Path) -> str:
-    return hashlib.sha256(file.read_bytes()).hexdigest()
-
-
-def copy(tree: crates.Tree, folder: str) -> crates.Tree:
-    """Copies the sources of the program, without what was built of them."""
+def copy(tree: crates.Tree, folder: str, name: str) -> crates.Tree:
+    """Copies the sources of a crate and of those below it, without what was built of them."""
     os.makedirs(folder)
-    lines = [f"{it}: {' '.join(tree.uses[it])}\n" for it in crates_of(tree)]
+    lines = [f"{it}: {' '.join(tree.uses[it])}\n" for it in crates_of(tree, name)]
     pathlib.Path(folder, "crates.txt").write_text("".join(lines))
-    for crate in crates_of(tree):
+    for crate in crates_of(tree, name):
         os.makedirs(f"{folder}/crates/{crate}")
         for part in crates.PARTS:
             if os.path.isdir(f"{tree.folder(crate)}/{part}"):
