@@ -1,19 +1,28 @@
 """The bytes of fields, and back (Kafka protocol guide, KIP-482)."""
 
 LONGEST_TEXT = 32_767
+# Why a field can't be read: it ends too early, a varint isn't in its shortest form, a length or a varint is too great, a text isn't UTF-8,
+# tags don't rise, a count is null or negative where it may not be.
+SHORT, NOT_SHORTEST, TOO_LONG, NOT_UTF8, TAG_ORDER, BAD_COUNT = range(1, 7)
 
 
 class Unreadable(Exception):
-    pass
+    """Bytes that are no field, or no message; `fault` is one of the above, or None."""
+
+    def __init__(self, fault=None):
+        super().__init__(fault)
+        self.fault = fault
 
 
 class Reader:
+    """Reads fields from the front of bytes, and counts the tagged fields that it has read."""
+
     def __init__(self, data):
-        self.data, self.at = data, 0
+        self.data, self.at, self.tag_count = data, 0, 0
 
     def take(self, count):
         if self.at + count > len(self.data):
-            raise Unreadable
+            raise Unreadable(SHORT)
         self.at += count
         return self.data[self.at - count : self.at]
 
@@ -24,49 +33,52 @@ class Reader:
         value = 0
         for place in range(5):
             byte = self.take(1)[0]
+            if place == 4 and byte > 15:
+                raise Unreadable(TOO_LONG)
             value |= (byte & 127) << 7 * place
             if byte < 128:
-                if value >= 1 << 32 or place and not byte:
-                    raise Unreadable
-                return value
-        raise Unreadable
+                break
+        if place and not byte:
+            raise Unreadable(NOT_SHORTEST)
+        return value
+
+    def count(self, nullable=False):
+        count = self.varint()
+        if count == 0 and not nullable:
+            raise Unreadable(BAD_COUNT)
+        return count - 1 if count else None
 
     def text(self, nullable=False):
-        length = self.varint()
-        if length == 0 and nullable:
-            return None
-        if length == 0 or length - 1 > LONGEST_TEXT:
-            raise Unreadable
-        return self.utf8(length - 1)
+        length = self.count(nullable)
+        if length is not None and length > LONGEST_TEXT:
+            raise Unreadable(TOO_LONG)
+        return None if length is None else self.utf8(length)
 
     def old_text(self):
         length = self.int(2)
         if length < -1:
-            raise Unreadable
+            raise Unreadable(BAD_COUNT)
         return None if length == -1 else self.utf8(length)
 
     def utf8(self, length):
         try:
             return self.take(length).decode()
         except UnicodeDecodeError:
-            raise Unreadable from None
+            raise Unreadable(NOT_UTF8) from None
 
     def array(self, element, nullable=False):
-        count = self.varint()
-        if count == 0:
-            if nullable:
-                return None
-            raise Unreadable
-        return [element() for _ in range(count - 1)]
+        count = self.count(nullable)
+        return None if count is None else [element() for _ in range(count)]
 
     def tags(self):
-        last = -1
-        for _ in range(self.varint()):
+        count, last = self.varint(), -1
+        for _ in range(count):
             tag = self.varint()
             if tag <= last:
-                raise Unreadable
+                raise Unreadable(TAG_ORDER)
             last = tag
             self.take(self.varint())
+        self.tag_count += count
 
 
 def put_int(value, size):
@@ -84,12 +96,21 @@ def put_varint(value):
 def put_text(text):
     if text is None:
         return b"\0"
-    data = text.encode()
+    data = text if isinstance(text, bytes) else text.encode()
     return put_varint(len(data) + 1) + data
+
+
+def put_old_text(text):
+    return put_int(-1, 2) if text is None else put_int(len(text), 2) + text
 
 
 def put_array(elements):
     return b"\0" if elements is None else put_varint(len(elements) + 1) + b"".join(elements)
+
+
+def put_tags(fields):
+    """Tagged fields: pairs of a tag and its bytes."""
+    return put_varint(len(fields)) + b"".join(put_varint(tag) + put_varint(len(value)) + value for tag, value in fields)
 
 
 def put_topics(partitions):
