@@ -5,6 +5,7 @@ from __future__ import annotations
 import argparse
 import dataclasses
 import math
+import os
 import pathlib
 import re
 from typing import List, NoReturn, Optional, Sequence, Tuple, Union
@@ -12,7 +13,7 @@ from typing import List, NoReturn, Optional, Sequence, Tuple, Union
 from broker.topics import Topic, Topics, read
 
 TOP = pathlib.Path(__file__).resolve().parents[1]
-LAUNCHER, LIBRARY = TOP / "coord", TOP / "crates/coord_c/out/libmigwelun.so"
+LAUNCHER, LIBRARY = TOP / "coord", TOP / "out/libmigwelun.so"
 MOST_RECORDS_A_SECOND = 10_000
 START, EMBEDDED = None, "embedded"
 # A coordinator's host and port, or one that is to be started, or one in this process.
@@ -40,7 +41,7 @@ class Parser(argparse.ArgumentParser):
 
 def parse(words: List[str]) -> Options:
     parser = Parser(
-        prog="python3 -m broker",
+        prog=os.environ.get("BROKER_NAME", "python3 -m broker"),
         description="Plays the rest of a Kafka broker in front of `coord serve`, so that stock consumers can use it.",
     )
     parser.add_argument(

@@ -2,7 +2,7 @@
  * A server of one thread, with the coordinator inside: it answers heartbeats and commits on a port of 127.0.0.1.
  *
  *     tools/build-library
- *     cc -I include -o embedded examples/embed/broker.c crates/coord_c/out/libmigwelun.a
+ *     cc -I include -o embedded examples/embed/broker.c out/libmigwelun.a
  *     ./embedded 9192 orders:11111111-1111-1111-1111-111111111111:4
  *
  * Port 0 is any that is free; the line `listening PORT` says which. It runs until a signal ends it.

@@ -9,7 +9,7 @@ from gate import crates
 SECONDS: Dict[str, int] = dict(
     flex_wire=100, kip_msgs=330, group_types=145, topic_meta=80, range_assign=130, uniform_assign=320, group_target=35, group_reconcile=160,
     group_epochs=430, offset_guard=135, group_core=350, coord_node=200, coord_shards=350, member_core=180, link_futures=520, coord_server=550,
-    world_sim=365, scenario_text=330, scenario_lines=500, scenario_cli=365, coord_c=200,
+    world_sim=365, scenario_text=330, scenario_lines=500, scenario_cli=365, coord_c=90,
 )  # fmt: skip
 # What a crate is taken for that was never measured.
 OTHERS = 200

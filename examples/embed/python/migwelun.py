@@ -1,6 +1,6 @@
 """A coordinator inside a Python program: the C library libmigwelun.so, as tools/build-library makes it, over ctypes.
 
-    coordinator = migwelun.Coordinator("crates/coord_c/out/libmigwelun.so")
+    coordinator = migwelun.Coordinator("out/libmigwelun.so")
     coordinator.set_topics([("orders", uuid.UUID(int=1).bytes, 4)])
     reply = coordinator.answer(body, connection=1, frame=1, moment=now)
 

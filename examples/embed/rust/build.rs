@@ -4,7 +4,7 @@ use std::env;
 
 fn main() {
     let here = env::var("CARGO_MANIFEST_DIR").expect("cargo names the folder");
-    let folder = env::var("MIGWELUN_LIBRARY").unwrap_or(format!("{here}/../../../crates/coord_c/out"));
+    let folder = env::var("MIGWELUN_LIBRARY").unwrap_or(format!("{here}/../../../out"));
     println!("cargo:rerun-if-env-changed=MIGWELUN_LIBRARY");
     println!("cargo:rerun-if-changed={folder}/libmigwelun.a");
     println!("cargo:rustc-link-search=native={folder}");

@@ -1,0 +1,129 @@
+"""The files of a package. Below share/migwelun is what this repository has, so that its Python programs find each other there as here."""
+
+import os
+import pathlib
+import re
+import subprocess
+import sys
+from typing import Dict, List, Tuple
+
+from gate import commands, crates
+from packages import completions, manual, options
+from packages.archives import Entry, Files, zipped
+
+TOP = pathlib.Path(__file__).resolve().parents[2]
+FILES, TEXTS = TOP / "tools/packages/files", TOP / "tools/launch/texts"
+VERSION = (TEXTS / "version.txt").read_text().split()[1]
+SUBCOMMANDS = ("reply", "frame", "run", "serve")
+BROKER = "migwelun-broker"
+# The tools that need only Python, which are commands migwelun-NAME of the package, and the parts that they share.
+TOOLS = ("tell-run", "draw-run", "write-run", "tell-capture", "run-lines", "reply-lines")
+SHARED = ("rules", "stories")
+EXAMPLES = ("*.md", "*.py", "run/*", "reply/*", "frame/*", "stories/*", "capture/*", "embed/*.c", "embed/python/*.py", "embed/rust/*.*", "embed/rust/*/*.rs")
+# The newest C library that may be needed: Debian 11's.
+NEWEST_GLIBC = (2, 31)
+DESCRIPTION = """Kafka consumer group coordinator (KIP-848), proved
+ Coordinates Kafka consumer groups by the KIP-848 rebalance protocol: a server on 127.0.0.1, a program that answers frames and scripts line by
+ line, a C library, and a small broker in Python (migwelun-broker) for stock consumers. Each reply is proved, byte by byte, to be
+ the one that the definitions of the protocol prescribe."""
+
+
+class NotMade(Exception):
+    """Why there is no package."""
+
+
+def make_program(module: pathlib.Path, program: pathlib.Path) -> None:
+    """Links the proved module with the C library inside, so that it runs on every Linux."""
+    kit = crates.kit_folder()
+    words = ["cc", "-static-pie", "-Wl,-s,--gc-sections,-z,relro,-z,now,-z,noexecstack", "-o", str(program), str(module)]
+    ran = commands.run([*words, f"{kit}/c/libos_c.a", f"{kit}/c/liblibc_c.a"])
+    if ran.status:
+        raise NotMade("\n".join(ran.lines()[-20:]))
+
+
+def glibc_of(file: pathlib.Path) -> Tuple[int, ...]:
+    """The newest version of the C library whose names an ELF file takes, (0,) where it takes none."""
+    listed = commands.run(["objdump", "-T", str(file)]).output.decode()
+    return max((tuple(map(int, it.split("."))) for it in re.findall(r"GLIBC_([\d.]+)", listed)), default=(0,))
+
+
+def files_of(program: pathlib.Path, library: pathlib.Path, version: str, seconds: int) -> Files:
+    """All files below /usr, with the program and the two libraries of these folders."""
+    for it in (program, library / "libmigwelun.so"):
+        if glibc_of(it) > NEWEST_GLIBC:
+            raise NotMade(f"{it.name} needs glibc {'.'.join(map(str, glibc_of(it)))}, newer than {'.'.join(map(str, NEWEST_GLIBC))}")
+    files = {
+        "bin/coord": Entry(program.read_bytes(), 0o755),
+        f"bin/{BROKER}": Entry((FILES / BROKER).read_bytes(), 0o755),
+        "lib/libmigwelun.so": Entry((library / "libmigwelun.so").read_bytes()),
+        "lib/libmigwelun.a": Entry((library / "libmigwelun.a").read_bytes()),
+        "lib/pkgconfig/migwelun.pc": Entry((FILES / "migwelun.pc").read_bytes().replace(b"VERSION", version.encode())),
+        "lib/systemd/system/migwelun.service": Entry((FILES / "migwelun.service").read_bytes()),
+        "include/migwelun.h": taken(TOP / "include/migwelun.h"),
+        # Where the Python programs look for what this repository builds.
+        "share/migwelun/coord": Entry(link="../../bin/coord"),
+        "share/migwelun/out/libmigwelun.so": Entry(link="../../../lib/libmigwelun.so"),
+        "share/migwelun/out/libmigwelun.a": Entry(link="../../../lib/libmigwelun.a"),
+        "share/doc/migwelun/examples": Entry(link="../../migwelun/examples"),
+    }
+    shared = [*(TOP / "broker").glob("*.*"), *(TOP / "broker/apis").glob("*.py"), *(it for each in EXAMPLES for it in (TOP / "examples").glob(each))]
+    shared += [it for each in SHARED for it in (TOP / "tools" / each).glob("**/*.py")]
+    for name in filter(lambda it: (TOP / "tools" / it).is_file(), TOOLS):
+        shared.append(TOP / "tools" / name)
+        files[f"bin/migwelun-{name}"] = Entry(link=f"../share/migwelun/tools/{name}")
+    files.update({f"share/migwelun/{it.relative_to(TOP)}": taken(it) for it in shared if it.is_file()})
+    documents = [TOP / "README.md", TOP / "CHANGELOG.md", *(TOP / "docs").glob("*.md"), *(TOP / "docs/pictures").glob("*")]
+    files.update({f"share/doc/migwelun/{it.relative_to(TOP)}": taken(it) for it in documents})
+    return {**files, **of_options(version, seconds)}
+
+
+def taken(path: pathlib.Path) -> Entry:
+    return Entry(path.read_bytes(), 0o755 if os.access(path, os.X_OK) else 0o644)
+
+
+def of_options(version: str, seconds: int) -> Files:
+    """Man pages and completions."""
+    coord = [options.read("coord", (TEXTS / "coord.txt").read_text())]
+    coord += [options.read(f"coord {it}", (TEXTS / f"{it}.txt").read_text()) for it in SUBCOMMANDS]
+    ran = subprocess.run([sys.executable, "-B", "-m", "broker", "--help"], cwd=TOP, env={**os.environ, "COLUMNS": "1000", "BROKER_NAME": BROKER}, capture_output=True, text=True)
+    broker = options.read(BROKER, ran.stdout)
+    document, front = (TOP / "docs/COMMANDS.md").read_text(), (TOP / "broker/README.md").read_text()
+    parts = {"coord": "\n\n".join(document.split("\n\n")[1:3]) + "\n" + "".join(f"### {it}\n{manual.section(document, it)}" for it in ("Lines", "Reasons"))}
+    parts.update({f"coord {it}": manual.section(document, f"`coord {it}`") for it in SUBCOMMANDS})
+    parts[BROKER] = manual.section(front, "The command line") + manual.section(front, "What a broker does for a consumer")
+    pages = [it.command.replace(" ", "-") for it in (*coord, broker)]
+    files: Files = {}
+    for it in (*coord, broker):
+        own = it.command.replace(" ", "-")
+        text = manual.page(it, version, seconds, parts[it.command], [name for name in pages if name != own])
+        files[f"share/man/man1/{own}.1.gz"] = Entry(zipped(text.encode()))
+    return {**files, **completions_of([coord, [broker]])}
+
+
+def completions_of(programs: List[List[options.Help]]) -> Files:
+    found: Dict[str, Entry] = {}
+    for it in programs:
+        name = it[0].command
+        for path, text in (
+            (f"share/bash-completion/completions/{name}", completions.bash(it)),
+            (f"share/zsh/vendor-completions/_{name}", completions.zsh(it)),
+            (f"share/fish/vendor_completions.d/{name}.fish", completions.fish(it)),
+        ):
+            found[path] = Entry(text.encode())
+    return found
+
+
+def control(files: Files, version: str, glibc: Tuple[int, ...]) -> Dict[str, str]:
+    name, address = (os.environ.get(it, other) for it, other in (("DEBFULLNAME", "Migwelun"), ("DEBEMAIL", "migwelun@localhost")))
+    return {
+        "Package": "migwelun",
+        "Version": version,
+        "Architecture": "amd64",
+        "Maintainer": f"{name} <{address}>",
+        "Section": "net",
+        "Priority": "optional",
+        "Depends": f"libc6 (>= {'.'.join(map(str, glibc))})",
+        "Recommends": "python3 (>= 3.9)",
+        "Suggests": "kcat",
+        "Description": DESCRIPTION,
+    }
