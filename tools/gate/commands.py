@@ -197,6 +197,14 @@ def usage(doc, words, known=()):
         sys.exit(2)
 
 
+def file_of(word):
+    """The whole path of a file that a command line names. Ends this process where there is none."""
+    if not os.path.isfile(word):
+        print(f"{os.path.basename(sys.argv[0])}: there is no file {word}", file=sys.stderr)
+        sys.exit(2)
+    return os.path.realpath(word)
+
+
 def need(program):
     """Ends this process where a program is not on PATH."""
     if shutil.which(program) is None:
