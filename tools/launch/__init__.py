@@ -5,5 +5,5 @@ sources        which file of out/ was made of which sources
 build          proves the crates side by side, and builds the program or the library
 progress       how long a build takes
 unproved       compiles the program without proofs
-texts/         what the program answers to --help and --version, with which check-launcher compares it; packages are made of them too
+answers        what the program answers to --help and --version
 """

@@ -10,11 +10,9 @@ from typing import List
 sys.path[0] = os.path.dirname(os.path.dirname(os.path.realpath(__file__)))
 
 from gate import commands, crates  # noqa: E402
-from launch import build, sources, unproved  # noqa: E402
+from launch import answers, build, sources, unproved  # noqa: E402
 
-UNPROVED, VERSION, HELP = "--unproved", ("--version", "-V"), ("--help", "-h")
-SUBCOMMANDS = ("reply", "frame", "run", "serve")
-TEXTS = pathlib.Path(__file__).parent / "texts"
+UNPROVED, VERSION = "--unproved", ("--version", "-V")
 
 
 def main(words: List[str]) -> int:
@@ -25,12 +23,12 @@ def main(words: List[str]) -> int:
     is_there = kept.is_current()
     state = "proved" if is_proved else unproved.STATE
     if len(words) == 1 and words[0] in VERSION:
-        print(f"{text('version').strip()}, {state if is_there else 'not built'}")
+        print(f"{answers.of(tree.root)[VERSION[0],]}, {state if is_there else 'not built'}")
         return 0
     if not is_there:
-        asked = help_for(words)
-        if asked:
-            sys.stderr.write(text(asked))
+        text = answers.of(tree.root).get(answers.canonical(words))
+        if text is not None:
+            print(text, file=sys.stderr)
             return 2
         make = build.build if is_proved else unproved.compile_program
         if not has_toolchain(tree) or not make(tree, kept):
@@ -40,22 +38,6 @@ def main(words: List[str]) -> int:
     # Python ignores this signal, and the program would inherit that.
     signal.signal(signal.SIGPIPE, signal.SIG_DFL)
     return os.execv(kept.file, ["coord", *words])
-
-
-def help_for(words: List[str]) -> str:
-    """The name of the help that the words ask for, if they ask for no more."""
-    if not words:
-        return "nothing"
-    if len(words) == 1 and words[0] in ("help", *HELP):
-        return "coord"
-    if len(words) == 2 and (words[0] == "help" or words[1] in HELP):
-        name = words[1] if words[0] == "help" else words[0]
-        return name if name in SUBCOMMANDS else ""
-    return ""
-
-
-def text(name: str) -> str:
-    return (TEXTS / f"{name}.txt").read_text()
 
 
 def has_toolchain(tree: crates.Tree) -> bool:

@@ -8,12 +8,14 @@ import sys
 from typing import Dict, List, Tuple
 
 from gate import commands, crates
+from launch import answers
 from packages import completions, manual, options
 from packages.archives import Entry, Files, zipped
 
 TOP = pathlib.Path(__file__).resolve().parents[2]
-FILES, TEXTS = TOP / "tools/packages/files", TOP / "tools/launch/texts"
-VERSION = (TEXTS / "version.txt").read_text().split()[1]
+FILES = TOP / "tools/packages/files"
+ANSWERS = answers.of(str(TOP))
+VERSION = ANSWERS["--version",].split()[1]
 SUBCOMMANDS = ("reply", "frame", "run", "serve")
 BROKER = "migwelun-broker"
 # The tools that need only Python, which are commands migwelun-NAME of the package, and the parts that they share.
@@ -83,8 +85,7 @@ def taken(path: pathlib.Path) -> Entry:
 
 def of_options(version: str, seconds: int) -> Files:
     """Man pages and completions."""
-    coord = [options.read("coord", (TEXTS / "coord.txt").read_text())]
-    coord += [options.read(f"coord {it}", (TEXTS / f"{it}.txt").read_text()) for it in SUBCOMMANDS]
+    coord = [options.read("coord", ANSWERS["--help",]), *(options.read(f"coord {it}", ANSWERS[it, "--help"]) for it in SUBCOMMANDS)]
     ran = subprocess.run([sys.executable, "-B", "-m", "broker", "--help"], cwd=TOP, env={**os.environ, "COLUMNS": "1000", "BROKER_NAME": BROKER}, capture_output=True, text=True)
     broker = options.read(BROKER, ran.stdout)
     document, front = (TOP / "docs/COMMANDS.md").read_text(), (TOP / "broker/README.md").read_text()
