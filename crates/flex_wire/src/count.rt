@@ -11,6 +11,7 @@ use crate::varint::{put_varint, take_varint};
 use std::alloc::AllocError;
 
 #[tactic(auto, unfolding(crate::specs::Reading::array_count_at))]
+#[inline(always)]
 fn count_of(bytes: &[u8]) -> Result<(u32, &[u8]), WireFault>
     ensures { Reads (λ x. (x.0, x.1.now)) result (array_count_at bytes.now) }
 {
@@ -25,6 +26,7 @@ fn count_of(bytes: &[u8]) -> Result<(u32, &[u8]), WireFault>
 /// and one, and gives the number of elements.
 ///
 /// Faults: those of the varint; `BadCount` at the varint 0.
+#[inline(always)]
 pub fn take_count(bytes: &[u8]) -> Result<(u32, &[u8]), WireFault>
     ensures found { IfOk result (λ x. FitsCount x.0 × (bytes.now ≡ array_count x.0 ++ x.1.now)) }
     ensures only { (count : ℕ) (rest : List ℕ) → FitsCount count → bytes.now ≡ array_count count ++ rest →
@@ -35,6 +37,7 @@ pub fn take_count(bytes: &[u8]) -> Result<(u32, &[u8]), WireFault>
 }
 
 #[tactic(auto, unfolding(crate::specs::Reading::nullable_array_count_at))]
+#[inline(always)]
 fn count_or_null_of(bytes: &[u8]) -> Result<(Option<u32>, &[u8]), WireFault>
     ensures { Reads (λ x. (x.0, x.1.now)) result (nullable_array_count_at bytes.now) }
 {
@@ -47,6 +50,7 @@ fn count_or_null_of(bytes: &[u8]) -> Result<(Option<u32>, &[u8]), WireFault>
 /// elements, or `None` for null, the varint 0.
 ///
 /// Faults: those of the varint.
+#[inline(always)]
 pub fn take_nullable_count(bytes: &[u8]) -> Result<(Option<u32>, &[u8]), WireFault>
     ensures found { IfOk result (λ x. FitsNullableCount x.0 × (bytes.now ≡ nullable_array_count x.0 ++ x.1.now)) }
     ensures only { (count : Option ℕ) (rest : List ℕ) → FitsNullableCount count → bytes.now ≡ nullable_array_count count ++ rest →

@@ -11,6 +11,7 @@ use crate::raw::bytes_of;
 use std::alloc::AllocError;
 
 #[tactic(auto, unfolding(crate::specs::Reading::signed_at))]
+#[inline(always)]
 fn i16_of(bytes: &[u8]) -> Result<(i16, &[u8]), WireFault>
     ensures { Reads (λ x. (x.0, x.1.now)) result (signed_at w16 bytes.now) }
 {
@@ -23,6 +24,7 @@ fn i16_of(bytes: &[u8]) -> Result<(i16, &[u8]), WireFault>
 /// Takes an INT16 (protocol guide).
 ///
 /// Fault: `Short`.
+#[inline(always)]
 pub fn take_i16(bytes: &[u8]) -> Result<(i16, &[u8]), WireFault>
     ensures found { IfOk result (λ x. FitsSigned w16 x.0 × (bytes.now ≡ int16 x.0 ++ x.1.now)) }
     ensures only { (z : ℤ) (rest : List ℕ) → FitsSigned w16 z → bytes.now ≡ int16 z ++ rest →
@@ -33,6 +35,7 @@ pub fn take_i16(bytes: &[u8]) -> Result<(i16, &[u8]), WireFault>
 }
 
 #[tactic(auto, unfolding(crate::specs::Reading::signed_at))]
+#[inline(always)]
 fn i32_of(bytes: &[u8]) -> Result<(i32, &[u8]), WireFault>
     ensures { Reads (λ x. (x.0, x.1.now)) result (signed_at w32 bytes.now) }
 {
@@ -45,6 +48,7 @@ fn i32_of(bytes: &[u8]) -> Result<(i32, &[u8]), WireFault>
 /// Takes an INT32 (protocol guide).
 ///
 /// Fault: `Short`.
+#[inline(always)]
 pub fn take_i32(bytes: &[u8]) -> Result<(i32, &[u8]), WireFault>
     ensures found { IfOk result (λ x. FitsSigned w32 x.0 × (bytes.now ≡ int32 x.0 ++ x.1.now)) }
     ensures only { (z : ℤ) (rest : List ℕ) → FitsSigned w32 z → bytes.now ≡ int32 z ++ rest →
@@ -55,6 +59,7 @@ pub fn take_i32(bytes: &[u8]) -> Result<(i32, &[u8]), WireFault>
 }
 
 #[tactic(auto, unfolding(crate::specs::Reading::signed_at))]
+#[inline(always)]
 fn i64_of(bytes: &[u8]) -> Result<(i64, &[u8]), WireFault>
     ensures { Reads (λ x. (x.0, x.1.now)) result (signed_at w64 bytes.now) }
 {
@@ -67,6 +72,7 @@ fn i64_of(bytes: &[u8]) -> Result<(i64, &[u8]), WireFault>
 /// Takes an INT64 (protocol guide).
 ///
 /// Fault: `Short`.
+#[inline(always)]
 pub fn take_i64(bytes: &[u8]) -> Result<(i64, &[u8]), WireFault>
     ensures found { IfOk result (λ x. FitsSigned w64 x.0 × (bytes.now ≡ int64 x.0 ++ x.1.now)) }
     ensures only { (z : ℤ) (rest : List ℕ) → FitsSigned w64 z → bytes.now ≡ int64 z ++ rest →

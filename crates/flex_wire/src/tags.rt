@@ -14,6 +14,7 @@ use crate::varint::{put_varint, take_varint};
 use std::alloc::{AllocError, Global};
 
 #[tactic(auto, unfolding(crate::specs::Reading::tagged_field_at))]
+#[inline(always)]
 fn field_of(last: Option<u32>, bytes: &[u8]) -> Result<(TaggedField<'_>, &[u8]), WireFault>
     ensures { Reads (λ x. (tagged x.0, x.1.now)) result (tagged_field_at last bytes.now) }
 {
@@ -28,6 +29,7 @@ fn field_of(last: Option<u32>, bytes: &[u8]) -> Result<(TaggedField<'_>, &[u8]),
     Ok((TaggedField { tag, value }, rest))
 }
 
+#[inline(always)]
 fn fields_of<'a>(
     alloc: Global,
     count: u32,
@@ -48,6 +50,7 @@ fn fields_of<'a>(
 }
 
 #[tactic(auto, unfolding(crate::specs::Reading::tagged_fields_at))]
+#[inline(always)]
 fn tags_of<'a>(alloc: Global, bytes: &'a [u8]) -> Result<(TaggedFields<'a>, &'a [u8]), WireFault>
     ensures { ReadsInMemory (λ x. (x.0, x.1.now)) result (tagged_fields_at bytes.now) }
 {
@@ -62,6 +65,7 @@ fn tags_of<'a>(alloc: Global, bytes: &'a [u8]) -> Result<(TaggedFields<'a>, &'a 
 ///
 /// Faults: those of the varints; `TagOrder`, judged before the field's size is read; `Short`;
 /// `NoMemory`.
+#[inline(always)]
 pub fn take_tags<'a>(
     alloc: Global,
     bytes: &'a [u8],

@@ -17,6 +17,7 @@ use std::str::from_utf8;
 pub const LONGEST_STRING: usize = 32_767;
 
 #[tactic(auto, unfolding(crate::specs::Reading::text_at))]
+#[inline(always)]
 fn text_of(bytes: &[u8], size: usize) -> Result<(&str, &[u8]), WireFault>
     ensures { Reads (λ x. (x.0.now, x.1.now)) result (text_at size bytes.now) }
 {
@@ -29,6 +30,7 @@ fn text_of(bytes: &[u8], size: usize) -> Result<(&str, &[u8]), WireFault>
 
 /// The text behind a length that was read as `code`, which is one more.
 #[tactic(auto, unfolding(crate::specs::Reading::compact_text_at))]
+#[inline(always)]
 fn compact_text_of(bytes: &[u8], code: u32) -> Result<(&str, &[u8]), WireFault>
     requires { 1 ≤ code }
     ensures { Reads (λ x. (x.0.now, x.1.now)) result (compact_text_at code bytes.now) }
@@ -41,6 +43,7 @@ fn compact_text_of(bytes: &[u8], code: u32) -> Result<(&str, &[u8]), WireFault>
 }
 
 #[tactic(auto, unfolding(crate::specs::Reading::compact_string_at))]
+#[inline(always)]
 fn compact_str_of(bytes: &[u8]) -> Result<(&str, &[u8]), WireFault>
     ensures { Reads (λ x. (x.0.now, x.1.now)) result (compact_string_at bytes.now) }
 {
@@ -56,6 +59,7 @@ fn compact_str_of(bytes: &[u8]) -> Result<(&str, &[u8]), WireFault>
 ///
 /// Faults, in this order: those of the varint; `BadCount` at the varint 0; `TooLong` over [`LONGEST_STRING`]
 /// bytes; `Short`; `NotUtf8`.
+#[inline(always)]
 pub fn take_compact_str(bytes: &[u8]) -> Result<(&str, &[u8]), WireFault>
     ensures found { IfOk result (λ x. FitsText x.0.now × (bytes.now ≡ compact_string x.0.now ++ x.1.now)) }
     ensures only { (text rest : List ℕ) → FitsText text → bytes.now ≡ compact_string text ++ rest →
@@ -66,6 +70,7 @@ pub fn take_compact_str(bytes: &[u8]) -> Result<(&str, &[u8]), WireFault>
 }
 
 #[tactic(auto, unfolding(crate::specs::Reading::compact_nullable_string_at))]
+#[inline(always)]
 fn nullable_str_of(bytes: &[u8]) -> Result<(Option<&str>, &[u8]), WireFault>
     ensures { Reads (λ x. (option_copied x.0, x.1.now)) result (compact_nullable_string_at bytes.now) }
 {
@@ -81,6 +86,7 @@ fn nullable_str_of(bytes: &[u8]) -> Result<(Option<&str>, &[u8]), WireFault>
 /// null.
 ///
 /// Faults: those of [`take_compact_str`] without `BadCount`.
+#[inline(always)]
 pub fn take_nullable_str(bytes: &[u8]) -> Result<(Option<&str>, &[u8]), WireFault>
     ensures found { IfOk result (λ x. FitsNullableText (option_copied x.0)
         × (bytes.now ≡ compact_nullable_string (option_copied x.0) ++ x.1.now)) }
@@ -92,6 +98,7 @@ pub fn take_nullable_str(bytes: &[u8]) -> Result<(Option<&str>, &[u8]), WireFaul
 }
 
 #[tactic(auto, unfolding(crate::specs::Reading::nullable_string_at, crate::specs::Reading::nullable_text_at))]
+#[inline(always)]
 fn old_str_of(bytes: &[u8]) -> Result<(Option<&str>, &[u8]), WireFault>
     ensures { Reads (λ x. (option_copied x.0, x.1.now)) result (nullable_string_at bytes.now) }
 {
@@ -110,6 +117,7 @@ fn old_str_of(bytes: &[u8]) -> Result<(Option<&str>, &[u8]), WireFault>
 /// bytes, -1 for null, and that many bytes of UTF-8.
 ///
 /// Faults, in this order: `Short`; `BadCount` at a length below -1; `Short` in the text; `NotUtf8`.
+#[inline(always)]
 pub fn take_old_str(bytes: &[u8]) -> Result<(Option<&str>, &[u8]), WireFault>
     ensures found { IfOk result (λ x. FitsNullableText (option_copied x.0)
         × (bytes.now ≡ nullable_string (option_copied x.0) ++ x.1.now)) }

@@ -37,6 +37,7 @@ fn groups_of(bytes: &[u8], more: u8) -> Result<(u32, &[u8]), WireFault>
 }
 
 #[tactic(auto, unfolding(crate::specs::Reading::varint_at))]
+#[inline(always)]
 fn varint_of(bytes: &[u8]) -> Result<(u32, &[u8]), WireFault>
     ensures { Reads (λ x. (x.0, x.1.now)) result (varint_at bytes.now) }
 {
@@ -54,6 +55,7 @@ fn varint_of(bytes: &[u8]) -> Result<(u32, &[u8]), WireFault>
 ///
 /// Faults: `Short`; `TooLong` where the fifth byte is above 0f; `NotShortest` where there is more
 /// than one byte and the last is 00, a rule of this crate.
+#[inline(always)]
 pub fn take_varint(bytes: &[u8]) -> Result<(u32, &[u8]), WireFault>
     ensures found { IfOk result (λ x. FitsVarint x.0 × (bytes.now ≡ varint x.0 ++ x.1.now)) }
     ensures only { (n : ℕ) (rest : List ℕ) → FitsVarint n → bytes.now ≡ varint n ++ rest →

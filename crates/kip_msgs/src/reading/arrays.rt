@@ -87,6 +87,7 @@ pub(super) fn take_array<'a, T: TakeElement<'a>>(
 
 /// A nullable COMPACT_ARRAY (KIP-482); no memory is taken for an element before it is read.
 #[tactic(auto, unfolding(flex_wire::specs::Composed::nullable_array_at))]
+#[inline(always)]
 pub(super) fn take_nullable_array<'a, T: TakeElement<'a>>(
     alloc: Global,
     bytes: &'a [u8],

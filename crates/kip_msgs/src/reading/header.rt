@@ -10,6 +10,7 @@ use std::alloc::Global;
 
 /// What stands behind the key and version of a request's header.
 #[tactic(auto, unfolding(crate::specs::Reading::request_header_at))]
+#[inline(always)]
 pub(super) fn take_request_header<'a>(
     alloc: Global,
     bytes: &'a [u8],

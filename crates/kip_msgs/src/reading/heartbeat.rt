@@ -20,6 +20,7 @@ use std::alloc::Global;
 
 /// What stands behind the key and version of a heartbeat: the rest of the header, and the message.
 #[tactic(auto, unfolding(crate::specs::Reading::heartbeat_body_at))]
+#[inline(always)]
 pub(super) fn take_heartbeat<'a>(
     alloc: Global,
     bytes: &'a [u8],
@@ -32,6 +33,7 @@ pub(super) fn take_heartbeat<'a>(
 }
 
 #[tactic(auto, unfolding(crate::specs::Reading::heartbeat_request_at))]
+#[inline(always)]
 fn take_heartbeat_request<'a>(
     alloc: Global,
     bytes: &'a [u8],
@@ -72,6 +74,7 @@ type RequestRest<'a> = (
 );
 
 /// A heartbeat from its timeout on.
+#[inline(always)]
 fn take_request_rest<'a>(
     alloc: Global,
     bytes: &'a [u8],
