@@ -39,6 +39,10 @@ pub(crate) fn are_even(former: &Spread, members: &[Subscriber<'_>]) -> bool
     ensures { OnTrue result ((view : Topics) → IsEven view (subscribers_in members.now) former.now) }
 {
     let most = most_owned(former.shares());
+    // nobody owns less than nothing: no walk over the members
+    if most <= 1 {
+        return true;
+    }
     let mut near = 0;
     for member in members {
         let (owned, next) = owned_near(former, member.id.as_str(), near);

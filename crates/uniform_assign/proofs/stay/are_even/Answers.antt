@@ -35,3 +35,10 @@ returns c = λ view.
     let last = c.loop-member-test.false in
     IsEven-of view (subscribers_in c.args.members.now) c.args.former.now (shares_in c.shares.result.now) c.loop-member.member-index c.most_owned-most.result
     c.shares.ensures.spread c.shares.ensures.apart c.most_owned-most.ensures (omega arith) c.loop-member.invariant
+
+pub returns-then-most-le1 : goal.returns-then-most-le1
+returns-then-most-le1 c = λ view.
+    let subs = subscribers_in c.args.members.now in
+    let few = c.if-most-le1.true in
+    IsEven-of view subs c.args.former.now (shares_in c.shares.result.now) (length subs) c.most_owned-most.result
+    c.shares.ensures.spread c.shares.ensures.apart c.most_owned-most.ensures (omega arith) (λ k s low is. omega arith)
