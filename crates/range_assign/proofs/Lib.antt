@@ -1,5 +1,4 @@
 pub mod Places
-pub mod Counts
 pub mod MemberOrder
 pub mod Apart
 pub mod Spreads

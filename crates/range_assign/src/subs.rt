@@ -1,6 +1,6 @@
 //! The members of a group as an assignor sees them.
 
-ghost use Rattle.std.specs.Prelude.{◌≡◌, ◌↔◌, map, IsSorted, IsPermutation, IsTrue};
+ghost use Rattle.std.specs.Prelude.{◌≡◌, ◌↔◌, map, IsSorted, IsPermutation, IsTrue, if◌then◌else◌};
 ghost use Rattle.group_types.specs.Assignors.{IdsAreApart, asks_for, assignor_of, member_cmp, votes};
 ghost use Rattle.range_assign.specs.Members.{subscriber_of, subscribers_in};
 
@@ -90,8 +90,8 @@ impl<'a> Subs<'a> {
     pub fn assignor(&self) -> AssignorName
         ensures { result ≡ assignor_of self.now }
     {
-        let members = self.members();
-        if count_votes(members, AssignorName::Range) > count_votes(members, AssignorName::Uniform) {
+        let (range, uniform) = votes_of(self.members());
+        if range > uniform {
             AssignorName::Range
         } else {
             AssignorName::Uniform
@@ -112,14 +112,18 @@ fn member_order(a: &Subscriber<'_>, b: &Subscriber<'_>) -> Ordering
     }
 }
 
-/// How many members ask for the assignor.
-fn count_votes(members: &[Subscriber<'_>], name: AssignorName) -> usize
-    ensures { result ≡ votes (subscribers_in members.now) name }
+/// How many members ask for range, and how many for uniform: one walk over them.
+fn votes_of(members: &[Subscriber<'_>]) -> (usize, usize)
+    ensures range { result.0 ≡ votes (subscribers_in members.now) AssignorName.Range }
+    ensures uniform { result.1 ≡ votes (subscribers_in members.now) AssignorName.Uniform }
 {
-    members
-        .iter()
-        .filter(|member| asks_for(name, member.assignor))
-        .count()
+    let mut range = 0;
+    let mut uniform = 0;
+    for member in members {
+        range += one_if(asks_for(AssignorName::Range, member.assignor));
+        uniform += one_if(asks_for(AssignorName::Uniform, member.assignor));
+    }
+    (range, uniform)
 }
 
 /// Whether the vote is one for the assignor.
@@ -127,4 +131,11 @@ fn asks_for(name: AssignorName, vote: Option<AssignorName>) -> bool
     ensures { result ≡ asks_for name vote }
 {
     vote == Some(name)
+}
+
+/// One where it holds, else 0.
+fn one_if(holds: bool) -> usize
+    ensures { result ≡ (if holds then 1 else 0) }
+{
+    if holds { 1 } else { 0 }
 }
