@@ -71,8 +71,8 @@ impl<'a, R: Clock> Silence<'a, R> {
     }
 }
 
-/// A reader that ends, and closes its line, once it has brought no byte for too long; or a writer that fails once it has taken none for
-/// too long while it was asked to. Where there is no limit it is the same as without.
+/// A reader that ends once it has brought no byte for too long; or a writer that fails once it has taken none for too long while it
+/// was asked to. Where there is no limit it is the same as without.
 #[derive(Drop)]
 pub struct Limited<'a, T, R> {
     inner: T,
@@ -150,11 +150,7 @@ impl<'a, T: AsyncRead, R: Clock> AsyncRead for Limited<'a, T, R> {
 }
 
 impl<'a, T: ReadPart, R: Clock> ReadPart for Limited<'a, T, R> {
-    ghost use Rattle.std.specs.Prelude.{◌||◌};
-
     ghost faults = { λ c. T.faults c.inner };
-
-    ghost closes = { λ c. c.is_silent || T.closes c.inner };
 
     /// Once the silence is too long it has ended.
     fn poll_read_part(&mut self, cx: &mut Context<'_>, buf: &mut [u8]) -> Part {
@@ -168,10 +164,6 @@ impl<'a, T: ReadPart, R: Clock> ReadPart for Limited<'a, T, R> {
                 part
             }
         }
-    }
-
-    fn is_closing(&self) -> bool {
-        self.is_silent || self.inner.is_closing()
     }
 }
 

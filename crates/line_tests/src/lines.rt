@@ -1,7 +1,6 @@
 //! Lines over readers and writers in memory, with replies worked out by hand from the Kafka protocol guide and KIP-848.
 ghost use Rattle.std.specs.Prelude.{⊤};
 
-use crate::closing::Closing;
 use crate::numbering::{Numbering, put_numbers};
 use crate::streams::{
     Frames, drain, feed, numbered_rows, output_within, put_words, task_of, written,
@@ -89,7 +88,6 @@ const TWO_FRAMES: &str = "
 /// - `turns`: the lines of one worker, as of `worker`, over a desk that answers each frame with the number of frames that it has
 ///   answered by then, of whichever line. The answer has the numbers that each line has written.
 /// - `held N`: how many frames of the line are answered within N turns, and how many bytes are written then; and what comes after.
-/// - `closing`: how a line ends whose reader's end closes it, and what was written.
 const WORKERS: &str = "
 # the second line has nothing to read any more while the others are still read byte by byte
 worker 1p*80 join; - stranger; 1p*80 stranger*2 = 3 | joined | unknown | unknown*2
@@ -101,11 +99,6 @@ turns - stranger*4; - stranger*2; - stranger*2 = 1 2 4 7 | 3 5 | 6 8
 polls 10 - - stranger*100 = 1
 # sixty-five frames come in one read, while the writer is pending
 held 70 - p*70 stranger*65 = 64 0 Finished unknown*65
-# a reader's end that closes the line: between frames, inside a frame, and while the writer is pending
-closing 1p*80 - = Closed
-closing 1p*80 - join = Closed joined
-closing 1p*80 - join stranger:9 = Closed joined
-closing - p*70+1*9 stranger*65 join = Closed unknown*65 joined
 ";
 
 /// A desk whose frames all come at 0 ms.
@@ -123,7 +116,7 @@ impl Moments for Still {
 /// A line whose reader gives what a question says.
 type FedLine<W> = Line<Fed, W>;
 
-type Fed = Closing<Counted<Feed>>;
+type Fed = Counted<Feed>;
 
 type Polled = Session<Fed, Counted<Drain>, Solo<Still>>;
 
@@ -178,8 +171,7 @@ impl Answers for Streaming {
             "polls" => self.tell_polls(alloc, words, out),
             "held" => self.tell_held(alloc, words, out),
             "turns" => self.tell_turns(alloc, words, out),
-            "closing" => self.tell_session(self.session_of(alloc, words, true)?, out),
-            _ => self.tell_session(self.session_of(alloc, question, false)?, out),
+            _ => self.tell_session(self.session_of(alloc, question)?, out),
         }
     }
 }
@@ -208,7 +200,7 @@ impl Streaming {
 
     fn tell_held(&self, alloc: Global, words: &str, out: &mut String) -> Result<(), AllocError> {
         let (turns, words) = cut(words);
-        let mut session = self.session_of(alloc, words, false)?;
+        let mut session = self.session_of(alloc, words)?;
         for _ in 0..number::<u32>(turns) {
             let _ = turn(&self.task, &mut session);
         }
@@ -265,7 +257,7 @@ impl Streaming {
     fn tell_polls(&self, alloc: Global, words: &str, out: &mut String) -> Result<(), AllocError> {
         let (polls, words) = cut(words);
         let mut lines = Vec::new(alloc);
-        lines.push(self.line_of(alloc, words, false)?)?;
+        lines.push(self.line_of(alloc, words)?)?;
         match self.ended_within(alloc, lines, number(polls))? {
             Some(ended) => write!(out, "{ended}"),
             None => out.push_str("no end"),
@@ -305,19 +297,14 @@ impl Streaming {
         words: &str,
     ) -> Result<(FedLine<Counted<DuplexStream>>, DuplexStream), AllocError> {
         let (reads, words) = cut(words);
-        let reader = self.reader_of(alloc, reads, words, false)?;
+        let reader = self.reader_of(alloc, reads, words)?;
         let (near, far) = duplex(alloc, PIPE)?;
         Ok((Line::new(alloc, 1, reader, Counted::new(near)), far))
     }
 
-    /// The session of a question, over a node with a topic `t` of two partitions. Its reader's end closes the line, or doesn't.
-    fn session_of(
-        &self,
-        alloc: Global,
-        question: &str,
-        closes: bool,
-    ) -> Result<Polled, AllocError> {
-        let line = self.line_of(alloc, question, closes)?;
+    /// The session of a question, over a node with a topic `t` of two partitions.
+    fn session_of(&self, alloc: Global, question: &str) -> Result<Polled, AllocError> {
+        let line = self.line_of(alloc, question)?;
         Ok(Session::new(line, self.desk(alloc)?))
     }
 
@@ -326,25 +313,18 @@ impl Streaming {
         &self,
         alloc: Global,
         question: &str,
-        closes: bool,
     ) -> Result<FedLine<Counted<Drain>>, AllocError> {
         let (reads, words) = cut(question);
         let (writes, words) = cut(words);
-        let reader = self.reader_of(alloc, reads, words, closes)?;
+        let reader = self.reader_of(alloc, reads, words)?;
         let writer = Counted::new(drain(alloc, writes)?);
         Ok(Line::new(alloc, 1, reader, writer))
     }
 
     /// The reader of a question.
-    fn reader_of(
-        &self,
-        alloc: Global,
-        reads: &str,
-        words: &str,
-        closes: bool,
-    ) -> Result<Fed, AllocError> {
+    fn reader_of(&self, alloc: Global, reads: &str, words: &str) -> Result<Fed, AllocError> {
         let fed = feed(alloc, reads, words, &self.requests)?;
-        Ok(Closing::new(Counted::new(fed), closes))
+        Ok(Counted::new(fed))
     }
 
     /// A desk over a node with a topic `t` of two partitions.

@@ -1,5 +1,5 @@
 -- What a worker gives behind a step of one of its lines, it gives before it.
-use Rattle.std.proofs.Common.{◌≡◌, ◌≢◌, ◌⊎◌, ℕ, ◌+◌, ◌-◌, ◌^◌, ◌<◌, ◌≤◌, min, Bool, List, [], ◌∷◌, ◌++◌, length, get_or, set, All, Contains, Option, None, Ok, Err, Result, inl, inr, ⊎_elim, refl, sym, ap, ◌∙◌, subst, arith, append_assoc, length-append, length-set, get_or-set_other, get_or-set_same}
+use Rattle.std.proofs.Common.{◌≡◌, ◌≢◌, ◌⊎◌, ℕ, ◌+◌, ◌-◌, ◌^◌, ◌<◌, ◌≤◌, min, List, [], ◌∷◌, ◌++◌, length, get_or, set, All, Contains, Option, None, Ok, Err, Result, inl, inr, ⊎_elim, refl, sym, ap, ◌∙◌, subst, arith, append_assoc, length-append, length-set, get_or-set_other, get_or-set_same}
 use Rattle.std.proofs.lemmas.Bool.{cases_eq}
 use Rattle.std.proofs.lemmas.List.Elements.{All-nil, All-cons, Contains-append_left, Contains-append_right, Contains-append_cases, Contains-push_cases}
 use Rattle.tokio.specs.Io.Moved.{Passes, PassesNothing, PassesInOrder}
@@ -55,7 +55,7 @@ module _ {D : Type 0} (answers : Answering D) where
   Goes_any (x ∷ xs) p q d e goes =
       (goes.0, (tt, (d, goes.1.0, goes.1.1), Goes_any xs (place_after p x.answer) q goes.1.0 e goes.1.2))
 
-module _ {R W D : Type 0} (reads : Passes R) (is_at_end : R → Type 0) (closes : R → Bool) (read_faults : R → ℕ) (writes : Passes W) (write_faults : W → ℕ) (stalls : W → ℕ) (answers : Answering D) where
+module _ {R W D : Type 0} (reads : Passes R) (is_at_end : R → Type 0) (read_faults : R → ℕ) (writes : Passes W) (write_faults : W → ℕ) (stalls : W → ℕ) (answers : Answering D) where
   Talks_any : (a b : Session R W D) → Talks reads is_at_end writes answers a b → Talks reads is_at_end writes (at_any_time answers) (shared a.line) (shared b.line)
   Talks_any a b t =
       record {
@@ -73,14 +73,14 @@ module _ {R W D : Type 0} (reads : Passes R) (is_at_end : R → Type 0) (closes 
       }
 
   abbrev MayEndSo : Line R W → End → Type 0
-  MayEndSo = LineMayEnd reads is_at_end closes read_faults writes write_faults stalls answers
+  MayEndSo = LineMayEnd reads is_at_end read_faults writes write_faults stalls answers
 
   line_goes_on : PassesInOrder reads → PassesInOrder writes → (a b : Line R W) → Talks reads is_at_end writes (at_any_time answers) (shared a) (shared b)
       → MetNoFault read_faults write_faults stalls a b → (end : End) → MayEndSo b end → MayEndSo a end
   line_goes_on read_order write_order a b talks none end may = (
     may.0,
     Talks_trans reads is_at_end writes (at_any_time answers) read_order write_order (shared a) (shared b) may.0 talks may.1,
-    EndsAs_earlier closes read_faults write_faults stalls end a b may.0.line none may.2,
+    EndsAs_earlier read_faults write_faults stalls end a b may.0.line none may.2,
   )
 
   -- a line that has had a turn
@@ -92,16 +92,16 @@ module _ {R W D : Type 0} (reads : Passes R) (is_at_end : R → Type 0) (closes 
 
   -- a line that a turn has ended
   pub turned_out : (a b : Line R W) (d e : D) (end : End) → Turns reads is_at_end writes answers (record { line = a; desk = d }) (record { line = b; desk = e })
-      → EndsAs closes read_faults write_faults stalls end a b → MayEndSo a end
+      → EndsAs read_faults write_faults stalls end a b → MayEndSo a end
   turned_out a b d e end turns ends =
       (shared b, Talks_any (record { line = a; desk = d }) (record { line = b; desk = e }) turns.talks, ends)
 
-  woken_on : PassesNothing writes → PassesInOrder reads → PassesInOrder writes → (a b : Line R W) → Wakes reads is_at_end closes read_faults write_faults stalls a (Ok b)
+  woken_on : PassesNothing writes → PassesInOrder reads → PassesInOrder writes → (a b : Line R W) → Wakes reads is_at_end read_faults write_faults stalls a (Ok b)
       → (end : End) → MayEndSo b end → MayEndSo a end
   woken_on nothing read_order write_order a b wakes =
       line_goes_on read_order write_order a b (turn_stops reads is_at_end writes (at_any_time answers) nothing a b b tt wakes.0 refl).talks wakes.1
 
-  woken_out : PassesNothing writes → (a b : Line R W) (end : End) → Wakes reads is_at_end closes read_faults write_faults stalls a (Err (b, end)) → MayEndSo a end
+  woken_out : PassesNothing writes → (a b : Line R W) (end : End) → Wakes reads is_at_end read_faults write_faults stalls a (Err (b, end)) → MayEndSo a end
   woken_out nothing a b end wakes =
       (shared b, (turn_stops reads is_at_end writes (at_any_time answers) nothing a b b tt wakes.0 refl).talks, wakes.1)
 
@@ -112,13 +112,13 @@ module _ {R W D : Type 0} (reads : Passes R) (is_at_end : R → Type 0) (closes 
   Woken = Result (Line R W) (Line R W × End)
 
   abbrev MayWakeSo : Rest → Woken → Type 0
-  MayWakeSo = MayWake reads is_at_end closes read_faults write_faults stalls
+  MayWakeSo = MayWake reads is_at_end read_faults write_faults stalls
 
   abbrev AnyEnds : List (Line R W) → Rest → End → Type 0
-  AnyEnds = AnyMayEnd reads is_at_end closes read_faults writes write_faults stalls answers
+  AnyEnds = AnyMayEnd reads is_at_end read_faults writes write_faults stalls answers
 
   abbrev Gives : Runs (Line R W) → List (Line R W) → Rest → ℕ → ℕ → ℕ → Type 0
-  Gives = WorkerGives reads is_at_end closes read_faults writes write_faults stalls answers
+  Gives = WorkerGives reads is_at_end read_faults writes write_faults stalls answers
 
   -- where each line that is there may end only as one that was, and no other is woken
   any_of : (lines left : List (Line R W)) (old new : Rest) (end : End) → ((line : Line R W) → Contains left line → MayEndSo line end → AnyEnds lines old end)
@@ -252,7 +252,7 @@ module _ {R W D : Type 0} (reads : Passes R) (is_at_end : R → Type 0) (closes 
   -- a line rests, that was there
   pub gives_rested : PassesNothing writes → PassesInOrder reads → PassesInOrder writes → (source : Runs (Line R W)) (lines left : List (Line R W)) (line : Line R W) (old new : Rest)
       → (many few ended n : ℕ) → length left + 1 ≡ length lines → many ≡ few + 1 → Contains lines line → ((other : Line R W) → Contains left other → Contains lines other)
-      → ((woken : Woken) → MayWakeSo new woken → MayWakeSo old woken ⊎ Wakes reads is_at_end closes read_faults write_faults stalls line woken)
+      → ((woken : Woken) → MayWakeSo new woken → MayWakeSo old woken ⊎ Wakes reads is_at_end read_faults write_faults stalls line woken)
       → Gives source left new many ended n → Gives source lines old few ended n
   gives_rested nothing read_order write_order source lines left line old new many few ended n fewer more has stays wakes =
       gives_as source lines left old new few many ended n (omega (arith, fewer, more))
@@ -265,12 +265,12 @@ module _ {R W D : Type 0} (reads : Passes R) (is_at_end : R → Type 0) (closes 
       (λ (k : (last : Line R W) × MayWakeSo new (Err (last, end))).
       ⊎_elim
       (λ (was : MayWakeSo old (Err (k.0, end))). inr (inl (k.0, was)))
-      (λ (is : Wakes reads is_at_end closes read_faults write_faults stalls line (Err (k.0, end))). was_there lines arrived old end line has (woken_out nothing line k.0 end is))
+      (λ (is : Wakes reads is_at_end read_faults write_faults stalls line (Err (k.0, end))). was_there lines arrived old end line has (woken_out nothing line k.0 end is))
       (wakes (Err (k.0, end)) k.1))
       (λ (k : (other : Line R W) × MayWakeSo new (Ok other) × MayEndSo other end).
       ⊎_elim
       (λ (was : MayWakeSo old (Ok k.0)). inr (inr (k.0, was, k.2)))
-      (λ (is : Wakes reads is_at_end closes read_faults write_faults stalls line (Ok k.0)). was_there lines arrived old end line has (woken_on nothing read_order write_order line k.0 is end k.2))
+      (λ (is : Wakes reads is_at_end read_faults write_faults stalls line (Ok k.0)). was_there lines arrived old end line has (woken_on nothing read_order write_order line k.0 is end k.2))
       (wakes (Ok k.0) k.1))
       h)
       any)

@@ -1,5 +1,5 @@
 -- A line that waits for its reader alone, and the set of those that do.
-use Rattle.std.proofs.Common.{◌≡◌, ℕ, ◌<◌, Bool, List, [], ◌++◌, length, Option, Some, None, IsSomeAnd, Ok, Err, Result, inl, inr, ⊎_elim, ◌⊎◌, sym, ap, ◌∙◌, subst, arith, append_assoc, length-append, true, IfSome}
+use Rattle.std.proofs.Common.{◌≡◌, ℕ, ◌<◌, List, [], ◌++◌, length, Option, Some, None, IsSomeAnd, Ok, Err, Result, inl, inr, ⊎_elim, ◌⊎◌, sym, ap, ◌∙◌, subst, arith, append_assoc, length-append, true, IfSome}
 use Rattle.tokio.specs.Io.Moved.{Passes, PassesInOrder}
 use Rattle.futures.specs.Runs.{After, Within}
 use Rattle.futures.specs.Queued.{AnyGives, Gathers, IsEmptySet, set_places, set_len}
@@ -15,7 +15,7 @@ use Rattle.link_futures.specs.Steps.{ReadsOn}
 use Rattle.link_futures.specs.Resting.{RestingNeed, Wakes}
 use Rattle.link_futures.proofs.TurnLemmas.{EndsAs_earlier}
 
-module _ {R W : Type 0} (reads : Passes R) (is_at_end : R → Type 0) (closes : R → Bool) (read_faults : R → ℕ) (write_faults : W → ℕ) (stalls : W → ℕ) where
+module _ {R W : Type 0} (reads : Passes R) (is_at_end : R → Type 0) (read_faults : R → ℕ) (write_faults : W → ℕ) (stalls : W → ℕ) where
   ReadsOn_later : PassesInOrder reads → (a b c : Line R W) → ReadsOn reads is_at_end a b → b.inbox ≡ a.inbox → ReadsOn reads is_at_end b c → ReadsOn reads is_at_end a c
   ReadsOn_later order a b c p same q =
       let none : length p.read ≡ 0 = omega (arith, ap length same, ap length p.appended, length-append a.inbox p.read) in
@@ -37,7 +37,7 @@ module _ {R W : Type 0} (reads : Passes R) (is_at_end : R → Type 0) (closes : 
 
   -- what a line is woken as behind a read that found nothing, it is before it
   pub Wakes_later : PassesInOrder reads → (a b : Line R W) → ReadsOn reads is_at_end a b → b.inbox ≡ a.inbox → MetNoFault read_faults write_faults stalls a b
-      → (woken : Result (Line R W) (Line R W × End)) → Wakes reads is_at_end closes read_faults write_faults stalls b woken → Wakes reads is_at_end closes read_faults write_faults stalls a woken
+      → (woken : Result (Line R W) (Line R W × End)) → Wakes reads is_at_end read_faults write_faults stalls b woken → Wakes reads is_at_end read_faults write_faults stalls a woken
   Wakes_later order a b p same none (Ok c) wakes = (
     ReadsOn_later order a b c p same wakes.0,
     record {
@@ -48,7 +48,7 @@ module _ {R W : Type 0} (reads : Passes R) (is_at_end : R → Type 0) (closes : 
   )
   Wakes_later order a b p same none (Err failed) wakes = (
     ReadsOn_later order a b failed.0 p same wakes.0,
-    EndsAs_earlier closes read_faults write_faults stalls failed.1 a b failed.0 none wakes.1,
+    EndsAs_earlier read_faults write_faults stalls failed.1 a b failed.0 none wakes.1,
   )
 
 module _ {F X : Type 0} (gives : F → X → Type 0) where

@@ -194,9 +194,9 @@ LeavesDesk_same lacks NoMemory d = inl refl
 pub LeavesDesk_pending : {D : Type 0} (lacks : D → D → Type 0) (r : Poll End) (d : D) → r ≡ Pending → LeavesDesk lacks r d d
 LeavesDesk_pending lacks r d is = subst (λ (x : Poll End). LeavesDesk lacks x d d) (sym is) refl
 
-module _ {R W : Type 0} (closes : R → Bool) (read_faults : R → ℕ) (write_faults : W → ℕ) (stalls : W → ℕ) where
+module _ {R W : Type 0} (read_faults : R → ℕ) (write_faults : W → ℕ) (stalls : W → ℕ) where
   -- an end behind a turn that met no fault
-  pub EndsAs_earlier : (end : End) (a b c : Line R W) → MetNoFault read_faults write_faults stalls a b → EndsAs closes read_faults write_faults stalls end b c → EndsAs closes read_faults write_faults stalls end a c
+  pub EndsAs_earlier : (end : End) (a b c : Line R W) → MetNoFault read_faults write_faults stalls a b → EndsAs read_faults write_faults stalls end b c → EndsAs read_faults write_faults stalls end a c
   EndsAs_earlier Finished a b c none ends = ends
   EndsAs_earlier CutShort a b c none ends = ends
   EndsAs_earlier Closed a b c none ends = ends

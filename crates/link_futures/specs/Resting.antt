@@ -1,5 +1,5 @@
 -- What becomes of a line that waits for its reader alone.
-use Rattle.std.specs.Prelude.{◌≡◌, ℕ, Bool, Option, IsSomeAnd, Result, Ok, Err}
+use Rattle.std.specs.Prelude.{◌≡◌, ℕ, Option, IsSomeAnd, Result, Ok, Err}
 use Rattle.tokio.specs.Io.Moved.{Passes}
 use Rattle.futures.specs.declared.stream.futures_unordered.FuturesUnordered.{FuturesUnordered}
 use Rattle.futures.specs.Queued.{AnyGives, set_places}
@@ -13,11 +13,11 @@ use Rattle.link_futures.specs.Stream.{EndsAs, MetNoFault}
 abbrev pub RestingNeed : {F : Type 0} → Option (FuturesUnordered F) → ℕ → Type 0
 RestingNeed resting source = IsSomeAnd resting (λ set. source ≡ set.tasks.source.id)
 
-module _ {R W : Type 0} (reads : Passes R) (is_at_end : R → Type 0) (closes : R → Bool) (read_faults : R → ℕ) (write_faults : W → ℕ) (stalls : W → ℕ) where
+module _ {R W : Type 0} (reads : Passes R) (is_at_end : R → Type 0) (read_faults : R → ℕ) (write_faults : W → ℕ) (stalls : W → ℕ) where
   -- A line is woken as the same line, with the same bytes and those that it read behind them; or its read was its end.
   abbrev pub Wakes : Line R W → Result (Line R W) (Line R W × End) → Type 0
   Wakes line (Ok woken) = ReadsOn reads is_at_end line woken × MetNoFault read_faults write_faults stalls line woken
-  Wakes line (Err failed) = ReadsOn reads is_at_end line failed.0 × EndsAs closes read_faults write_faults stalls failed.1 line failed.0
+  Wakes line (Err failed) = ReadsOn reads is_at_end line failed.0 × EndsAs read_faults write_faults stalls failed.1 line failed.0
 
   -- one of the lines that rest may be woken so
   abbrev pub MayWake : Option (FuturesUnordered (Quiet (Line R W))) → Result (Line R W) (Line R W × End) → Type 0

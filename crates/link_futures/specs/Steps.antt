@@ -1,5 +1,5 @@
 -- What each part of a line's turn does.
-use Rattle.std.specs.Prelude.{◌≡◌, ◌⊎◌, ℕ, ◌-◌, ◌^◌, ◌<◌, ◌≤◌, Bool, true, false, List, [], ◌++◌, length, All}
+use Rattle.std.specs.Prelude.{◌≡◌, ◌⊎◌, ℕ, ◌-◌, ◌^◌, ◌<◌, ◌≤◌, true, false, List, [], ◌++◌, length, All}
 use Rattle.tokio.specs.Io.Moved.{Passes}
 use Rattle.link_futures.specs.declared.end.End.{End}
 use Rattle.link_futures.specs.declared.end.End.TheVariants.{Finished, CutShort, Closed, ReadFault, WriteFault, NoMemory}
@@ -58,10 +58,10 @@ module _ {R W : Type 0} where
     pub others : new ≡ record old { writer = new.writer; outbox = new.outbox }
 
   -- an end that no fault makes
-  abbrev pub EndsQuietly : (R → Bool) → End → Line R W → Type 0
-  EndsQuietly closes Finished line = IsFinished closes line
-  EndsQuietly closes CutShort line = IsCutShort closes line
-  EndsQuietly closes Closed line = IsClosed closes line
-  EndsQuietly closes ReadFault line = ⊥
-  EndsQuietly closes WriteFault line = ⊥
-  EndsQuietly closes NoMemory line = ⊥
+  abbrev pub EndsQuietly : End → Line R W → Type 0
+  EndsQuietly Finished line = IsFinished line
+  EndsQuietly CutShort line = IsCutShort line
+  EndsQuietly Closed line = IsClosed line
+  EndsQuietly ReadFault line = ⊥
+  EndsQuietly WriteFault line = ⊥
+  EndsQuietly NoMemory line = ⊥

@@ -1,5 +1,5 @@
 -- What polls of a line do: the bytes that it read and wrote, and the frames that were answered between.
-use Rattle.std.specs.Prelude.{◌≡◌, ◌⊎◌, ℕ, ◌-◌, ◌^◌, ◌<◌, ◌≤◌, Bool, true, false, List, [], ◌++◌, length, All}
+use Rattle.std.specs.Prelude.{◌≡◌, ◌⊎◌, ℕ, ◌-◌, ◌^◌, ◌<◌, ◌≤◌, true, false, List, [], ◌++◌, length, All}
 use Rattle.std.specs.List.{flat_map}
 use Rattle.futures.specs.declared.task.Poll.{Poll}
 use Rattle.futures.specs.declared.task.Poll.TheVariants.{Ready, Pending}
@@ -77,37 +77,30 @@ module _ {R W D : Type 0} (reads : Passes R) (is_at_end : R → Type 0) (writes 
     pub few : length talks.exchanges ≤ 1
     pub room : 0 < length talks.exchanges → HasRoom old.line
 
-module _ {R W : Type 0} (closes : R → Bool) where
+module _ {R W : Type 0} where
   -- at the reader's end between frames, with all replies written
   pub record IsFinished (line : Line R W) : Type 0 where
     pub over : line.is_over ≡ true
-    pub stays : closes line.reader ≡ false
     pub between : unanswered line ≡ []
     pub written : unsent line ≡ []
 
   -- at the reader's end inside a frame, with all replies written
   pub record IsCutShort (line : Line R W) : Type 0 where
     pub over : line.is_over ≡ true
-    pub stays : closes line.reader ≡ false
     pub inside : IsInsideFrame (unanswered line)
     pub written : unsent line ≡ []
 
-  -- the reader has ended, and its end is to close the line
-  abbrev pub IsShut : Line R W → Type 0
-  IsShut line = (line.is_over ≡ true) × (closes line.reader ≡ true)
-
-  -- at a refused size, after the desk closed, after the last number of a frame, or at the reader's end that is to close the line,
-  -- with all replies written
+  -- at a refused size, after the desk closed, or after the last number of a frame, with all replies written
   pub record IsClosed (line : Line R W) : Type 0 where
-    pub reason : BeginsWithRefusedSize (unanswered line) ⊎ ((line.is_closed ≡ true) ⊎ ((line.answered ≡ 2 ^ 64 - 1) ⊎ IsShut line))
+    pub reason : BeginsWithRefusedSize (unanswered line) ⊎ ((line.is_closed ≡ true) ⊎ (line.answered ≡ 2 ^ 64 - 1))
     pub written : unsent line ≡ []
 
-module _ {R W : Type 0} (closes : R → Bool) (read_faults : R → ℕ) (write_faults : W → ℕ) (stalls : W → ℕ) where
+module _ {R W : Type 0} (read_faults : R → ℕ) (write_faults : W → ℕ) (stalls : W → ℕ) where
   -- How a line may end. ReadFault: a poll of the reader failed. WriteFault: a poll of the writer failed, or took no byte.
   abbrev pub EndsAs : End → Line R W → Line R W → Type 0
-  EndsAs Finished old new = IsFinished closes new
-  EndsAs CutShort old new = IsCutShort closes new
-  EndsAs Closed old new = IsClosed closes new
+  EndsAs Finished old new = IsFinished new
+  EndsAs CutShort old new = IsCutShort new
+  EndsAs Closed old new = IsClosed new
   EndsAs ReadFault old new = read_faults old.reader < read_faults new.reader
   EndsAs WriteFault old new = (write_faults old.writer < write_faults new.writer) ⊎ (stalls old.writer < stalls new.writer)
   EndsAs NoMemory old new = Unit {0}

@@ -24,19 +24,19 @@ WorkerNeeds {A} {R} {W} arrive read write arrivals is_closed lines resting count
 abbrev pub at_any_time : {D : Type 0} → Answering D → Answering (Unit {0})
 at_any_time {D} answers before body stamp answer after = (d : D) × (e : D) × answers d body stamp answer e
 
-module _ {R W D : Type 0} (reads : Passes R) (is_at_end : R → Type 0) (closes : R → Bool) (read_faults : R → ℕ) (writes : Passes W) (write_faults : W → ℕ) (stalls : W → ℕ) (answers : Answering D) where
+module _ {R W D : Type 0} (reads : Passes R) (is_at_end : R → Type 0) (read_faults : R → ℕ) (writes : Passes W) (write_faults : W → ℕ) (stalls : W → ℕ) (answers : Answering D) where
   -- a line may end so, over a desk that others share: as a session may
   abbrev pub LineMayEnd : Line R W → End → Type 0
   LineMayEnd line end =
       let session : Session R W (Unit {0}) = record { line = line; desk = tt } in
-      MayEnd reads is_at_end closes read_faults writes write_faults stalls (at_any_time answers) session end
+      MayEnd reads is_at_end read_faults writes write_faults stalls (at_any_time answers) session end
 
   -- one of the lines may end so, or one of those that rest: it is woken and goes on, or its read is its end
   abbrev pub AnyMayEnd : List (Line R W) → Option (FuturesUnordered (Quiet (Line R W))) → End → Type 0
   AnyMayEnd lines resting end =
       ((line : Line R W) × Contains lines line × LineMayEnd line end)
-      ⊎ (((last : Line R W) × MayWake reads is_at_end closes read_faults write_faults stalls resting (Err (last, end)))
-      ⊎ ((line : Line R W) × MayWake reads is_at_end closes read_faults write_faults stalls resting (Ok line) × LineMayEnd line end))
+      ⊎ (((last : Line R W) × MayWake reads is_at_end read_faults write_faults stalls resting (Err (last, end)))
+      ⊎ ((line : Line R W) × MayWake reads is_at_end read_faults write_faults stalls resting (Ok line) × LineMayEnd line end))
 
   -- What a worker may give: the number of the lines that have ended, up to 2^64 - 1. All its lines have, those that rest and those
   -- that still arrived, and each as one of them may end.

@@ -1,5 +1,5 @@
 //! A reader or a writer of `tokio` with counts of its failed polls.
-ghost use Rattle.std.specs.Prelude.{◌≡◌, false};
+ghost use Rattle.std.specs.Prelude.{◌≡◌};
 
 use crate::part::Part;
 use crate::reader::ReadPart;
@@ -62,8 +62,6 @@ impl<R: AsyncRead> AsyncRead for Counted<R> {
 impl<R: AsyncRead> ReadPart for Counted<R> {
     ghost faults = { λ c. c.faults };
 
-    ghost closes = { λ _. false };
-
     fn poll_read_part(&mut self, cx: &mut Context<'_>, buf: &mut [u8]) -> Part {
         if self.faults == u64::MAX {
             let _: Poll<()> = cx.yield_now();
@@ -77,10 +75,6 @@ impl<R: AsyncRead> ReadPart for Counted<R> {
                 Part::Fault
             }
         }
-    }
-
-    fn is_closing(&self) -> bool {
-        false
     }
 }
 

@@ -7,8 +7,8 @@ pub enum End {
     Finished = 1,
     /// The reader ended inside a frame, and all replies are written.
     CutShort = 2,
-    /// A size that no body may have came, or the desk closed, or the last number of a frame is used, or the reader's end closes
-    /// the line. All replies to earlier frames are written.
+    /// A size that no body may have came, or the desk closed, or the last number of a frame is used. All replies to earlier
+    /// frames are written.
     Closed = 3,
     /// A poll of the reader failed.
     ReadFault = 4,

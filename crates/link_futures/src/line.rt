@@ -71,7 +71,7 @@ impl<R: ReadPart, W: WriteParts> Line<R, W> {
         ensures stream { (last : D) × Turns R.reads R.is_at_end W.writes D.answers
             (record { line = self.old; desk = desk.old }) (record { line = self.new; desk = last })
             × LeavesDesk D.lacks result last desk.new }
-        ensures ends { IfReady result (λ end. EndsAs R.closes R.faults W.faults W.stalls end self.old self.new) }
+        ensures ends { IfReady result (λ end. EndsAs R.faults W.faults W.stalls end self.old self.new) }
         ensures goes_on { OnPending result (MetNoFault R.faults W.faults W.stalls self.old self.new) }
         ensures armed { OnPending result (Covers cx.new (LineNeeds R.needs W.needs self.new)) }
         ensures kept { Keeps cx.old cx.new }
@@ -114,7 +114,7 @@ impl<R: ReadPart, W: WriteParts> Line<R, W> {
     /// Reads once, where the desk may want more bytes. Says whether the reader waits.
     pub(crate) fn read(&mut self, cx: &mut Context<'_>) -> Result<bool, End>
         ensures reads { ReadsOn R.reads R.is_at_end self.old self.new }
-        ensures ends { IfErr result (λ end. EndsAs R.closes R.faults W.faults W.stalls end self.old self.new) }
+        ensures ends { IfErr result (λ end. EndsAs R.faults W.faults W.stalls end self.old self.new) }
         ensures goes_on { OnOk result (MetNoFault R.faults W.faults W.stalls self.old self.new) }
         ensures armed { result ≡ Ok true → Covers cx.new (R.needs self.new.reader) }
         ensures waits { result ≡ Ok true → self.new.inbox ≡ self.old.inbox }
@@ -159,7 +159,7 @@ impl<R: ReadPart, W: WriteParts> Line<R, W> {
     /// them all. Says whether the writer waits.
     fn write<D: Desk>(&mut self, cx: &mut Context<'_>, desk: &D) -> Result<bool, End>
         ensures writes { WritesOn W.writes self.old self.new }
-        ensures ends { IfErr result (λ end. EndsAs R.closes R.faults W.faults W.stalls end self.old self.new) }
+        ensures ends { IfErr result (λ end. EndsAs R.faults W.faults W.stalls end self.old self.new) }
         ensures known { IfErr result (λ end. end ≡ End.WriteFault) }
         ensures goes_on { OnOk result (MetNoFault R.faults W.faults W.stalls self.old self.new) }
         ensures armed { result ≡ Ok true → Covers cx.new (W.needs self.new.writer) }
@@ -181,7 +181,7 @@ impl<R: ReadPart, W: WriteParts> Line<R, W> {
 
     /// How the line ends, where it does once all replies are written.
     fn end(&self) -> Option<End>
-        ensures { IfSome result (λ end. EndsQuietly R.closes end self.now) }
+        ensures { IfSome result (λ end. EndsQuietly end self.now) }
     {
         if !self.outbox.is_empty() {
             return None;
@@ -193,7 +193,6 @@ impl<R: ReadPart, W: WriteParts> Line<R, W> {
             Next::Refused => Some(End::Closed),
             Next::Whole(_) => None,
             Next::Partial if !self.is_over => None,
-            Next::Partial if self.reader.is_closing() => Some(End::Closed),
             Next::Partial if self.inbox.is_empty() => Some(End::Finished),
             Next::Partial => Some(End::CutShort),
         }

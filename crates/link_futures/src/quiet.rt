@@ -23,7 +23,7 @@ impl<R: ReadPart, W: WriteParts> Future for Quiet<Line<R, W>> {
 
     ghost needs = { λ q source. IsSomeAnd q.line (λ line. R.needs line.reader source) };
 
-    ghost gives = { λ q woken. IsSomeAnd q.line (λ line. Wakes R.reads R.is_at_end R.closes R.faults W.faults W.stalls line woken) };
+    ghost gives = { λ q woken. IsSomeAnd q.line (λ line. Wakes R.reads R.is_at_end R.faults W.faults W.stalls line woken) };
 
     /// Reads once.
     fn poll(&mut self, cx: &mut Context<'_>) -> Poll<Result<Line<R, W>, (Line<R, W>, End)>> {

@@ -1,5 +1,5 @@
 //! Readers that tell contracts how many of their polls have failed.
-ghost use Rattle.std.specs.Prelude.{◌≡◌, ℕ, Bool, ◌+◌, ◌<◌, ◌≤◌, length, take};
+ghost use Rattle.std.specs.Prelude.{◌≡◌, ℕ, ◌+◌, ◌<◌, ◌≤◌, length, take};
 ghost use Rattle.futures.specs.Task.{Covers, Keeps};
 ghost use Rattle.link_futures.specs.Parts.{count_of, faults_of, OnWaits};
 ghost use Rattle.link_futures.specs.declared.part.Part.TheVariants.{Moved};
@@ -13,9 +13,6 @@ pub trait ReadPart: AsyncRead {
     /// How many polls have failed.
     ghost faults: { Self → ℕ };
 
-    /// Its end is to close the line, as where the other side was silent for too long.
-    ghost closes: { Self → Bool };
-
     /// One read into `buf`. No byte for a buffer with room means the end.
     fn poll_read_part(&mut self, cx: &mut Context<'_>, buf: &mut [u8]) -> Part
         ensures bound { count_of result ≤ length buf.new }
@@ -24,8 +21,4 @@ pub trait ReadPart: AsyncRead {
         ensures counted { faults self.new ≡ faults self.old + faults_of result }
         ensures registered { OnWaits result (Covers cx.new (Self.needs self.new)) }
         ensures kept { Keeps cx.old cx.new };
-
-    /// Whether its end is to close the line, as where the other side was silent for too long.
-    fn is_closing(&self) -> bool
-        ensures { result ≡ closes self.now };
 }

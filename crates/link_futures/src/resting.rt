@@ -53,10 +53,10 @@ impl<R: ReadPart, W: WriteParts> Resting<Line<R, W>> {
         ensures count { OnOk result (self.new.count ≡ self.old.count + 1) }
         ensures err { OnErr result (self.new.count ≡ self.old.count) }
         ensures value_returned { IfErr result (λ back. back ≡ line) }
-        ensures wakes { OnOk result ((woken : _) → MayWake R.reads R.is_at_end R.closes R.faults W.faults W.stalls self.new.lines woken
-            → MayWake R.reads R.is_at_end R.closes R.faults W.faults W.stalls self.old.lines woken ⊎ Wakes R.reads R.is_at_end R.closes R.faults W.faults W.stalls line woken) }
-        ensures refused { OnErr result ((woken : _) → MayWake R.reads R.is_at_end R.closes R.faults W.faults W.stalls self.new.lines woken
-            → MayWake R.reads R.is_at_end R.closes R.faults W.faults W.stalls self.old.lines woken) }
+        ensures wakes { OnOk result ((woken : _) → MayWake R.reads R.is_at_end R.faults W.faults W.stalls self.new.lines woken
+            → MayWake R.reads R.is_at_end R.faults W.faults W.stalls self.old.lines woken ⊎ Wakes R.reads R.is_at_end R.faults W.faults W.stalls line woken) }
+        ensures refused { OnErr result ((woken : _) → MayWake R.reads R.is_at_end R.faults W.faults W.stalls self.new.lines woken
+            → MayWake R.reads R.is_at_end R.faults W.faults W.stalls self.old.lines woken) }
     {
         let Some(count) = self.count.checked_add(1) else {
             return Err(line);
@@ -83,11 +83,11 @@ impl<R: ReadPart, W: WriteParts> Resting<Line<R, W>> {
         cx: &mut Context<'_>,
     ) -> Poll<Result<Line<R, W>, (Line<R, W>, End)>>
         requires { 0 < self.old.count }
-        ensures ready { IfReady result (MayWake R.reads R.is_at_end R.closes R.faults W.faults W.stalls self.old.lines) }
+        ensures ready { IfReady result (MayWake R.reads R.is_at_end R.faults W.faults W.stalls self.old.lines) }
         ensures count { IfReady result (λ _. self.new.count + 1 ≡ self.old.count) }
         ensures waits { OnPending result (self.new.count ≡ self.old.count) }
-        ensures stay { (woken : _) → MayWake R.reads R.is_at_end R.closes R.faults W.faults W.stalls self.new.lines woken
-            → MayWake R.reads R.is_at_end R.closes R.faults W.faults W.stalls self.old.lines woken }
+        ensures stay { (woken : _) → MayWake R.reads R.is_at_end R.faults W.faults W.stalls self.new.lines woken
+            → MayWake R.reads R.is_at_end R.faults W.faults W.stalls self.old.lines woken }
         ensures registered { OnPending result (Covers cx.new (RestingNeed self.new.lines)) }
         ensures kept { Keeps cx.old cx.new }
     {

@@ -43,17 +43,17 @@ impl<R: ReadPart, W: WriteParts, D: Desk> Future for Session<R, W, D> {
 
     ghost needs = { λ s. LineNeeds R.needs W.needs s.line };
 
-    ghost gives = { λ s end. MayEnd R.reads R.is_at_end R.closes R.faults W.writes W.faults W.stalls D.answers s end };
+    ghost gives = { λ s end. MayEnd R.reads R.is_at_end R.faults W.writes W.faults W.stalls D.answers s end };
 
     /// One turn of the line.
     fn poll(&mut self, cx: &mut Context<'_>) -> Poll<End>
         ensures stream { (last : D) × Turns R.reads R.is_at_end W.writes D.answers
             self.old (record { line = self.new.line; desk = last }) × LeavesDesk D.lacks result last self.new.desk }
-        ensures ends { IfReady result (λ end. EndsAs R.closes R.faults W.faults W.stalls end self.old.line self.new.line) }
+        ensures ends { IfReady result (λ end. EndsAs R.faults W.faults W.stalls end self.old.line self.new.line) }
         ensures goes_on { OnPending result (MetNoFault R.faults W.faults W.stalls self.old.line self.new.line) }
-        ensures value { IfReady result (MayEnd R.reads R.is_at_end R.closes R.faults W.writes W.faults W.stalls D.answers self.old) }
+        ensures value { IfReady result (MayEnd R.reads R.is_at_end R.faults W.writes W.faults W.stalls D.answers self.old) }
         ensures again { OnPending result ⊤ }
-        ensures same { OnPending result ((end : End) → MayEnd R.reads R.is_at_end R.closes R.faults W.writes W.faults W.stalls D.answers self.new end → MayEnd R.reads R.is_at_end R.closes R.faults W.writes W.faults W.stalls D.answers self.old end) }
+        ensures same { OnPending result ((end : End) → MayEnd R.reads R.is_at_end R.faults W.writes W.faults W.stalls D.answers self.new end → MayEnd R.reads R.is_at_end R.faults W.writes W.faults W.stalls D.answers self.old end) }
         ensures registered { OnPending result (Covers cx.new (LineNeeds R.needs W.needs self.new.line)) }
         ensures kept { Keeps cx.old cx.new }
     {

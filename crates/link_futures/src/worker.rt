@@ -191,7 +191,7 @@ impl<R: ReadPart, W: WriteParts, A: Stream<Item = Line<R, W>>, D: Desk> Future f
 
     ghost needs = { λ w. WorkerNeeds A.needs R.needs W.needs w.arrivals w.is_closed w.lines.items w.resting.lines w.resting.count };
 
-    ghost gives = { λ w. WorkerGives R.reads R.is_at_end R.closes R.faults W.writes W.faults W.stalls D.answers
+    ghost gives = { λ w. WorkerGives R.reads R.is_at_end R.faults W.writes W.faults W.stalls D.answers
         (EndsIf w.is_closed (A.yields w.arrivals)) w.lines.items w.resting.lines w.resting.count w.ended };
 
     /// Makes a round, and further ones while a line has a frame.

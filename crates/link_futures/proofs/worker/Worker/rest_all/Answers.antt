@@ -14,7 +14,7 @@ loop-place-preserved g c =
       (λ e. absurd (true≢false e)),
       λ given gives.
           kept.3 given
-          (gives_rested g.R.AsyncRead.reads g.R.AsyncRead.is_at_end g.R.ReadPart.closes g.R.ReadPart.faults g.W.AsyncWrite.writes g.W.WriteParts.faults g.W.WriteParts.stalls g.D.Desk.answers g.met.W.AsyncWrite.writes_nothing g.met.R.AsyncRead.reads_in_order g.met.W.AsyncWrite.writes_in_order _ lines left c.swap_remove.result _ _ _ _ _ given
+          (gives_rested g.R.AsyncRead.reads g.R.AsyncRead.is_at_end g.R.ReadPart.faults g.W.AsyncWrite.writes g.W.WriteParts.faults g.W.WriteParts.stalls g.D.Desk.answers g.met.W.AsyncWrite.writes_nothing g.met.R.AsyncRead.reads_in_order g.met.W.AsyncWrite.writes_in_order _ lines left c.swap_remove.result _ _ _ _ _ given
           (omega arith) c.in_default.ensures.count (place, omega arith, sym c.swap_remove.ensures.value)
           (λ other. contains_left lines left n place other (omega arith) (omega arith) c.swap_remove.ensures.by_index.0 c.swap_remove.ensures.by_index.1)
           c.in_default.ensures.wakes gives),
@@ -29,6 +29,6 @@ returns-in-Err-clause-gives g c =
     rw (c.push_reserved.ensures.items, c.in-Err.ensures.err, c.in-Err.ensures.value_returned)
     (λ given gives.
     c.loop-place.invariant.3 given
-    (gives_kept g.R.AsyncRead.reads g.R.AsyncRead.is_at_end g.R.ReadPart.closes g.R.ReadPart.faults g.W.AsyncWrite.writes g.W.WriteParts.faults g.W.WriteParts.stalls g.D.Desk.answers _ lines left c.swap_remove.result _ _ _ _ given (omega arith) (place, omega arith, sym c.swap_remove.ensures.value)
+    (gives_kept g.R.AsyncRead.reads g.R.AsyncRead.is_at_end g.R.ReadPart.faults g.W.AsyncWrite.writes g.W.WriteParts.faults g.W.WriteParts.stalls g.D.Desk.answers _ lines left c.swap_remove.result _ _ _ _ given (omega arith) (place, omega arith, sym c.swap_remove.ensures.value)
     (λ other. contains_left lines left n place other (omega arith) (omega arith) c.swap_remove.ensures.by_index.0 c.swap_remove.ensures.by_index.1)
     c.in-Err.ensures.refused gives))

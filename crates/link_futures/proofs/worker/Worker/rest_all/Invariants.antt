@@ -6,8 +6,8 @@ use Rattle.link_futures.proofs.worker.Worker.rest_all.Given as goal
 abbrev pub invariant-loop-place : goal.invariant-loop-place
 invariant-loop-place g l =
     (l.self.arrivals ≡ l.initial.self.arrivals) × (l.self.is_closed ≡ l.initial.self.is_closed) × (l.has_rested ≡ false → l.self ≡ l.initial.self)
-    × ((n : ℕ) → WorkerGives g.R.AsyncRead.reads g.R.AsyncRead.is_at_end g.R.ReadPart.closes g.R.ReadPart.faults g.W.AsyncWrite.writes g.W.WriteParts.faults g.W.WriteParts.stalls g.D.Desk.answers (EndsIf l.self.is_closed (g.A.Stream.yields l.self.arrivals)) l.self.lines.items l.self.resting.lines l.self.resting.count l.self.ended n
-    → WorkerGives g.R.AsyncRead.reads g.R.AsyncRead.is_at_end g.R.ReadPart.closes g.R.ReadPart.faults g.W.AsyncWrite.writes g.W.WriteParts.faults g.W.WriteParts.stalls g.D.Desk.answers (EndsIf l.initial.self.is_closed (g.A.Stream.yields l.initial.self.arrivals)) l.initial.self.lines.items l.initial.self.resting.lines l.initial.self.resting.count l.initial.self.ended n)
+    × ((n : ℕ) → WorkerGives g.R.AsyncRead.reads g.R.AsyncRead.is_at_end g.R.ReadPart.faults g.W.AsyncWrite.writes g.W.WriteParts.faults g.W.WriteParts.stalls g.D.Desk.answers (EndsIf l.self.is_closed (g.A.Stream.yields l.self.arrivals)) l.self.lines.items l.self.resting.lines l.self.resting.count l.self.ended n
+    → WorkerGives g.R.AsyncRead.reads g.R.AsyncRead.is_at_end g.R.ReadPart.faults g.W.AsyncWrite.writes g.W.WriteParts.faults g.W.WriteParts.stalls g.D.Desk.answers (EndsIf l.initial.self.is_closed (g.A.Stream.yields l.initial.self.arrivals)) l.initial.self.lines.items l.initial.self.resting.lines l.initial.self.resting.count l.initial.self.ended n)
 
 abbrev pub decreases-loop-place : goal.decreases-loop-place
 decreases-loop-place g l = length l.self.lines.items - l.place

@@ -17,8 +17,8 @@ loop-place-preserved-in-Pending g c =
       kept.4,
       λ n gives.
           kept.5 n
-          (gives_set g.R.AsyncRead.reads g.R.AsyncRead.is_at_end g.R.ReadPart.closes g.R.ReadPart.faults g.W.AsyncWrite.writes g.W.WriteParts.faults g.W.WriteParts.stalls g.D.Desk.answers _ lines place c.index_mut.result.now c.turn.new.self _ _ _ n (omega arith) c.index_mut.ensures.value
-          (turned g.R.AsyncRead.reads g.R.AsyncRead.is_at_end g.R.ReadPart.closes g.R.ReadPart.faults g.W.AsyncWrite.writes g.W.WriteParts.faults g.W.WriteParts.stalls g.D.Desk.answers g.met.R.AsyncRead.reads_in_order g.met.W.AsyncWrite.writes_in_order c.index_mut.result.now c.turn.new.self _ _ stream.1 c.in-Pending.ensures.goes_on) gives),
+          (gives_set g.R.AsyncRead.reads g.R.AsyncRead.is_at_end g.R.ReadPart.faults g.W.AsyncWrite.writes g.W.WriteParts.faults g.W.WriteParts.stalls g.D.Desk.answers _ lines place c.index_mut.result.now c.turn.new.self _ _ _ n (omega arith) c.index_mut.ensures.value
+          (turned g.R.AsyncRead.reads g.R.AsyncRead.is_at_end g.R.ReadPart.faults g.W.AsyncWrite.writes g.W.WriteParts.faults g.W.WriteParts.stalls g.D.Desk.answers g.met.R.AsyncRead.reads_in_order g.met.W.AsyncWrite.writes_in_order c.index_mut.result.now c.turn.new.self _ _ stream.1 c.in-Pending.ensures.goes_on) gives),
     )
 
 pub loop-place-preserved : goal.loop-place-preserved
@@ -37,9 +37,9 @@ loop-place-preserved g c =
       kept.4,
       λ given gives.
           kept.5 given
-          (gives_removed g.R.AsyncRead.reads g.R.AsyncRead.is_at_end g.R.ReadPart.closes g.R.ReadPart.faults g.W.AsyncWrite.writes g.W.WriteParts.faults g.W.WriteParts.stalls g.D.Desk.answers _ lines left place c.index_mut.result.now _ _ _ _ given _ (omega arith) c.index_mut.ensures.value (omega arith)
+          (gives_removed g.R.AsyncRead.reads g.R.AsyncRead.is_at_end g.R.ReadPart.faults g.W.AsyncWrite.writes g.W.WriteParts.faults g.W.WriteParts.stalls g.D.Desk.answers _ lines left place c.index_mut.result.now _ _ _ _ given _ (omega arith) c.index_mut.ensures.value (omega arith)
           (λ other. contains_set_left lines left n place c.turn.new.self other (omega arith) (omega arith) c.swap_remove-line.ensures.by_index.0 c.swap_remove-line.ensures.by_index.1)
-          (turned_out g.R.AsyncRead.reads g.R.AsyncRead.is_at_end g.R.ReadPart.closes g.R.ReadPart.faults g.W.AsyncWrite.writes g.W.WriteParts.faults g.W.WriteParts.stalls g.D.Desk.answers c.index_mut.result.now c.turn.new.self _ _ _ stream.1 c.in-Ready.ensures.ends) c.saturating_add-self.ensures gives),
+          (turned_out g.R.AsyncRead.reads g.R.AsyncRead.is_at_end g.R.ReadPart.faults g.W.AsyncWrite.writes g.W.WriteParts.faults g.W.WriteParts.stalls g.D.Desk.answers c.index_mut.result.now c.turn.new.self _ _ _ stream.1 c.in-Ready.ensures.ends) c.saturating_add-self.ensures gives),
     )
 
 pub returns-clause-armed : goal.returns-clause-armed

@@ -8,5 +8,5 @@ abbrev pub invariant-loop-place : goal.invariant-loop-place
 invariant-loop-place g l =
     (l.self.arrivals ≡ l.initial.self.arrivals) × (l.self.is_closed ≡ l.initial.self.is_closed) × Keeps l.initial.cx l.cx
     × (l.initial.self.resting.count ≤ l.place + l.self.resting.count) × (l.self.resting.count ≤ l.initial.self.resting.count)
-    × ((n : ℕ) → WorkerGives g.R.AsyncRead.reads g.R.AsyncRead.is_at_end g.R.ReadPart.closes g.R.ReadPart.faults g.W.AsyncWrite.writes g.W.WriteParts.faults g.W.WriteParts.stalls g.D.Desk.answers (EndsIf l.self.is_closed (g.A.Stream.yields l.self.arrivals)) l.self.lines.items l.self.resting.lines l.self.resting.count l.self.ended n
-    → WorkerGives g.R.AsyncRead.reads g.R.AsyncRead.is_at_end g.R.ReadPart.closes g.R.ReadPart.faults g.W.AsyncWrite.writes g.W.WriteParts.faults g.W.WriteParts.stalls g.D.Desk.answers (EndsIf l.initial.self.is_closed (g.A.Stream.yields l.initial.self.arrivals)) l.initial.self.lines.items l.initial.self.resting.lines l.initial.self.resting.count l.initial.self.ended n)
+    × ((n : ℕ) → WorkerGives g.R.AsyncRead.reads g.R.AsyncRead.is_at_end g.R.ReadPart.faults g.W.AsyncWrite.writes g.W.WriteParts.faults g.W.WriteParts.stalls g.D.Desk.answers (EndsIf l.self.is_closed (g.A.Stream.yields l.self.arrivals)) l.self.lines.items l.self.resting.lines l.self.resting.count l.self.ended n
+    → WorkerGives g.R.AsyncRead.reads g.R.AsyncRead.is_at_end g.R.ReadPart.faults g.W.AsyncWrite.writes g.W.WriteParts.faults g.W.WriteParts.stalls g.D.Desk.answers (EndsIf l.initial.self.is_closed (g.A.Stream.yields l.initial.self.arrivals)) l.initial.self.lines.items l.initial.self.resting.lines l.initial.self.resting.count l.initial.self.ended n)

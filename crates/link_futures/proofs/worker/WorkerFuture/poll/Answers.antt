@@ -29,7 +29,7 @@ returns-then-len-eq0-clause-value g c =
     let none : worker.lines.items ≡ [] = nil_from_length worker.lines.items zero in
     let count : worker.resting.count ≡ 0 = omega (arith, c.len.ensures, c.if-len-eq0.true) in
     rw c.ended_lines.ensures.value
-    (c.round-has_news.ensures.gives worker.ended (c.loop.invariant.5 worker.ended (c.rest_all.ensures.gives worker.ended (rw (c.if-self.true, none, count) (gives_all g.R.AsyncRead.reads g.R.AsyncRead.is_at_end g.R.ReadPart.closes g.R.ReadPart.faults g.W.AsyncWrite.writes g.W.WriteParts.faults g.W.WriteParts.stalls g.D.Desk.answers _ worker.ended (EndsIf true (g.A.Stream.yields worker.arrivals)) (refl, refl) (omega (arith, c.ended_lines.ensures.value, c.ended_lines.ensures.small)))))))
+    (c.round-has_news.ensures.gives worker.ended (c.loop.invariant.5 worker.ended (c.rest_all.ensures.gives worker.ended (rw (c.if-self.true, none, count) (gives_all g.R.AsyncRead.reads g.R.AsyncRead.is_at_end g.R.ReadPart.faults g.W.AsyncWrite.writes g.W.WriteParts.faults g.W.WriteParts.stalls g.D.Desk.answers _ worker.ended (EndsIf true (g.A.Stream.yields worker.arrivals)) (refl, refl) (omega (arith, c.ended_lines.ensures.value, c.ended_lines.ensures.small)))))))
 
 pub returns-then-has_news-clause-same : goal.returns-then-has_news-clause-same
 returns-then-has_news-clause-same g c =

@@ -12,5 +12,5 @@ invariant-loop g l =
     × (l.has_news ≡ false → l.self.is_closed ≡ false → Covers l.cx (g.A.Stream.needs l.self.arrivals))
     × (l.has_news ≡ false → 0 < l.self.resting.count → Covers l.cx (RestingNeed l.self.resting.lines))
     × All (λ line. Covers l.cx (LineNeeds g.R.AsyncRead.needs g.W.AsyncWrite.needs line)) l.self.lines.items × Keeps l.initial.cx l.cx
-    × ((n : ℕ) → WorkerGives g.R.AsyncRead.reads g.R.AsyncRead.is_at_end g.R.ReadPart.closes g.R.ReadPart.faults g.W.AsyncWrite.writes g.W.WriteParts.faults g.W.WriteParts.stalls g.D.Desk.answers (EndsIf l.self.is_closed (g.A.Stream.yields l.self.arrivals)) l.self.lines.items l.self.resting.lines l.self.resting.count l.self.ended n
-    → WorkerGives g.R.AsyncRead.reads g.R.AsyncRead.is_at_end g.R.ReadPart.closes g.R.ReadPart.faults g.W.AsyncWrite.writes g.W.WriteParts.faults g.W.WriteParts.stalls g.D.Desk.answers (EndsIf l.initial.self.is_closed (g.A.Stream.yields l.initial.self.arrivals)) l.initial.self.lines.items l.initial.self.resting.lines l.initial.self.resting.count l.initial.self.ended n)
+    × ((n : ℕ) → WorkerGives g.R.AsyncRead.reads g.R.AsyncRead.is_at_end g.R.ReadPart.faults g.W.AsyncWrite.writes g.W.WriteParts.faults g.W.WriteParts.stalls g.D.Desk.answers (EndsIf l.self.is_closed (g.A.Stream.yields l.self.arrivals)) l.self.lines.items l.self.resting.lines l.self.resting.count l.self.ended n
+    → WorkerGives g.R.AsyncRead.reads g.R.AsyncRead.is_at_end g.R.ReadPart.faults g.W.AsyncWrite.writes g.W.WriteParts.faults g.W.WriteParts.stalls g.D.Desk.answers (EndsIf l.initial.self.is_closed (g.A.Stream.yields l.initial.self.arrivals)) l.initial.self.lines.items l.initial.self.resting.lines l.initial.self.resting.count l.initial.self.ended n)
