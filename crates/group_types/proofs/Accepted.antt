@@ -19,14 +19,14 @@ use Rattle.group_types.specs.Text.{Text, text_cmp}
 use Rattle.group_types.specs.Sets.{nothing}
 use Rattle.group_types.specs.Partition.{Partitions}
 use Rattle.group_types.specs.Topics.{Topics}
-use Rattle.group_types.specs.Request.{Heartbeat, Joins, Beats, Leaves, GoesAway, LEAVES_AT, GOES_AWAY_AT, is_full, kind_of, reported, reported_at}
+use Rattle.group_types.specs.Request.{Heartbeat, Joins, Beats, Leaves, GoesAway, LEAVES_AT, GOES_AWAY_AT, is_full, is_unsupported, kind_of, reported, reported_at}
 use Rattle.group_types.specs.Group.{Record, Records, Past, Group, wanted}
 use Rattle.group_types.specs.Members.{past_stamp, without_past}
 use Rattle.group_types.specs.Settle.{may_settle, settled_by, settled_record}
 use Rattle.group_types.specs.Renewal.{Renews, RenewsWhere, changed_if, view_for}
-use Rattle.group_types.specs.Join.{IsNamed, IsSerial, Name, name_of_serial}
+use Rattle.group_types.specs.Join.{IsNamed, IsSerial, Name, name_of_serial, record_of_beat, record_of_join}
 use Rattle.group_types.specs.Leave.{gone_away, last_epoch, left}
-use Rattle.group_types.specs.Checks.{Verdict, Accepted, Refused, Overtaken, Member, Sender, is_away, is_unreleased, record_under, sender_of, verdict_on}
+use Rattle.group_types.specs.Checks.{Verdict, Accepted, Refused, Overtaken, Member, Sender, is_away, is_unreleased, other_with, record_under, sender_of, verdict_on}
 use Rattle.group_types.specs.HeartbeatStep as machine
 use Rattle.group_types.specs.HeartbeatStep.{Answer, Replied, Closes, Reply, Arrival, Draft, BeatsWith, ByVerdict, GoesAwayWith, IsRefused, StepOf, TakesIn, HeartbeatStep, acceptance, assignment_of, draft_of_beat, draft_of_join, draft_under, farewell, handed_over, is_news, refusal, sent_after, shown}
 use Rattle.group_types.proofs.Consistent.{IsConsistent}
@@ -35,7 +35,7 @@ use Rattle.group_types.proofs.Lookups.{not_none, some_is, get-inserted}
 use Rattle.group_types.proofs.Renewals.{changed_is_consistent, renewed_is_consistent}
 use Rattle.group_types.proofs.Senders.{named_fresh, named_own, other_is, own_is}
 use Rattle.group_types.proofs.Drafts.{IsReady, beat_epoch, beat_is_ready, join_epoch, join_is_ready}
-use Rattle.group_types.proofs.Checked.{IsLater, IsRefusal, in_time, joining, leaver, refusals_differ, unavailable_is}
+use Rattle.group_types.proofs.Checked.{IsLater, IsRefusal, beating, in_time, joining, leaver, refusals_differ, unavailable_is}
 
 -- ---- the draft of an accepted join or beat
 
@@ -46,6 +46,18 @@ pub data Whose (g base : Group) (q : Heartbeat) (d : Draft) : Type 0 where
   newcomer : base ≡ g → finite.get g.records d.id ≡ None → reported q ≡ Some nothing → is_full q ≡ true → Whose g base q d
   takes_over : (old : Member) → base ≡ handed_over g old d.id → finite.get g.records old.id ≡ Some old.kept → finite.get g.records d.id ≡ None
       → is_away old.kept.epoch ≡ true → d.after.instance ≡ old.kept.instance → reported q ≡ Some nothing → is_full q ≡ true → Whose g base q d
+
+-- how its record is made
+pub data Made (g : Group) (a : Arrival) (now : ℕ) (d : Draft) : Type 0 where
+  of_beat : (n : ℕ) (r : Record) → a.heartbeat.epoch ≡ pos (suc n) → finite.get g.records d.id ≡ Some r
+      → d.after ≡ record_of_beat r a.heartbeat a.stamp now → Made g a now d
+  of_rejoin : (r : Record) → a.heartbeat.epoch ≡ pos 0 → finite.get g.records d.id ≡ Some r
+      → d.after ≡ record_of_join (Some r) a.heartbeat a.stamp now → Made g a now d
+  of_newcomer : a.heartbeat.epoch ≡ pos 0 → finite.get g.records d.id ≡ None
+      → d.after ≡ record_of_join None a.heartbeat a.stamp now → Made g a now d
+  of_heir : (old : Member) (i : Text) → a.heartbeat.epoch ≡ pos 0 → finite.get g.records d.id ≡ None → finite.get g.records old.id ≡ Some old.kept
+      → a.heartbeat.instance ≡ Some i → old.kept.instance ≡ Some i
+      → d.after ≡ record_of_join (Some old.kept) a.heartbeat a.stamp now → Made g a now d
 
 pub record Drafting (g : Group) (a : Arrival) (d : Draft) : Type 0 where
   pub base : Group
@@ -62,6 +74,8 @@ pub record Drafting (g : Group) (a : Arrival) (d : Draft) : Type 0 where
   pub in_time : (last : Stamp) → last_stamp g d.id ≡ Some last → IsLater a.stamp last
   pub named_in_time : (last : Stamp) → last_stamp g a.heartbeat.member ≡ Some last → IsLater a.stamp last
   pub whose : Whose g base a.heartbeat d
+  pub made : Made g a (max g.clock a.moment) d
+  pub supported : is_unsupported a.heartbeat ≡ false
 
 -- ---- what it goes through from there
 
@@ -232,6 +246,11 @@ named_stamp g [] name (serial, is_serial, named) none last is = absurd (by seria
         not_none last
         (sym ((λ i. stamp_kept (fresh.0 i) (not_in_past g.past (made_id g.salt n) fresh.1 i))) ∙ ap (last_stamp g) (sym (ap (λ (x : Name). x.id) same)) ∙ is)
 
+named_instance : (records : Records) (m : Text) (instance : Option Text) (old : Member) → other_with records m instance ≡ Some old
+    → (i : Text) × (instance ≡ Some i)
+named_instance records m None old is = absurd (not_none old is)
+named_instance records m (Some i) old is = (i, refl)
+
 either_true : (a b : Bool) → a ≡ true → (a || b) ≡ true
 either_true true b so = refl
 either_true false b never = absurd (true≢false (sym never))
@@ -250,10 +269,10 @@ module _ (g : Group) (sound : IsConsistent g) (a : Arrival) where
   abbrev Now : ℕ
   Now = max g.clock a.moment
 
-  beat_drafting : (n : ℕ) → TheHeartbeat.epoch ≡ pos (suc n) → (r : Record) → finite.get g.records TheHeartbeat.member ≡ Some r
+  beat_drafting : (n : ℕ) → TheHeartbeat.epoch ≡ pos (suc n) → is_unsupported TheHeartbeat ≡ false → (r : Record) → finite.get g.records TheHeartbeat.member ≡ Some r
       → ((last : Stamp) → stamp_kept (finite.get g.records TheHeartbeat.member) None ≡ Some last → IsLater a.stamp last)
       → Drafting g a (draft_of_beat g Now r TheHeartbeat a.stamp)
-  beat_drafting n epoch r there later =
+  beat_drafting n epoch supported r there later =
       record {
         base = g;
         ready = beat_is_ready g sound Now r TheHeartbeat a.stamp there;
@@ -269,9 +288,11 @@ module _ (g : Group) (sound : IsConsistent g) (a : Arrival) where
         in_time = λ last is. later last (ap (λ o. stamp_kept o None) there ∙ sym (ap (λ o. stamp_kept o (past_stamp g.past TheHeartbeat.member)) there) ∙ is);
         named_in_time = λ last is. later last (ap (λ o. stamp_kept o None) there ∙ sym (ap (λ o. stamp_kept o (past_stamp g.past TheHeartbeat.member)) there) ∙ is);
         whose = its_own r refl refl there (beat_epoch r TheHeartbeat a.stamp Now) (λ partial. refl) refl;
+        made = of_beat n r epoch there refl;
+        supported = supported;
       }
 
-  module _ (joins : TheHeartbeat.epoch ≡ pos 0) (name : Name) (named : IsNamed g TheHeartbeat.member (Some name))
+  module _ (joins : TheHeartbeat.epoch ≡ pos 0) (supported : is_unsupported TheHeartbeat ≡ false) (name : Name) (named : IsNamed g TheHeartbeat.member (Some name))
       (later : (last : Stamp) → last_stamp g TheHeartbeat.member ≡ Some last → IsLater a.stamp last) where
     abbrev Joined : Option Record → Option Member → Draft
     Joined own other = draft_of_join (record g { serial = name.next_serial }) Now name.id own other TheHeartbeat a.stamp
@@ -301,10 +322,13 @@ module _ (g : Group) (sound : IsConsistent g) (a : Arrival) where
           named_in_time = later;
           in_time = λ last is. later last (named_stamp g TheHeartbeat.member name named none last is);
           whose = newcomer refl fresh.0 join_reports join_is_full;
+          made = of_newcomer joins fresh.0 refl;
+          supported = supported;
         }
     join_drafting None none (Some old) is released ready =
         let fresh = named_fresh g TheHeartbeat.member name named none in
         let there = other_is g.records TheHeartbeat.member TheHeartbeat.instance old is in
+        let i = named_instance g.records TheHeartbeat.member TheHeartbeat.instance old is in
         record {
           base = handed_over g old name.id;
           ready = ready;
@@ -320,6 +344,8 @@ module _ (g : Group) (sound : IsConsistent g) (a : Arrival) where
           named_in_time = later;
           in_time = λ last is. later last (named_stamp g TheHeartbeat.member name named none last is);
           whose = takes_over old refl there.0 fresh.0 (away_of old.kept.epoch released) (sym there.1) join_reports join_is_full;
+          made = of_heir old i.0 joins fresh.0 there.0 i.1 (there.1 ∙ i.1) refl;
+          supported = supported;
         }
     join_drafting (Some r) is_own other is released ready =
         let same = named_own g TheHeartbeat.member name r named is_own in
@@ -339,6 +365,8 @@ module _ (g : Group) (sound : IsConsistent g) (a : Arrival) where
           named_in_time = later;
           in_time = λ last is. later last (ap (last_stamp g) (sym same) ∙ is);
           whose = its_own r refl same (ap (finite.get g.records) same ∙ there) (join_epoch r TheHeartbeat a.stamp Now) (λ partial. absurd (true≢false (sym join_is_full ∙ partial))) refl;
+          made = of_rejoin r joins (ap (finite.get g.records) same ∙ there) refl;
+          supported = supported;
         }
 
   -- ---- by the kind of heartbeat
@@ -351,7 +379,7 @@ module _ (g : Group) (sound : IsConsistent g) (a : Arrival) where
     came_joins joins accepted (Some name) named is =
         let passes = joining g sound TheHeartbeat a.stamp accepted in
         takes_in g a answer new _
-        (join_drafting joins name named passes.in_time TheSender.own refl TheSender.other refl passes.released
+        (join_drafting joins passes.supported name named passes.in_time TheSender.own refl TheSender.other refl passes.released
         (join_is_ready g sound Now TheHeartbeat a.stamp name named TheSender.own refl TheSender.other refl passes.released passes.room))
         a.image is
 
@@ -360,7 +388,7 @@ module _ (g : Group) (sound : IsConsistent g) (a : Arrival) where
     came_beats n epoch accepted None none is = absurd is
     came_beats n epoch accepted (Some r) is_own is =
         takes_in g a answer new _
-        (beat_drafting n epoch r (own_is g.records TheHeartbeat.member r is_own) (in_time g sound TheHeartbeat a.stamp (Beats (suc n)) accepted)) a.image is
+        (beat_drafting n epoch (beating g sound TheHeartbeat a.stamp (suc n) accepted) r (own_is g.records TheHeartbeat.member r is_own) (in_time g sound TheHeartbeat a.stamp (Beats (suc n)) accepted)) a.image is
 
     came_leaves : TheHeartbeat.epoch ≡ LEAVES_AT → verdict_on Leaves TheSender g TheHeartbeat a.stamp ≡ Accepted → StepOf Leaves TheSender g a answer new → Came g a answer new
     came_leaves epoch accepted is =

@@ -182,6 +182,7 @@ module _ (g : Group) (sound : IsConsistent g) (q : Heartbeat) (stamp : Stamp) wh
   same_own = own_so g.records q.member sound.named
 
   pub record Joining : Type 0 where
+    pub supported : is_unsupported q ≡ false
     pub in_time : (last : Stamp) → stamp_to_pass Joins g q.member ≡ Some last → IsLater stamp last
     pub released : is_unreleased TheSender.own TheSender.other ≡ false
     pub room : is_too_many TheSender.own TheSender.other (finite.len g.records) ≡ false
@@ -200,7 +201,7 @@ module _ (g : Group) (sound : IsConsistent g) (q : Heartbeat) (stamp : Stamp) wh
       let in_time = passed Accepted _ _ _ overtaken_not supported.1 in
       let released = passed Accepted _ _ _ (refused_not codes.UnreleasedInstanceId) in_time.1 in
       let room = passed Accepted _ _ _ (refused_not codes.GroupMaxSizeReached) released.1 in
-      record { in_time = later_join in_time.0 (finite.get g.records q.member) refl; released = released.0; room = room.0 }
+      record { supported = supported.0; in_time = later_join in_time.0 (finite.get g.records q.member) refl; released = released.0; room = room.0 }
 
   later_member : is_overtaken stamp TheSender.own ≡ false → (own : Option Record) → finite.get g.records q.member ≡ own
       → (last : Stamp) → stamp_kept own None ≡ Some last → IsLater stamp last
@@ -224,6 +225,11 @@ module _ (g : Group) (sound : IsConsistent g) (q : Heartbeat) (stamp : Stamp) wh
       let known = passed Accepted _ _ _ (refused_not codes.UnknownMemberId) valid.1 in
       later_member (passed Accepted _ _ _ overtaken_not known.1).0 (finite.get g.records q.member) refl
   in_time MeansNothing accepted = absurd (refused_not codes.InvalidRequest accepted)
+
+  pub beating : (n : ℕ) → verdict_on (Beats n) TheSender g q stamp ≡ Accepted → is_unsupported q ≡ false
+  beating n accepted =
+      let valid = passed Accepted _ _ _ (refused_not codes.InvalidRequest) accepted in
+      (passed Accepted _ _ _ (refused_not codes.UnsupportedAssignor) valid.1).0
 
   -- whoever leaves has a record
   pub leaver : verdict_on Leaves TheSender g q stamp ≡ Accepted → (own : Option Record) → TheSender.own ≡ own → (r : Record) × (finite.get g.records q.member ≡ Some r)

@@ -39,6 +39,7 @@ module _ (g : Group) (a : Arrival) (answer : Answer) (new : Group) where
               is = ap (λ (x : Group). finite.get x.records m) same ∙ get-inserted g.records m (away r a.stamp now);
               away = refl;
               last_epoch = refl;
+              release = refl;
             };
       }
     where

@@ -46,3 +46,8 @@ pub mod Heirs
 pub mod DueMembers
 pub mod AcceptedOnce
 pub mod Releases
+pub mod FormerEpochs
+pub mod GivenFields
+pub mod OffsetLemmas
+pub mod ClocksGo
+pub mod FencedExactly

@@ -1,5 +1,5 @@
 -- KIP-848, "Session Management" and "Rebalance Timeout": a deadline is due at its moment, and not before.
-use Rattle.std.specs.Prelude.{◌≡◌, ◌⊎◌, ℕ, ◌≤◌, pos, max, Some, None, IsTrue}
+use Rattle.std.specs.Prelude.{◌≡◌, ◌≢◌, ◌⊎◌, ℕ, ◌≤◌, pos, max, Some, None, IsTrue}
 use Rattle.std.specs.FinMap as finite
 use Rattle.group_types.specs.Limits.{SESSION_TIMEOUT}
 use Rattle.group_types.specs.Moment.{saturated_sum}
@@ -38,15 +38,19 @@ SessionsLast =
 
 -- ---- the time to give up what a member lost
 
+-- the member may still read a partition that isn't its target
+abbrev pub HasToGiveUp : Group → Text → Type 0
+HasToGiveUp g m = (p : Partition) × IsTrue (has g.grants (m, p)) × (finite.get g.target p ≢ Some m)
+
 -- The member holds nothing beyond its target, and has no deadline; or it is to give up the rest by the end of its
 -- rebalance timeout, counted from the heartbeat by which it was first asked.
 pub data IsTimed (g : Group) (a : Arrival) (new : Group) (m : Text) (after : Record) : Type 0 where
   done : after.release_deadline ≡ None
       → ((p : Partition) → IsTrue (has new.grants (m, p)) → finite.get new.target p ≡ Some m) → IsTimed g a new m after
-  first_asked : (before : Record) → finite.get g.records m ≡ Some before → before.release_deadline ≡ None
+  first_asked : (before : Record) → HasToGiveUp new m → finite.get g.records m ≡ Some before → before.release_deadline ≡ None
       → after.release_deadline ≡ Some (saturated_sum (max g.clock a.moment) after.rebalance_timeout)
       → IsTimed g a new m after
-  asked_before : (before : Record) (deadline : ℕ) → finite.get g.records m ≡ Some before
+  asked_before : (before : Record) (deadline : ℕ) → HasToGiveUp new m → finite.get g.records m ≡ Some before
       → before.release_deadline ≡ Some deadline → after.release_deadline ≡ Some deadline → IsTimed g a new m after
 
 -- of the accepted joins and beats

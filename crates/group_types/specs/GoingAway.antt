@@ -1,5 +1,5 @@
 -- KIP-848, "Static Membership": a member that goes away for a while, at member epoch -2, keeps its place.
-use Rattle.std.specs.Prelude.{◌≡◌, ◌≢◌, Some}
+use Rattle.std.specs.Prelude.{◌≡◌, ◌≢◌, Some, None}
 use Rattle.std.specs.FinMap as finite
 use Rattle.group_types.specs.declared.epoch.Epoch.TheVariants.{Away}
 use Rattle.group_types.specs.Text.{Text}
@@ -9,7 +9,7 @@ use Rattle.group_types.specs.Leave.{last_epoch}
 use Rattle.group_types.specs.HeartbeatStep.{Answer, Arrival, HeartbeatStep}
 use Rattle.group_types.specs.Fencing.{IsAcceptedAs}
 
--- the member is Away, and its last member epoch is kept
+-- the member is Away, its last member epoch is kept, and it isn't asked to give anything up
 pub record IsAwayFrom (g : Group) (m : Text) (new : Group) : Type 0 where
   pub before : Record
   pub was : finite.get g.records m ≡ Some before
@@ -17,6 +17,7 @@ pub record IsAwayFrom (g : Group) (m : Text) (new : Group) : Type 0 where
   pub is : finite.get new.records m ≡ Some after
   pub away : after.epoch ≡ Away
   pub last_epoch : last_epoch after ≡ last_epoch before
+  pub release : after.release_deadline ≡ None
 
 -- Nothing but the sender's record and the clock differs: target, grants, group epoch and target epoch are as they
 -- were, and so is each other member's record. The sender is away, if it was accepted.

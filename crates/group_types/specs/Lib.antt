@@ -37,3 +37,8 @@ pub mod MemberEpochs
 pub mod Assignments
 pub mod Deadlines
 pub mod CommitCodes
+pub mod PreviousEpochs
+pub mod Given
+pub mod Fences
+pub mod Clocks
+pub mod StoredOffsets

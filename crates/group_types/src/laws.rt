@@ -2,6 +2,11 @@
 ghost use Rattle.group_types.specs.Assignments.{AssignmentsAreNews};
 ghost use Rattle.group_types.specs.CommitCodes.{CommitsAreAnsweredInOrder};
 ghost use Rattle.group_types.specs.Deadlines.{ReleasesAreTimed, SessionsLast, TicksTakeTheDue};
+ghost use Rattle.group_types.specs.Clocks.{ClocksGoOn};
+ghost use Rattle.group_types.specs.Fences.{FencesTheLate};
+ghost use Rattle.group_types.specs.Given.{RequestsAreStored};
+ghost use Rattle.group_types.specs.PreviousEpochs.{PreviousEpochsAreFormer};
+ghost use Rattle.group_types.specs.StoredOffsets.{CommitsLookAtTheImage, OffsetsAreTheLast};
 ghost use Rattle.group_types.specs.Fencing.{AcceptsOnce, ClosesOnTheOvertaken};
 ghost use Rattle.group_types.specs.FormerMembers.{LeaversAreRemembered, TheDueAreRemembered};
 ghost use Rattle.group_types.specs.GoingAway.{GoingAwayKeepsPlace};
@@ -109,4 +114,36 @@ pub fn assignments_are_news()
 /// The code of a commit is that of the first reason that applies.
 pub fn commits_are_answered_in_order()
     ensures { CommitsAreAnsweredInOrder }
+{}
+
+/// A member's previous epoch is the one that it had before its present one.
+pub fn previous_epochs_are_former()
+    ensures { PreviousEpochsAreFormer }
+{}
+
+/// A timeout, topic names, an assignor, a rack and an instance that a request gives are stored with its member, and those that it
+/// leaves out stay as they were.
+pub fn requests_are_stored()
+    ensures { RequestsAreStored }
+{}
+
+/// A member that beats is fenced exactly where its heartbeat is at another epoch than its own, or at the one before without
+/// a report of granted partitions alone.
+pub fn fences_the_late()
+    ensures { FencesTheLate }
+{}
+
+/// An accepted heartbeat and a tick leave a group's clock at the greater of itself and their moment.
+pub fn clocks_go_on()
+    ensures { ClocksGoOn }
+{}
+
+/// The offset of a place is the last one that was committed for it and answered with no error, whatever else came to the group.
+pub fn offsets_are_the_last()
+    ensures { OffsetsAreTheLast }
+{}
+
+/// A commit is judged by the members and the node's image, and not by the group's view.
+pub fn commits_look_at_the_image()
+    ensures { CommitsLookAtTheImage }
 {}
