@@ -38,7 +38,7 @@ use Rattle.group_core.specs.Steady.{AreMarked, IsSteady, IsSteadyBeat, beaten_by
 use Rattle.group_core.proofs.GrantLemmas.{common-itself}
 use Rattle.group_epochs.proofs.Senders.{record_under-get}
 use Rattle.group_core.proofs.Single.{insert-insert}
-use Rattle.group_core.proofs.Views.{view_for-insert}
+use Rattle.group_types.proofs.ViewsFor.{view_for-insert}
 
 -- ---- who holds its target keeps it
 

@@ -1,7 +1,12 @@
 //! Laws of the group's machine, proved where nothing runs.
 
 ghost use Rattle.group_core.specs.Existence.{HasAnAnswer, TargetsExist};
+ghost use Rattle.group_types.specs.Targets.{AssignorsAreLawful, TargetsFollowMembers};
 ghost use Rattle.group_core.specs.Laws.{FirstJoinsAreAnswered, HasOneAnswer, RenamingMayComeLast};
+
+use group_types::targets_follow_by_lawful_assignors;
+use range_assign::range_is_lawful;
+use uniform_assign::uniform_is_lawful;
 
 /// A heartbeat has one answer in a group, and leaves one group.
 pub fn heartbeats_have_one_answer()
@@ -31,3 +36,21 @@ pub fn first_joins_are_answered()
 pub fn renaming_may_come_last()
     ensures { RenamingMayComeLast }
 {}
+
+/// The owners under each assignor are lawful: each partition that some member subscribes has exactly one owner, who subscribes it, and
+/// nothing else is owned.
+pub fn assignors_are_lawful()
+    ensures { AssignorsAreLawful }
+{
+    range_is_lawful();
+    uniform_is_lawful();
+}
+
+/// Whatever came to a group: once a join or a beat was accepted, below the greatest epoch, its view is that of the node's image for the
+/// present members, and its target is lawful for both.
+pub fn targets_follow_members()
+    ensures { TargetsFollowMembers }
+{
+    assignors_are_lawful();
+    targets_follow_by_lawful_assignors();
+}

@@ -40,7 +40,8 @@ pub use group_target::Target;
 pub use group_types::{Code, Epoch, EpochNumber, MemberId, Moment, PartSet, Partition, Stamp};
 pub use kip_msgs::{Array, CommitReply, CommitRequest, HeartbeatRequest, TopicPartitions};
 pub use laws::{
-    first_joins_are_answered, heartbeats_have_an_answer, heartbeats_have_one_answer, targets_exist,
+    assignors_are_lawful, first_joins_are_answered, heartbeats_have_an_answer,
+    heartbeats_have_one_answer, targets_exist, targets_follow_members,
 };
 pub use outcome::{Outcome, Reply};
 pub use shown::Shown;

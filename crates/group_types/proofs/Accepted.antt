@@ -47,17 +47,18 @@ pub data Whose (g base : Group) (q : Heartbeat) (d : Draft) : Type 0 where
   takes_over : (old : Member) → base ≡ handed_over g old d.id → finite.get g.records old.id ≡ Some old.kept → finite.get g.records d.id ≡ None
       → is_away old.kept.epoch ≡ true → d.after.instance ≡ old.kept.instance → reported q ≡ Some nothing → is_full q ≡ true → Whose g base q d
 
--- how its record is made
-pub data Made (g : Group) (a : Arrival) (now : ℕ) (d : Draft) : Type 0 where
+-- how its record is made, and the group into which it is put
+pub data Made (g base : Group) (a : Arrival) (now : ℕ) (d : Draft) : Type 0 where
   of_beat : (n : ℕ) (r : Record) → a.heartbeat.epoch ≡ pos (suc n) → finite.get g.records d.id ≡ Some r
-      → d.after ≡ record_of_beat r a.heartbeat a.stamp now → Made g a now d
+      → d.after ≡ record_of_beat r a.heartbeat a.stamp now → base ≡ g → d.before ≡ Some r → Made g base a now d
   of_rejoin : (r : Record) → a.heartbeat.epoch ≡ pos 0 → finite.get g.records d.id ≡ Some r
-      → d.after ≡ record_of_join (Some r) a.heartbeat a.stamp now → Made g a now d
+      → d.after ≡ record_of_join (Some r) a.heartbeat a.stamp now → base ≡ g → d.before ≡ Some r → Made g base a now d
   of_newcomer : a.heartbeat.epoch ≡ pos 0 → finite.get g.records d.id ≡ None
-      → d.after ≡ record_of_join None a.heartbeat a.stamp now → Made g a now d
+      → d.after ≡ record_of_join None a.heartbeat a.stamp now → base ≡ g → d.before ≡ None → Made g base a now d
   of_heir : (old : Member) (i : Text) → a.heartbeat.epoch ≡ pos 0 → finite.get g.records d.id ≡ None → finite.get g.records old.id ≡ Some old.kept
       → a.heartbeat.instance ≡ Some i → old.kept.instance ≡ Some i
-      → d.after ≡ record_of_join (Some old.kept) a.heartbeat a.stamp now → Made g a now d
+      → d.after ≡ record_of_join (Some old.kept) a.heartbeat a.stamp now → base ≡ handed_over g old d.id → d.before ≡ Some old.kept
+      → Made g base a now d
 
 pub record Drafting (g : Group) (a : Arrival) (d : Draft) : Type 0 where
   pub base : Group
@@ -66,6 +67,7 @@ pub record Drafting (g : Group) (a : Arrival) (d : Draft) : Type 0 where
   pub grants : d.group.grants ≡ base.grants
   pub target : d.group.target ≡ base.target
   pub target_epoch : d.group.target_epoch ≡ g.target_epoch
+  pub view : d.group.view ≡ g.view
   pub past : d.group.past ≡ without_past base.past d.id
   pub clock : d.group.clock ≡ max g.clock a.moment
   pub stamp : d.after.stamp ≡ a.stamp
@@ -74,7 +76,7 @@ pub record Drafting (g : Group) (a : Arrival) (d : Draft) : Type 0 where
   pub in_time : (last : Stamp) → last_stamp g d.id ≡ Some last → IsLater a.stamp last
   pub named_in_time : (last : Stamp) → last_stamp g a.heartbeat.member ≡ Some last → IsLater a.stamp last
   pub whose : Whose g base a.heartbeat d
-  pub made : Made g a (max g.clock a.moment) d
+  pub made : Made g base a (max g.clock a.moment) d
   pub supported : is_unsupported a.heartbeat ≡ false
 
 -- ---- what it goes through from there
@@ -133,7 +135,7 @@ pub data Came (g : Group) (a : Arrival) (answer : Answer) (new : Group) : Type 0
       → answer ≡ Replied (farewell a.heartbeat.member LEAVES_AT) → new ≡ left g a.heartbeat.member a.stamp a.moment → Came g a answer new
   went_away : (r : Record) → a.heartbeat.epoch ≡ GOES_AWAY_AT → finite.get g.records a.heartbeat.member ≡ Some r → IsLater a.stamp r.stamp
       → answer ≡ Replied (farewell a.heartbeat.member GOES_AWAY_AT) → new ≡ gone_away g a.heartbeat.member r a.stamp a.moment → Came g a answer new
-  taken_in : (d : Draft) → Drafting g a d → Stages d a.heartbeat answer new → Came g a answer new
+  taken_in : (d : Draft) → Drafting g a d → Stages d a.heartbeat answer new → TakesIn g d a.heartbeat a.image answer new → Came g a answer new
 
 -- ---- the renewal
 
@@ -206,15 +208,16 @@ module _ (g : Group) (a : Arrival) (answer : Answer) (new : Group) (d : Draft) (
         is_new = goes.leaves ∙ (λ i. stored (is_settled i) d.id (sent_after (is_kept i) (is_told i)));
       }
 
-  pub takes_in : (image : Topics) → TakesIn g d q image answer new → Came g a answer new
-  takes_in image takes = by (takes.change && nat_le GREATEST_EPOCH g.epoch) refl takes.step
+  pub takes_in : TakesIn g d q a.image answer new → Came g a answer new
+  takes_in takes = by (takes.change && nat_le GREATEST_EPOCH g.epoch) refl takes.step
     where
       by : (b : Bool) → (takes.change && nat_le GREATEST_EPOCH g.epoch) ≡ b
-          → ByVerdict (cond b (Refused codes.CoordinatorNotAvailable) Accepted) (machine.Stages (changed_if takes.change d.group (view_for image d.group.records)) d q) g answer new → Came g a answer new
+          → ByVerdict (cond b (Refused codes.CoordinatorNotAvailable) Accepted) (machine.Stages (changed_if takes.change d.group (view_for a.image d.group.records)) d q) g answer new → Came g a answer new
       by true stuck is = unchanged is.1 (refusal_fails answer codes.CoordinatorNotAvailable unavailable_is is.0)
       by false room is =
           taken_in d drafting
-          (goes_on takes.change (view_for image d.group.records) (ap (λ e. takes.change && nat_le GREATEST_EPOCH e) drafting.ready.epoch ∙ room) is)
+          (goes_on takes.change (view_for a.image d.group.records) (ap (λ e. takes.change && nat_le GREATEST_EPOCH e) drafting.ready.epoch ∙ room) is)
+          takes
 
 -- ---- the drafts
 
@@ -280,6 +283,7 @@ module _ (g : Group) (sound : IsConsistent g) (a : Arrival) where
         grants = refl;
         target = refl;
         target_epoch = refl;
+        view = refl;
         past = refl;
         clock = refl;
         stamp = refl;
@@ -288,7 +292,7 @@ module _ (g : Group) (sound : IsConsistent g) (a : Arrival) where
         in_time = λ last is. later last (ap (λ o. stamp_kept o None) there ∙ sym (ap (λ o. stamp_kept o (past_stamp g.past TheHeartbeat.member)) there) ∙ is);
         named_in_time = λ last is. later last (ap (λ o. stamp_kept o None) there ∙ sym (ap (λ o. stamp_kept o (past_stamp g.past TheHeartbeat.member)) there) ∙ is);
         whose = its_own r refl refl there (beat_epoch r TheHeartbeat a.stamp Now) (λ partial. refl) refl;
-        made = of_beat n r epoch there refl;
+        made = of_beat n r epoch there refl refl refl;
         supported = supported;
       }
 
@@ -314,6 +318,7 @@ module _ (g : Group) (sound : IsConsistent g) (a : Arrival) where
           grants = refl;
           target = refl;
           target_epoch = refl;
+          view = refl;
           past = refl;
           clock = refl;
           stamp = refl;
@@ -322,7 +327,7 @@ module _ (g : Group) (sound : IsConsistent g) (a : Arrival) where
           named_in_time = later;
           in_time = λ last is. later last (named_stamp g TheHeartbeat.member name named none last is);
           whose = newcomer refl fresh.0 join_reports join_is_full;
-          made = of_newcomer joins fresh.0 refl;
+          made = of_newcomer joins fresh.0 refl refl refl;
           supported = supported;
         }
     join_drafting None none (Some old) is released ready =
@@ -336,6 +341,7 @@ module _ (g : Group) (sound : IsConsistent g) (a : Arrival) where
           grants = refl;
           target = refl;
           target_epoch = refl;
+          view = refl;
           past = refl;
           clock = refl;
           stamp = refl;
@@ -344,7 +350,7 @@ module _ (g : Group) (sound : IsConsistent g) (a : Arrival) where
           named_in_time = later;
           in_time = λ last is. later last (named_stamp g TheHeartbeat.member name named none last is);
           whose = takes_over old refl there.0 fresh.0 (away_of old.kept.epoch released) (sym there.1) join_reports join_is_full;
-          made = of_heir old i.0 joins fresh.0 there.0 i.1 (there.1 ∙ i.1) refl;
+          made = of_heir old i.0 joins fresh.0 there.0 i.1 (there.1 ∙ i.1) refl refl refl;
           supported = supported;
         }
     join_drafting (Some r) is_own other is released ready =
@@ -357,6 +363,7 @@ module _ (g : Group) (sound : IsConsistent g) (a : Arrival) where
           grants = refl;
           target = refl;
           target_epoch = refl;
+          view = refl;
           past = refl;
           clock = refl;
           stamp = refl;
@@ -365,7 +372,7 @@ module _ (g : Group) (sound : IsConsistent g) (a : Arrival) where
           named_in_time = later;
           in_time = λ last is. later last (ap (last_stamp g) (sym same) ∙ is);
           whose = its_own r refl same (ap (finite.get g.records) same ∙ there) (join_epoch r TheHeartbeat a.stamp Now) (λ partial. absurd (true≢false (sym join_is_full ∙ partial))) refl;
-          made = of_rejoin r joins (ap (finite.get g.records) same ∙ there) refl;
+          made = of_rejoin r joins (ap (finite.get g.records) same ∙ there) refl refl refl;
           supported = supported;
         }
 
@@ -381,14 +388,14 @@ module _ (g : Group) (sound : IsConsistent g) (a : Arrival) where
         takes_in g a answer new _
         (join_drafting joins passes.supported name named passes.in_time TheSender.own refl TheSender.other refl passes.released
         (join_is_ready g sound Now TheHeartbeat a.stamp name named TheSender.own refl TheSender.other refl passes.released passes.room))
-        a.image is
+        is
 
     came_beats : (n : ℕ) → TheHeartbeat.epoch ≡ pos (suc n) → verdict_on (Beats (suc n)) TheSender g TheHeartbeat a.stamp ≡ Accepted
         → (one : Option Record) → TheSender.own ≡ one → BeatsWith one g a answer new → Came g a answer new
     came_beats n epoch accepted None none is = absurd is
     came_beats n epoch accepted (Some r) is_own is =
         takes_in g a answer new _
-        (beat_drafting n epoch (beating g sound TheHeartbeat a.stamp (suc n) accepted) r (own_is g.records TheHeartbeat.member r is_own) (in_time g sound TheHeartbeat a.stamp (Beats (suc n)) accepted)) a.image is
+        (beat_drafting n epoch (beating g sound TheHeartbeat a.stamp (suc n) accepted) r (own_is g.records TheHeartbeat.member r is_own) (in_time g sound TheHeartbeat a.stamp (Beats (suc n)) accepted)) is
 
     came_leaves : TheHeartbeat.epoch ≡ LEAVES_AT → verdict_on Leaves TheSender g TheHeartbeat a.stamp ≡ Accepted → StepOf Leaves TheSender g a answer new → Came g a answer new
     came_leaves epoch accepted is =

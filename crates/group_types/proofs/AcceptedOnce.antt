@@ -202,7 +202,7 @@ module _ (g : Group) (sound : IsConsistent g) (a : Arrival) (answer : Answer) (n
           (λ last before. subst (IsLater a.stamp) (some_is r.stamp last (sym (ap (last_stamp g) same ∙ at_some g a.heartbeat.member r there) ∙ before)) later)
       by (differs other apart) =
           stays (goes_on g (gone_away g a.heartbeat.member r a.stamp a.moment) k (get-insert_other g.records a.heartbeat.member (away r a.stamp (max g.clock a.moment)) k apart) (inl refl))
-  came_goes k (taken_in d drafting stages) = taken_goes g sound a answer new d drafting stages k
+  came_goes k (taken_in d drafting stages takes) = taken_goes g sound a answer new d drafting stages k
 
   -- an accepted one's stamp is known under its member's id
   came_stamp : (m : Text) → IsAcceptedAs m answer → Came g a answer new → last_stamp new m ≡ Some a.stamp
@@ -216,7 +216,7 @@ module _ (g : Group) (sound : IsConsistent g) (a : Arrival) (answer : Answer) (n
       let gone : Record = away r a.stamp (max g.clock a.moment) in
       ap (last_stamp new) (same_id m id answer (farewell id GOES_AWAY_AT) answers refl accepted) ∙ ap (λ (x : Group). last_stamp x id) is
       ∙ at_some (gone_away g id r a.stamp a.moment) id gone (get-inserted g.records id gone)
-  came_stamp m accepted (taken_in d drafting stages) =
+  came_stamp m accepted (taken_in d drafting stages takes) =
       ap (last_stamp new) (accepted_is g a answer new d drafting stages m accepted) ∙ taken_stamp g sound a answer new d drafting stages
 
   -- and a late one isn't accepted
@@ -226,7 +226,7 @@ module _ (g : Group) (sound : IsConsistent g) (a : Arrival) (answer : Answer) (n
       absurd (slow (subst (IsLater a.stamp) (some_is r.stamp last (sym (at_some g a.heartbeat.member r there) ∙ known)) later))
   came_late last known slow (went_away r epoch there later answers is) =
       absurd (slow (subst (IsLater a.stamp) (some_is r.stamp last (sym (at_some g a.heartbeat.member r there) ∙ known)) later))
-  came_late last known slow (taken_in d drafting stages) = absurd (slow (drafting.named_in_time last known))
+  came_late last known slow (taken_in d drafting stages takes) = absurd (slow (drafting.named_in_time last known))
 
 -- ---- any event
 

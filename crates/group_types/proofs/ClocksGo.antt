@@ -18,4 +18,4 @@ clocks_go_on =
     by g a m answer new accepted (unchanged same fails) = absurd (nobody answer fails m accepted)
     by g a m answer new accepted (has_left r epoch there later answers is) = ap (λ (x : Group). x.clock) is
     by g a m answer new accepted (went_away r epoch there later answers is) = ap (λ (x : Group). x.clock) is
-    by g a m answer new accepted (taken_in d drafting stages) = ap (λ (x : Group). x.clock) stages.is_new ∙ stages.clock ∙ drafting.clock
+    by g a m answer new accepted (taken_in d drafting stages takes) = ap (λ (x : Group). x.clock) stages.is_new ∙ stages.clock ∙ drafting.clock

@@ -166,7 +166,7 @@ module _ (g : Group) (sound : IsConsistent g) (a : Arrival) (answer : Answer) (n
           not_same (ap last_epoch is_gone ∙ ap last_epoch (sym before))
       at (differs other apart) =
           not_kept (ap (λ (x : Group). finite.get x.records m) is ∙ get-insert_other g.records a.heartbeat.member (away t a.stamp (max g.clock a.moment)) m apart)
-  by (taken_in d drafting stages) = by_owner d drafting stages drafting.whose
+  by (taken_in d drafting stages takes) = by_owner d drafting stages drafting.whose
 
 pub epochs_rise_within_targets : EpochsRiseWithinTargets
 epochs_rise_within_targets g a answer new m r after sound step was is_now rises =

@@ -106,17 +106,17 @@ module _ (g : Group) (sound : IsConsistent g) (a : Arrival) (answer : Answer) (n
         as_drafted : IsFormerEpoch d.after d.after.epoch after after.epoch
         as_drafted = subst (λ (x : Record). IsFormerEpoch d.after d.after.epoch x x.epoch) (sym is_last) of_draft
 
-        by : Made g a (max g.clock a.moment) d → IsFormer
-        by (of_beat n t epoch there is) =
+        by : Made g drafting.base a (max g.clock a.moment) d → IsFormer
+        by (of_beat n t epoch there is base_is was_before) =
             subst (λ (t : Record). IsFormerEpoch t t.epoch after after.epoch) (sym (before t there))
             (from_same t (record_of_beat t a.heartbeat a.stamp (max g.clock a.moment)) t.epoch after.epoch after refl
             (subst (λ (s : Record). IsFormerEpoch s s.epoch after after.epoch) is as_drafted))
-        by (of_rejoin t epoch there is) =
+        by (of_rejoin t epoch there is base_is was_before) =
             subst (λ (t : Record). IsFormerEpoch t t.epoch after after.epoch) (sym (before t there))
             (from_returned t (record_of_join (Some t) a.heartbeat a.stamp (max g.clock a.moment)) t.epoch after.epoch after refl
             (subst (λ (s : Record). IsFormerEpoch s s.epoch after after.epoch) is as_drafted))
-        by (of_newcomer epoch absent is) = absurd (not_none r (sym absent ∙ ap (finite.get g.records) (sym same) ∙ was))
-        by (of_heir old i epoch absent there asks has is) = absurd (not_none r (sym absent ∙ ap (finite.get g.records) (sym same) ∙ was))
+        by (of_newcomer epoch absent is base_is was_before) = absurd (not_none r (sym absent ∙ ap (finite.get g.records) (sym same) ∙ was))
+        by (of_heir old i epoch absent there asks has is base_is was_before) = absurd (not_none r (sym absent ∙ ap (finite.get g.records) (sym same) ∙ was))
 
     of_other : m ≢ d.id → Whose g drafting.base a.heartbeat d → IsFormer
     of_other other (its_own t base_is id_is there same_epoch sent same_release) =
@@ -149,7 +149,7 @@ module _ (g : Group) (sound : IsConsistent g) (a : Arrival) (answer : Answer) (n
           (subst (λ (x : Record). IsFormerEpoch x x.epoch gone Away) (sym before) (gone_former t t.epoch gone refl))
       at (differs other apart) =
           kept (ap (λ (x : Group). finite.get x.records m) is ∙ get-insert_other g.records a.heartbeat.member gone m apart)
-  by (taken_in d drafting stages) = at (tie m d.id)
+  by (taken_in d drafting stages takes) = at (tie m d.id)
     where
       at : Tie m d.id → IsFormer
       at (ties same) = of_sender d drafting stages same

@@ -119,8 +119,8 @@ module _ (g : Group) (a : Arrival) (answer : Answer) (new : Group) (d : Draft) (
       later zero epoch positive = omega (arith, positive)
       later (suc n) epoch positive = zero_is_no_suc a.heartbeat.epoch n joins epoch
 
-  stored : Made g a Now d → Stored
-  stored (of_beat n r epoch there is) =
+  stored : Made g drafting.base a Now d → Stored
+  stored (of_beat n r epoch there is base_is before) =
       let says_so : SaysTheSame After (record_of_beat r a.heartbeat a.stamp Now) = subst (SaysTheSame After) is says in (
         r,
         own r there,
@@ -128,7 +128,7 @@ module _ (g : Group) (a : Arrival) (answer : Answer) (new : Group) (d : Draft) (
             (record { timeout = says_so.timeout; names = says_so.names; assignor = says_so.assignor; rack = says_so.rack; instance = refl })
             (λ never. absurd (zero_is_no_suc a.heartbeat.epoch n never epoch), λ k _ _. says_so.instance),
       )
-  stored (of_rejoin r joins there is) =
+  stored (of_rejoin r joins there is base_is before) =
       let says_so : SaysTheSame After (record_of_join (Some r) a.heartbeat a.stamp Now) = subst (SaysTheSame After) is says in (
         r,
         own r there,
@@ -136,7 +136,7 @@ module _ (g : Group) (a : Arrival) (answer : Answer) (new : Group) (d : Draft) (
             (record { timeout = says_so.timeout; names = says_so.names; assignor = says_so.assignor; rack = says_so.rack; instance = refl })
             (at_join joins r says_so.instance),
       )
-  stored (of_newcomer joins absent is) =
+  stored (of_newcomer joins absent is base_is before) =
       let says_so : SaysTheSame After (record_of_join None a.heartbeat a.stamp Now) = subst (SaysTheSame After) is says in (
         blank_record,
         none absent,
@@ -144,7 +144,7 @@ module _ (g : Group) (a : Arrival) (answer : Answer) (new : Group) (d : Draft) (
             (record { timeout = says_so.timeout; names = says_so.names; assignor = says_so.assignor; rack = says_so.rack; instance = refl })
             (at_join joins blank_record says_so.instance),
       )
-  stored (of_heir old i joins absent there asks has is) =
+  stored (of_heir old i joins absent there asks has is base_is before) =
       let says_so : SaysTheSame After (record_of_join (Some old.kept) a.heartbeat a.stamp Now) = subst (SaysTheSame After) is says in (
         old.kept,
         other old.id i old.kept absent asks (record { kept = old.kept; is_kept = there; same = has }) there,
@@ -160,7 +160,7 @@ requests_are_stored g a m answer new epoch after sound step is_epoch accepted is
     by (unchanged same fails) = absurd (nobody answer fails m accepted)
     by (has_left r leaves there later answers is) = absurd (never_negative a.heartbeat.epoch epoch 0 is_epoch leaves)
     by (went_away r goes there later answers is) = absurd (never_negative a.heartbeat.epoch epoch 1 is_epoch goes)
-    by (taken_in d drafting stages) =
+    by (taken_in d drafting stages takes) =
         let same = accepted_is g a answer new d drafting stages m accepted in
         let is_last : after ≡ Last g a answer new d drafting stages =
         some_is after (Last g a answer new d drafting stages) (sym is_now ∙ ap (finite.get new.records) same ∙ has_record g a answer new d drafting stages) in

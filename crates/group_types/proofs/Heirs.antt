@@ -251,7 +251,7 @@ module _ (g : Group) (sound : IsConsistent g) (a : Arrival) (answer : Answer) (n
       absurd (known a.heartbeat.member s (same_id heir a.heartbeat.member answer (farewell a.heartbeat.member LEAVES_AT) answers refl over.accepted) there_was)
   by (went_away s epoch there_was later answers is) =
       absurd (known a.heartbeat.member s (same_id heir a.heartbeat.member answer (farewell a.heartbeat.member GOES_AWAY_AT) answers refl over.accepted) there_was)
-  by (taken_in d drafting stages) = by_owner d drafting stages drafting.whose
+  by (taken_in d drafting stages takes) = by_owner d drafting stages drafting.whose
 
 pub heirs_have_all : HeirsHaveAll
 heirs_have_all g a answer new old heir r sound step over =

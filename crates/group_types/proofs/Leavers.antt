@@ -29,4 +29,4 @@ leavers_are_remembered g a m answer new sound step leaves accepted = by (came g 
           few = few_remembered g.past id a.stamp;
         }))
     by (went_away r goes there later answers is) = let never : GOES_AWAY_AT ≡ LEAVES_AT = sym goes ∙ leaves in cc
-    by (taken_in d drafting stages) = absurd (never_negative a.heartbeat.epoch drafting.epoch.0 0 drafting.epoch.1 leaves)
+    by (taken_in d drafting stages takes) = absurd (never_negative a.heartbeat.epoch drafting.epoch.0 0 drafting.epoch.1 leaves)

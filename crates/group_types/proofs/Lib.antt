@@ -51,3 +51,6 @@ pub mod GivenFields
 pub mod OffsetLemmas
 pub mod ClocksGo
 pub mod FencedExactly
+pub mod ViewsFor
+pub mod LawfulTargets
+pub mod FollowedTargets

@@ -1,10 +1,11 @@
 -- Facts on lists.
-use Rattle.std.proofs.Common.{◌≡◌, ℕ, Bool, ◌&&◌, ◌||◌, ◌==◌, suc, List, [], ◌∷◌, ◌++◌, map, length, take, drop, refl, sym, ap, ◌∙◌}
+use Rattle.std.proofs.Common.{◌≡◌, ◌⊎◌, ℕ, zero, inl, inr, le_of_suc-le-suc, suc-le-suc, not-suc-le-zero, zero-lt-suc, Bool, ◌&&◌, ◌||◌, ◌==◌, suc, List, [], ◌∷◌, ◌++◌, map, length, take, drop, Option, Some, None, slice_get, refl, sym, ap, ◌∙◌}
 use Rattle.std.specs.declared.cmp.Ordering.{Ordering}
 use Rattle.std.specs.declared.cmp.Ordering.TheVariants.{Less}
 use Rattle.std.specs.Bool.{Decides}
-use Rattle.std.specs.List.{AllByRecursion, insert, list_any, remove, drop-map, take-map}
+use Rattle.std.specs.List.{AllByRecursion, Contains, insert, list_any, remove, drop-map, take-map}
 use Rattle.std.specs.List.Sorted.{IsStrictlySortedBy}
+use Rattle.std.specs.Option.{option_map, unwrap_or}
 use Rattle.std.specs.Ordering.{on}
 use Rattle.std.specs.Cmp.Lexicographic.{pointwise}
 use Rattle.std.proofs.lemmas.Bool.Decides.{Decides-eqb}
@@ -46,3 +47,29 @@ map-remove f xs i = (λ j. take-map f i xs j ++ drop-map f (suc i) xs j) ∙ sym
 
 pub map-insert : {X Y : Type 0} (f : X → Y) (xs : List X) (i : ℕ) (y : X) → map f (insert xs i y) ≡ insert (map f xs) i (f y)
 map-insert f xs i y = map-append f (take i xs) (y ∷ drop i xs) ∙ (λ j. sym (take-map f i xs) j ++ f y ∷ sym (drop-map f i xs) j)
+
+-- ---- what lists contain, by recursion
+
+abbrev pub In : {X : Type 0} → List X → X → Type 0
+In [] y = ⊥
+In (x ∷ xs) y = (x ≡ y) ⊎ In xs y
+
+module _ {X : Type 0} where
+  pub to_in : (xs : List X) (y : X) → Contains xs y → In xs y
+  to_in [] y (k, below, is) = absurd (not-suc-le-zero below)
+  to_in (x ∷ xs) y (zero, below, is) = inl is
+  to_in (x ∷ xs) y (suc k, below, is) = inr (to_in xs y (k, le_of_suc-le-suc below, is))
+
+  pub from_in : (xs : List X) (y : X) → In xs y → Contains xs y
+  from_in [] y there = absurd there
+  from_in (x ∷ xs) y (inl is) = (0, zero-lt-suc (length xs), is)
+  from_in (x ∷ xs) y (inr there) = let rest = from_in xs y there in (suc rest.0, suc-le-suc rest.1, rest.2)
+
+-- ---- look-ups in a mapped list
+
+pub option_map-from : {X Y : Type 0} (f : X → Y) (o : Option X) (y : Y) → option_map f o ≡ Some y → (x : X) × (o ≡ Some x) × (f x ≡ y)
+option_map-from f None y is = cc
+option_map-from f (Some x) y is = (x, refl, ap (λ o. unwrap_or o (f x)) is)
+
+pub slice_get-map_from : {X Y : Type 0} (f : X → Y) (xs : List X) (k : ℕ) (y : Y) → slice_get (map f xs) k ≡ Some y → (x : X) × (slice_get xs k ≡ Some x) × (f x ≡ y)
+slice_get-map_from f xs k y is = option_map-from f (slice_get xs k) y (sym (slice_get-map f xs k) ∙ is)

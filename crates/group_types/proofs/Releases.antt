@@ -157,7 +157,7 @@ releases_are_timed g a m answer new epoch after sound step is_epoch accepted is_
     by (unchanged same fails) = absurd (nobody answer fails m accepted)
     by (has_left r leaves there later answers is) = absurd (never_negative a.heartbeat.epoch epoch 0 is_epoch leaves)
     by (went_away r goes there later answers is) = absurd (never_negative a.heartbeat.epoch epoch 1 is_epoch goes)
-    by (taken_in d drafting stages) =
+    by (taken_in d drafting stages takes) =
         let is = accepted_is g a answer new d drafting stages m accepted in
         subst (λ (k : Text). IsTimed g a new k after) (sym is)
         (timed g a answer new d drafting stages after (ap (finite.get new.records) (sym is) ∙ is_now))

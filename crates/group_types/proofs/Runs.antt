@@ -45,7 +45,7 @@ committed_is_sound g c image reply new step sound =
 
 -- ---- one event after the other
 
-starting_is_sound : (salt epoch : ℕ) → epoch ≤ GREATEST_EPOCH → IsSound (starting_group salt epoch)
+pub starting_is_sound : (salt epoch : ℕ) → epoch ≤ GREATEST_EPOCH → IsSound (starting_group salt epoch)
 starting_is_sound salt epoch most =
     record {
       one_holder = λ m n p one other. absurd (true≢false (sym one ∙ has-nothing grant_cmp (m, p)));
@@ -64,7 +64,7 @@ starting_is_sound salt epoch most =
       few_past = omega arith;
     }
 
-step_is_sound : (event : GroupEvent) (g new : Group) → IsGroupStep g event new → IsSound g → IsSound new
+pub step_is_sound : (event : GroupEvent) (g new : Group) → IsGroupStep g event new → IsSound g → IsSound new
 step_is_sound (OfHeartbeat a answer) g new step sound = heartbeats_are_sound g a answer new step.0 step.1 sound
 step_is_sound (OfTick moment) g new step sound = subst IsSound (sym step) (ticked_is_sound g sound moment)
 step_is_sound (OfCommit c image reply) g new step sound = committed_is_sound g c image reply new step sound

@@ -26,7 +26,7 @@ module _ (g : Group) (a : Arrival) (m : Text) (answer : Answer) (new : Group) (r
       let gone : Record = away s a.stamp (max g.clock a.moment) in
       let found = ap (finite.get new.records) same ∙ ap (λ (x : Group). finite.get x.records a.heartbeat.member) is ∙ get-inserted g.records a.heartbeat.member gone in
       ap (λ (x : Record). x.session_deadline) (some_is r gone (sym kept ∙ found))
-  by (taken_in d drafting stages) =
+  by (taken_in d drafting stages takes) =
       let found = ap (finite.get new.records) (accepted_is g a answer new d drafting stages m accepted) ∙ has_record g a answer new d drafting stages in
       ap (λ (x : Record). x.session_deadline) (some_is r (Last g a answer new d drafting stages) (sym kept ∙ found))
       ∙ (last_same g a answer new d drafting stages).deadline ∙ drafting.deadline

@@ -156,4 +156,4 @@ assignments_are_news g a m answer new epoch sound step is_epoch accepted = by (c
     by (unchanged same fails) = absurd (nobody answer fails m accepted)
     by (has_left r leaves there later answers is) = absurd (never_negative a.heartbeat.epoch epoch 0 is_epoch leaves)
     by (went_away r goes there later answers is) = absurd (never_negative a.heartbeat.epoch epoch 1 is_epoch goes)
-    by (taken_in d drafting stages) = shows_news g a answer new d drafting stages m accepted
+    by (taken_in d drafting stages takes) = shows_news g a answer new d drafting stages m accepted

@@ -42,3 +42,4 @@ pub mod Given
 pub mod Fences
 pub mod Clocks
 pub mod StoredOffsets
+pub mod Targets

@@ -7,6 +7,7 @@ ghost use Rattle.group_types.specs.Fences.{FencesTheLate};
 ghost use Rattle.group_types.specs.Given.{RequestsAreStored};
 ghost use Rattle.group_types.specs.PreviousEpochs.{PreviousEpochsAreFormer};
 ghost use Rattle.group_types.specs.StoredOffsets.{CommitsLookAtTheImage, OffsetsAreTheLast};
+ghost use Rattle.group_types.specs.Targets.{TargetsFollowByLawfulAssignors};
 ghost use Rattle.group_types.specs.Fencing.{AcceptsOnce, ClosesOnTheOvertaken};
 ghost use Rattle.group_types.specs.FormerMembers.{LeaversAreRemembered, TheDueAreRemembered};
 ghost use Rattle.group_types.specs.GoingAway.{GoingAwayKeepsPlace};
@@ -146,4 +147,10 @@ pub fn offsets_are_the_last()
 /// A commit is judged by the members and the node's image, and not by the group's view.
 pub fn commits_look_at_the_image()
     ensures { CommitsLookAtTheImage }
+{}
+
+/// Once a join or a beat was accepted, below the greatest epoch, the view is that of the node's image for the present members and the
+/// target is lawful for both, whatever came to the group before; given that the owners under each assignor are lawful.
+pub fn targets_follow_by_lawful_assignors()
+    ensures { TargetsFollowByLawfulAssignors }
 {}

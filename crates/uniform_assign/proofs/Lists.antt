@@ -4,6 +4,7 @@ use Rattle.std.specs.List.{Contains, filter, flat_map, range_with_len, slice_get
 use Rattle.std.specs.Option.{option_map}
 use Rattle.std.proofs.lemmas.List.FromFn.{get_or-range_with_len, length-range_with_len}
 use Rattle.std.proofs.lemmas.Option.{get_or_from_slice_get, same_Some, slice_get-get_or, slice_get-map, slice_get_within}
+pub use Rattle.group_types.proofs.ListLemmas.{option_map-from, slice_get-map_from}
 
 pub Contains-at : {X : Type 0} (xs : List X) (k : ℕ) (x : X) → slice_get xs k ≡ Some x → Contains xs x
 Contains-at xs k x is = (k, slice_get_within xs k x is, get_or_from_slice_get xs k x x is)
@@ -65,13 +66,6 @@ filter-at p (y ∷ xs) (suc k) x is there =
       | true ↦ (suc later.0, later.1)
       | false ↦ later
     ]
-
-pub option_map-from : {X Y : Type 0} (f : X → Y) (o : Option X) (y : Y) → option_map f o ≡ Some y → (x : X) × (o ≡ Some x) × (f x ≡ y)
-option_map-from f None y is = cc
-option_map-from f (Some x) y is = (x, refl, same_Some (f x) y is)
-
-pub slice_get-map_from : {X Y : Type 0} (f : X → Y) (xs : List X) (k : ℕ) (y : Y) → slice_get (map f xs) k ≡ Some y → (x : X) × (slice_get xs k ≡ Some x) × (f x ≡ y)
-slice_get-map_from f xs k y is = option_map-from f (slice_get xs k) y (sym (slice_get-map f xs k) ∙ is)
 
 pub slice_get-map_at : {X Y : Type 0} (f : X → Y) (xs : List X) (k : ℕ) (x : X) → slice_get xs k ≡ Some x → slice_get (map f xs) k ≡ Some (f x)
 slice_get-map_at f xs k x is = slice_get-map f xs k ∙ ap (option_map f) is

@@ -1,22 +1,9 @@
 -- What lists contain, by recursion.
 use Rattle.std.proofs.Common.{◌≡◌, ◌⊎◌, ℕ, zero, suc, Bool, true, false, cond, List, [], ◌∷◌, ◌++◌, length, drop, map, refl, sym, ap, ◌∙◌, inl, inr, le_of_suc-le-suc, suc-le-suc, not-suc-le-zero, zero-lt-suc}
 use Rattle.std.specs.List.{Contains, filter}
-
-abbrev pub In : {X : Type 0} → List X → X → Type 0
-In [] y = ⊥
-In (x ∷ xs) y = (x ≡ y) ⊎ In xs y
+pub use Rattle.group_types.proofs.ListLemmas.{In, from_in, to_in}
 
 module _ {X : Type 0} where
-  pub to_in : (xs : List X) (y : X) → Contains xs y → In xs y
-  to_in [] y (k, below, is) = absurd (not-suc-le-zero below)
-  to_in (x ∷ xs) y (zero, below, is) = inl is
-  to_in (x ∷ xs) y (suc k, below, is) = inr (to_in xs y (k, le_of_suc-le-suc below, is))
-
-  pub from_in : (xs : List X) (y : X) → In xs y → Contains xs y
-  from_in [] y there = absurd there
-  from_in (x ∷ xs) y (inl is) = (0, zero-lt-suc (length xs), is)
-  from_in (x ∷ xs) y (inr there) = let rest = from_in xs y there in (suc rest.0, suc-le-suc rest.1, rest.2)
-
   pub in_append : (xs ys : List X) (y : X) → In (xs ++ ys) y → In xs y ⊎ In ys y
   in_append [] ys y there = inr there
   in_append (x ∷ xs) ys y (inl is) = inl (inl is)

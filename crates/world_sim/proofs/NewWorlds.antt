@@ -4,7 +4,7 @@ use Rattle.std.specs.List.{Contains, slice_get}
 use Rattle.std.proofs.lemmas.Option.{slice_get_within, get_or_from_slice_get}
 use Rattle.group_types.specs.Partition.{partition_cmp}
 use Rattle.group_types.proofs.SetLemmas.{has-nothing}
-use Rattle.uniform_assign.proofs.Lists.{slice_get-map_from}
+use Rattle.group_types.proofs.ListLemmas.{slice_get-map_from}
 use Rattle.coord_node.proofs.SoundGroups.{opening_serves}
 use Rattle.member_core.specs.Settings.{FitsSettings, Settings}
 use Rattle.member_core.specs.Client.{Client, new_client}

@@ -18,8 +18,7 @@ use Rattle.group_epochs.specs.Request.{arrival_of, commit_of}
 use Rattle.coord_node.specs.Coordinator.{Coordinator, Event, Frame, Tick, Image, Answer, Replied, Closes, Done}
 use Rattle.coord_node.specs.Steps.{is_success, has_room, all_ticked, Makes, MakesBy, HeartbeatAt, CommitAt, with_group, RequestStep, FrameStepBy, Step}
 use Rattle.coord_node.specs.Laws.{HasSoundGroups}
-use Rattle.range_assign.specs.Laws.{RangeIsLawful}
-use Rattle.uniform_assign.specs.Laws.{UniformIsLawful}
+use Rattle.group_types.specs.Targets.{AssignorsAreLawful}
 use Rattle.member_core.specs.Asking.{Ask, request_for}
 use Rattle.member_core.specs.Client.{Client}
 use Rattle.member_core.specs.Refusing.{is_too_large}
@@ -89,14 +88,14 @@ made_lawfully : (given : group.Answer) (c : Coordinator) (name : Text) (g : Grou
 made_lawfully (group.Replied reply) c name g none lawful answer new is = makes_lawfully (is_success reply.code) (has_room c) c name g none lawful reply answer new is
 made_lawfully group.Closes c name g none lawful answer new is = unchanged c new is.1
 
-module _ (range : RangeIsLawful) (uniform : UniformIsLawful) (every : EveryGroupIsSound) where
+module _ (assignors : AssignorsAreLawful) (every : EveryGroupIsSound) where
   beaten_renews : (c : Coordinator) → HasSoundGroups c → (a : Arrival) (there : Option Group) → finite.get c.groups a.heartbeat.group ≡ there
       → (answer : group.Answer) (new : Coordinator) → HeartbeatAt there c a answer new → Renews c new
   beaten_renews c sound a None none answer new is =
-      made_lawfully is.0 c a.heartbeat.group is.1 none (heartbeat_renews range uniform (new_group c.salt) (every c.salt 0 (omega arith) [] (new_group c.salt) refl) a is.0 is.1 is.2) answer new is.3
+      made_lawfully is.0 c a.heartbeat.group is.1 none (heartbeat_renews assignors (new_group c.salt) (every c.salt 0 (omega arith) [] (new_group c.salt) refl) a is.0 is.1 is.2) answer new is.3
   beaten_renews c sound a (Some g) there answer new is =
       subst (λ (x : Coordinator). Renews c x) (sym is.2)
-      (put c a.heartbeat.group is.0 (λ other. heartbeat_renews range uniform g (sound a.heartbeat.group g there) a answer is.0 is.1 (λ same. other (ap target_epoch_of there ∙ same))))
+      (put c a.heartbeat.group is.0 (λ other. heartbeat_renews assignors g (sound a.heartbeat.group g there) a answer is.0 is.1 (λ same. other (ap target_epoch_of there ∙ same))))
 
   requested_renews : (c : Coordinator) → HasSoundGroups c → (v : RequestValue) (stamp : Stamp) (moment : ℕ) (answer : Answer) (new : Coordinator) → RequestStep c v stamp moment answer new → Renews c new
   requested_renews c sound (heartbeat_request header v) stamp moment answer new is =

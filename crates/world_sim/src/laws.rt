@@ -10,12 +10,10 @@ ghost use Rattle.world_sim.specs.Underway.{RoundsGo, RoundsKeepClients};
 ghost use Rattle.world_sim.specs.Viewing.{RepliesAreSpelled};
 
 use coord_node::{one_answer, steps_are_sound};
-use group_core::heartbeats_have_an_answer;
+use group_core::{assignors_are_lawful, heartbeats_have_an_answer};
 use group_types::every_group_is_sound;
 use kip_msgs::{one_body_a_message, one_reply_a_body, one_request_a_body};
 use member_core::{asks_are_made, one_outcome_a_reply};
-use range_assign::range_is_lawful;
-use uniform_assign::uniform_is_lawful;
 
 /// Why Exclusivity and Convergence hold: what every act keeps.
 pub fn every_act_keeps_the_invariant()
@@ -58,8 +56,7 @@ pub fn commits_are_taken_while_held()
 pub fn targets_are_renewed_lawfully()
     ensures { Always ActsLawfully }
 {
-    range_is_lawful();
-    uniform_is_lawful();
+    assignors_are_lawful();
     every_group_is_sound();
     every_act_keeps_the_invariant();
 }

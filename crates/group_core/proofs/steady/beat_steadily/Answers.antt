@@ -11,7 +11,7 @@ use Rattle.group_core.specs.GroupView.{group_of}
 use Rattle.group_core.specs.Outcome.{reply_of}
 use Rattle.group_core.specs.Steady.{AreMarked, IsSteady}
 use Rattle.group_core.proofs.SteadyBeats.{steady_answers, steady_then}
-use Rattle.group_core.proofs.Views.{view_for-insert}
+use Rattle.group_types.proofs.ViewsFor.{view_for-insert}
 use Rattle.group_core.proofs.steady.beat_steadily.Goals as goal
 
 pub returns-then-not-beat_marked-clause-some : goal.returns-then-not-beat_marked-clause-some
