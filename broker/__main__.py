@@ -4,12 +4,11 @@ from __future__ import annotations
 
 import asyncio
 import contextlib
-import io
-import os
+import logging
 import resource
 import signal
 import sys
-from typing import Callable, List
+from typing import Callable, Iterator, List
 
 from broker import starter
 from broker.acceptor import Work, listen, port_of
@@ -19,10 +18,11 @@ from broker.embedded import Embedded
 from broker.link import Coordinator
 from broker.log import Log
 from broker.offsets import Offsets
+from broker.output import STANDARD_ERROR, Output, say, to_file
+from broker.record import Record
 from broker.relay import serve_node
 from broker.status import Status
 from broker.watch import Watch
-from broker.words import say
 
 HOST = "127.0.0.1"
 # Each client's connection takes two files, the second to the coordinator.
@@ -31,15 +31,23 @@ WANTED_FILES = 10_000
 
 def main(words: List[str]) -> int:
     options = parse(words)
-    if isinstance(sys.stdout, io.TextIOWrapper):
-        # Names of groups may have characters that the terminal's encoding hasn't.
-        sys.stdout.reconfigure(errors="backslashreplace")
+    logging.basicConfig(handlers=[Said()])
     raise_file_limit()
     try:
         return asyncio.run(until_signalled(options))
     except (OSError, starter.Ended) as why:
         say(str(why))
         return 1
+    finally:
+        STANDARD_ERROR.end()
+
+
+class Said(logging.Handler):
+    """What Python itself has to say, in a line."""
+
+    def emit(self, record: logging.LogRecord) -> None:
+        why = record.exc_info[1] if record.exc_info else None
+        say(record.getMessage().split("\n")[0] + (f": {why!r}" if why else ""))
 
 
 def raise_file_limit() -> None:
@@ -51,25 +59,18 @@ def raise_file_limit() -> None:
 
 async def until_signalled(options: Options) -> int:
     """Runs until SIGINT or SIGTERM, or until nobody reads what is printed: status 0. Whatever else ends it is raised."""
-    working = asyncio.ensure_future(run(options, teller(lambda: working.cancel())))
+    loop = asyncio.get_running_loop()
+    printed = Output(to_file(1), failed=lambda _: loop.call_soon_threadsafe(working.cancel) and None, encoding=sys.stdout.encoding)
+    working = asyncio.ensure_future(run(options, printed.line))
     for number in (signal.SIGINT, signal.SIGTERM):
-        asyncio.get_running_loop().add_signal_handler(number, working.cancel)
+        loop.add_signal_handler(number, working.cancel)
     try:
         await working
     except asyncio.CancelledError:
         pass
+    finally:
+        printed.end()
     return 0
-
-
-def teller(stop: Callable[[], object]) -> Callable[[str], None]:
-    def tell(line: str) -> None:
-        try:
-            print(line, flush=True)
-        except OSError:
-            sys.stdout = open(os.devnull, "w", encoding="utf-8")
-            stop()
-
-    return tell
 
 
 async def run(options: Options, tell: Callable[[str], None]) -> None:
@@ -78,21 +79,37 @@ async def run(options: Options, tell: Callable[[str], None]) -> None:
         ports = [options.port and options.port + number for number in range(len(options.places))]
         listeners = [stack.enter_context(listen(HOST, port)) for port in ports]
         status = None if options.status is None else stack.enter_context(listen(HOST, options.status))
+        record = stack.enter_context(recorded(options))
         beside: List[Callable[[], Work]] = []
         nodes = []
         for number, (place, listener) in enumerate(zip(options.places, listeners)):
             coordinator = await coordinator_at(place, options, beside, stack)
+            await coordinator.look()
             nodes.append(Node(number, HOST, port_of(listener), coordinator))
         log, watch = Log(options.rate, options.records), Watch(options.topics, tell)
-        cluster = Cluster(nodes, options.topics, log, Offsets())
+        cluster = Cluster(nodes, options.topics, log, Offsets(), record=record)
         works = [serve_node(cluster, node, watch, listener) for node, listener in zip(nodes, listeners)]
-        works += [watch.run(), *(each() for each in beside)]
+        works += [watch.run(), *(node.coordinator.run() for node in nodes), *(each() for each in beside)]
         for node in nodes:
             tell(f"listening {HOST}:{node.port}  coordinator {node.coordinator}")
         if status is not None:
             works.append(Status(cluster, watch).run(status))
             tell(f"status http://{HOST}:{port_of(status)}/")
         await until_one_ends(works)
+
+
+@contextlib.contextmanager
+def recorded(options: Options) -> Iterator[Record]:
+    """The record of a file, or of none. It is written to its end with the block."""
+    if options.record is None:
+        yield Record()
+        return
+    with open(options.record, "wb", buffering=0) as file:
+        record = Record(to_file(file.fileno()), options.topics)
+        try:
+            yield record
+        finally:
+            record.end()
 
 
 async def coordinator_at(
@@ -102,7 +119,6 @@ async def coordinator_at(
     if place == EMBEDDED:
         embedded = Embedded(options.library, options.topics)
         stack.callback(embedded.inside.close)
-        beside.append(embedded.ticks)
         return embedded
     if isinstance(place, tuple):
         return Coordinator(*place)

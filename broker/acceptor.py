@@ -6,7 +6,7 @@ import asyncio
 import socket
 from typing import Any, Awaitable, Callable, Coroutine, Optional, Set, Tuple
 
-from broker.words import say
+from broker.output import say
 
 BACKLOG = 1024
 NO_FILES_SECONDS = 1.0

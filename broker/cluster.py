@@ -6,16 +6,25 @@ that the group's state lies in. So each group lives in one coordinator whole.
 
 from __future__ import annotations
 
+import asyncio
+import contextlib
 import dataclasses
-from typing import List
+from typing import AsyncIterator, List
 
 from broker.link import Coordinator
 from broker.log import Log
 from broker.offsets import Offsets
+from broker.record import Record
+from broker.room import Room
 from broker.topics import Topics
+from broker.turns import Turns
 
 CLUSTER_ID = "coord-serve"
 LEADER_EPOCH = 0
+# Several of the longest replies.
+MOST_HELD = 64 << 20
+# From how many entries on a reply is long.
+MANY = 1_000
 
 
 @dataclasses.dataclass
@@ -35,6 +44,20 @@ class Cluster:
     topics: Topics
     log: Log
     offsets: Offsets
+    turns: Turns = dataclasses.field(default_factory=Turns)
+    # What waits for slow clients, and what passes, as it is recorded.
+    room: Room = dataclasses.field(default_factory=lambda: Room(MOST_HELD))
+    record: Record = dataclasses.field(default_factory=Record)
+    _long_reply: asyncio.Lock = dataclasses.field(default_factory=asyncio.Lock)
+
+    @contextlib.asynccontextmanager
+    async def making(self, entries: int) -> AsyncIterator[None]:
+        """Makes a reply of so many entries in the block. Long ones are made one after the other, so that few are there at a time."""
+        if entries < MANY:
+            yield
+            return
+        async with self._long_reply:
+            yield
 
     def coordinator_of(self, group: str) -> Node:
         return self.nodes[group_number(group, len(self.nodes))]

@@ -31,6 +31,7 @@ class Options:
     status: Optional[int]
     rate: float
     records: int
+    record: Optional[str]
     topics: Topics
 
 
@@ -62,6 +63,7 @@ def parse(words: List[str]) -> Options:
     parser.add_argument("--status", type=_port, metavar="PORT", help="port of 127.0.0.1 for the page /, /groups and /metrics")
     parser.add_argument("--rate", type=_rate, default=2.0, metavar="R", help="records a second in each partition (%(default)g)")
     parser.add_argument("--records", type=_records, default=0, metavar="N", help="records in each partition from the start (%(default)d)")
+    parser.add_argument("--record", metavar="FILE", help="writes all frames to this file, with their times; README.md has its form")
     parser.add_argument("topics", nargs="+", type=_topic, metavar="NAME:UUID:COUNT", help="a topic: its name, id and number of partitions")
     given = parser.parse_args(words)
     if not given.places:
@@ -72,7 +74,7 @@ def parse(words: List[str]) -> Options:
         topics = Topics(given.topics)
     except ValueError as why:
         parser.error(str(why))
-    return Options(given.places, given.program, given.library, given.port, given.status, given.rate, given.records, topics)
+    return Options(given.places, given.program, given.library, given.port, given.status, given.rate, given.records, given.record, topics)
 
 
 def _place(word: str) -> Place:

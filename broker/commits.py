@@ -7,6 +7,7 @@ from typing import List, NamedTuple
 
 from broker.fields import Reader
 from broker.offsets import Committed
+from broker.turns import Pace
 
 
 class Partition(NamedTuple):
@@ -41,18 +42,18 @@ class Result(NamedTuple):
     code: int
 
 
-def read_request(fields: Reader) -> Asked:
+async def read_request(fields: Reader) -> Asked:
     group, epoch, member = fields.compact_string(), fields.int32(), fields.compact_string()
     _instance = fields.compact_nullable_string()
-    topics = fields.compact_array(lambda: _topic(fields))
+    topics = await fields.nested_compact_array(lambda: _topic(fields))
     fields.tags()
     fields.end()
     return Asked(group, epoch, member, topics)
 
 
-def _topic(fields: Reader) -> Topic:
+async def _topic(fields: Reader) -> Topic:
     name = fields.compact_string()
-    topic = Topic(name, fields.compact_array(lambda: _partition(fields, name)))
+    topic = Topic(name, await fields.compact_array(lambda: _partition(fields, name)))
     fields.tags()
     return topic
 
@@ -64,20 +65,20 @@ def _partition(fields: Reader, topic: str) -> Partition:
     return Partition(topic, index, Committed(offset, leader_epoch, metadata or ""))
 
 
-def read_reply(body: bytes) -> List[Result]:
-    fields = Reader(body)
+async def read_reply(body: bytes, pace: Pace) -> List[Result]:
+    fields = Reader(body, pace)
     _correlation = fields.int32()
     fields.tags()
     _throttle = fields.int32()
-    topics = fields.compact_array(lambda: _results(fields))
+    topics = await fields.nested_compact_array(lambda: _results(fields))
     fields.tags()
     fields.end()
     return [result for topic in topics for result in topic]
 
 
-def _results(fields: Reader) -> List[Result]:
+async def _results(fields: Reader) -> List[Result]:
     name = fields.compact_string()
-    results = fields.compact_array(lambda: _result(fields, name))
+    results = await fields.compact_array(lambda: _result(fields, name))
     fields.tags()
     return results
 

@@ -40,14 +40,16 @@ class Embedded(Coordinator):
         return "embedded"
 
     async def connect(self) -> Optional[Connection]:
-        self.is_there = True
         self.opened += 1
         return functools.partial(self._linked, self.opened)
 
     async def _linked(self, number: int) -> Link:
         return EmbeddedLink(self, number)
 
-    async def ticks(self) -> None:
+    async def look(self) -> None:
+        self.is_there = True
+
+    async def run(self) -> None:
         """Tells the time for ever."""
         while True:
             await asyncio.sleep(TICK_SECONDS)

@@ -7,10 +7,14 @@ from __future__ import annotations
 
 import struct
 import uuid
-from typing import Callable, Iterable, List, Optional, TypeVar
+from typing import Awaitable, Callable, Iterable, List, Optional, Tuple, TypeVar
+
+from broker.turns import Pace, Turns
 
 Item = TypeVar("Item")
 LONGEST_VARINT = 5
+# Nobody sends any, and they are read in one piece.
+MOST_TAGS = 100
 
 
 class Unreadable(Exception):
@@ -21,10 +25,11 @@ class Unreadable(Exception):
 
 
 class Reader:
-    """Takes fields from the front of bytes."""
+    """Takes fields from the front of bytes. Arrays of structures may be long, and are read in pieces."""
 
-    def __init__(self, data: bytes, at: int = 0) -> None:
-        self.data, self.at = data, at
+    def __init__(self, data: bytes, pace: Optional[Pace] = None) -> None:
+        self.data, self.at = data, 0
+        self.pace = pace or Pace(Turns())
 
     def raw(self, size: int) -> bytes:
         if size < 0 or size > len(self.data) - self.at:
@@ -83,24 +88,54 @@ class Reader:
     def compact_string(self) -> str:
         return self._text(self.unsigned_varint() - 1)
 
-    def _items(self, count: int, one: Callable[[], Item]) -> List[Item]:
+    def _several(self, count: int) -> range:
         if count < 0:
             raise Unreadable(f"an array of {count} elements before byte {self.at}")
-        return [one() for _ in range(count)]
+        return range(count)
 
-    def array(self, one: Callable[[], Item]) -> List[Item]:
-        return self._items(self.int32(), one)
+    async def _items(self, count: int, one: Callable[[], Item]) -> List[Item]:
+        return await self.pace.all(one() for _ in self._several(count))
 
-    def compact_array(self, one: Callable[[], Item]) -> List[Item]:
-        return self._items(self.unsigned_varint() - 1, one)
+    async def array(self, one: Callable[[], Item]) -> List[Item]:
+        return await self._items(self.int32(), one)
 
-    def compact_nullable_array(self, one: Callable[[], Item]) -> Optional[List[Item]]:
+    async def compact_array(self, one: Callable[[], Item]) -> List[Item]:
+        return await self._items(self.unsigned_varint() - 1, one)
+
+    async def compact_nullable_array(self, one: Callable[[], Item]) -> Optional[List[Item]]:
         count = self.unsigned_varint()
-        return None if count == 0 else self._items(count - 1, one)
+        return None if count == 0 else await self._items(count - 1, one)
+
+    async def _nested(self, count: int, one: Callable[[], Awaitable[Item]]) -> List[Item]:
+        items = []
+        for _ in self._several(count):
+            items.append(await one())
+            await self.pace.pause()
+        return items
+
+    async def nested_array(self, one: Callable[[], Awaitable[Item]]) -> List[Item]:
+        """An array of structures that have arrays."""
+        return await self._nested(self.int32(), one)
+
+    async def nested_compact_array(self, one: Callable[[], Awaitable[Item]]) -> List[Item]:
+        return await self._nested(self.unsigned_varint() - 1, one)
+
+    def _int32s(self, count: int) -> Tuple[int, ...]:
+        return struct.unpack(f">{count}i", self.raw(4 * len(self._several(count))))
+
+    def int32s(self) -> Tuple[int, ...]:
+        """An array of numbers, at once: a million of them takes some milliseconds."""
+        return self._int32s(self.int32())
+
+    def compact_int32s(self) -> Tuple[int, ...]:
+        return self._int32s(self.unsigned_varint() - 1)
 
     def tags(self) -> None:
         """Tagged fields, of which no meaning is known here."""
-        for _ in range(self.unsigned_varint()):
+        count = self.unsigned_varint()
+        if count > MOST_TAGS:
+            raise Unreadable(f"{count} tagged fields before byte {self.at}, where {MOST_TAGS} may be")
+        for _ in range(count):
             self.unsigned_varint()
             self.raw(self.unsigned_varint())
 

@@ -3,15 +3,19 @@
 from __future__ import annotations
 
 import asyncio
+import contextlib
 import dataclasses
 import struct
-from typing import Optional
+from typing import Callable, ContextManager, Optional
 
 from broker.fields import NO_TAGS, Reader, Unreadable, int32
+from broker.turns import Pace
 from broker.versions import API_VERSIONS, SPOKEN
 
-# A request begins with API key, API version and correlation id. While a long one is read all other connections wait.
+# A request begins with API key, API version and correlation id.
 REQUEST_SIZES = range(8, (1 << 20) + 1)
+# As much of a frame as a stream reads ahead in any case.
+LONG = 1 << 16
 REPLY_SIZES = range(4, (8 << 20) + 1)
 
 
@@ -19,14 +23,18 @@ class BadFrame(Exception):
     """Bytes that are no frame, and why. What comes behind them can't be read either."""
 
 
-async def read_body(stream: asyncio.StreamReader, sizes: range = REQUEST_SIZES) -> Optional[bytes]:
-    """The body of the next frame, or None where the stream ends before it. Raises BadFrame, and ConnectionError."""
+async def read_body(
+    stream: asyncio.StreamReader, sizes: range = REQUEST_SIZES, held: Callable[[int], ContextManager[None]] = lambda _: contextlib.nullcontext()
+) -> Optional[bytes]:
+    """The body of the next frame, or None where the stream ends before it. Raises BadFrame, and ConnectionError. A long one is read with
+    room held for it."""
     try:
         first = await stream.readexactly(4)
         size = struct.unpack(">i", first)[0]
         if size not in sizes:
             raise BadFrame(f"a frame begins with {first!r}, which is no size of {sizes[0]} to {sizes[-1]} bytes")
-        return await stream.readexactly(size)
+        with held(size) if size > LONG else contextlib.nullcontext():
+            return await stream.readexactly(size)
     except asyncio.IncompleteReadError as end:
         if not end.partial and end.expected == 4:
             return None
@@ -52,15 +60,19 @@ class Request:
     def name(self) -> str:
         return SPOKEN[self.key].name
 
+    @property
+    def pace(self) -> Pace:
+        return self.fields.pace
+
     def reply(self, fields: bytes) -> bytes:
         """A reply's body. (The header of an ApiVersions reply has no tags in any version, so that all can read it.)"""
         has_tags = self.version >= SPOKEN[self.key].flexible and self.key != API_VERSIONS
         return int32(self.correlation) + (NO_TAGS if has_tags else b"") + fields
 
 
-def read_request(body: bytes) -> Request:
+def read_request(body: bytes, pace: Pace) -> Request:
     """Reads a request's header. Raises Unreadable, also where the API or its version isn't spoken here."""
-    fields = Reader(body)
+    fields = Reader(body, pace)
     key, version, correlation, client = fields.int16(), fields.int16(), fields.int32(), fields.nullable_string()
     spoken = SPOKEN.get(key)
     if spoken is None:

@@ -7,20 +7,21 @@ the coordinator says that it doesn't know it, when it leaves, or when it has sai
 from __future__ import annotations
 
 import dataclasses
-from typing import Dict, FrozenSet, Iterable, List, Optional
+from typing import Dict, FrozenSet, Iterable, List, Optional, Tuple
 
 from broker import codes
-from broker.heartbeats import AWAY, JOIN, LEAVE, Asked, Index, Told
+from broker.heartbeats import AWAY, JOIN, LEAVE, Asked, ById, Told
+from broker.partitions import NOTHING, Partitions, union
 from broker.topics import Topics
-from broker.words import Partition, in_words, names_in_words, plain
+from broker.words import in_words, names_in_words, plain
 
 SESSION_SECONDS = 45.0
+# After this time without a change, of three heartbeats, members that could be assigned more are taken to wait for it.
+WAIT_SECONDS = 15.0
 MOST_GROUPS = 1_000
 # The most that all members weigh: a character of their texts weighs 1, and each partition or topic that is listed the next number.
 MOST_WEIGHT = 16 << 20
 WEIGHT_OF_AN_ENTRY = 64
-Partitions = FrozenSet[Partition]
-NOTHING: Partitions = frozenset()
 
 
 @dataclasses.dataclass
@@ -37,6 +38,10 @@ class Member:
     # What the last assignment shows, and what the member may still read: that, and what it hasn't said to have given up.
     assigned: Optional[Partitions] = None
     held: Partitions = NOTHING
+    # What it is assigned that isn't among the topics here, in words.
+    strange: str = ""
+    # When it was heard of for the first time, and last.
+    since: float = 0.0
     heard: float = 0.0
 
     def weight(self) -> int:
@@ -52,6 +57,9 @@ class Group:
     # Since when a rebalance is under way, or None; and the epoch at which the group was last settled.
     since: Optional[float] = None
     settled_epoch: int = 0
+    # When the last change was, and what the members have waited for since then: partitions of their topics that nobody is assigned.
+    changed: float = 0.0
+    waits_for: Optional[Partitions] = None
 
     def epoch(self) -> int:
         """The greatest epoch of a member that is known."""
@@ -63,11 +71,24 @@ class Group:
         members = self.members.values()
         if any(member.assigned is None or member.names is None for member in members):
             return None
-        subscribed = {topics.by_name[name] for member in members for name in member.names or () if name in topics.by_name}
-        epochs = {member.epoch for member in members if not member.is_away}
-        assigned = NOTHING.union(*(member.assigned or NOTHING for member in members))
-        is_held = all(member.held == member.assigned for member in members)
-        return len(epochs) < 2 and is_held and len(assigned) == sum(topic.count for topic in subscribed)
+        return self._agree() and len(self._assigned()) == sum(topics.by_name[name].count for name in self._subscribed(topics))
+
+    def unassigned(self, topics: Topics) -> Partitions:
+        """What nobody is assigned although the members have one epoch and just what they are assigned."""
+        if self.is_settled(topics) is not False or not self._agree():
+            return NOTHING
+        wanted = {name: frozenset(range(topics.by_name[name].count)) for name in self._subscribed(topics)}
+        return Partitions(wanted) - self._assigned()
+
+    def _agree(self) -> bool:
+        epochs = {member.epoch for member in self.members.values() if not member.is_away}
+        return len(epochs) < 2 and all(member.held == member.assigned for member in self.members.values())
+
+    def _assigned(self) -> Partitions:
+        return union(member.assigned or NOTHING for member in self.members.values())
+
+    def _subscribed(self, topics: Topics) -> FrozenSet[str]:
+        return frozenset(name for member in self.members.values() for name in member.names or () if name in topics.by_name)
 
 
 @dataclasses.dataclass
@@ -107,7 +128,7 @@ class Groups:
         heir_of = self._away_with(group, asked) if former is None else None
         if heir_of is not None:
             self._remove(group, heir_of.id)
-        member = former or Member(told.member or "", client or "")
+        member = former or Member(told.member or "", client or "", since=now)
         return self._beat(group, former, self._after(member, asked, told, now), asked, now)
 
     def _after(self, member: Member, asked: Asked, told: Told, now: float) -> Member:
@@ -116,13 +137,13 @@ class Groups:
         if asked.epoch == JOIN:
             after.instance, after.held = asked.instance, NOTHING
         elif asked.owned is not None:
-            after.held = self._named(asked.owned)
+            after.held, _ = self._named(asked.owned)
         if asked.names is not None:
             after.names = frozenset(name for name in asked.names if name in self.topics.by_name)
         if asked.assignor is not None:
             after.assignor = asked.assignor
         if told.assigned is not None:
-            after.assigned = self._named(told.assigned)
+            after.assigned, after.strange = self._named(told.assigned)
             after.held |= after.assigned
         return after
 
@@ -154,9 +175,13 @@ class Groups:
         return self._change(group, member.id, member.epoch, [phrase], now)
 
     def expire(self, now: float) -> List[Change]:
-        """Removes the members that said nothing for a session's time, as the coordinator does."""
+        """Removes the members that said nothing for a session's time, as the coordinator does. Says which groups wait, once each."""
         changes = []
         for group in list(self.groups.values()):
+            if group.since is not None and group.waits_for is None and now - group.changed > WAIT_SECONDS:
+                group.waits_for = group.unassigned(self.topics)
+                if group.waits_for:
+                    changes.append(Change(group.name, "", group.epoch(), [self._waits(group.waits_for)]))
             for member in [each for each in group.members.values() if now - each.heard > SESSION_SECONDS]:
                 self._remove(group, member.id)
                 phrase = f"said nothing for {SESSION_SECONDS:.0f} s: its session is over"
@@ -190,13 +215,25 @@ class Groups:
         if not group.members:
             self.groups.pop(group.name, None)
 
-    def _named(self, indexes: Iterable[Index]) -> Partitions:
-        """Partitions by their topics' names. One that this program wasn't told of is left out."""
-        found = ((self.topics.by_id.get(topic_id), index) for topic_id, index in indexes)
-        return frozenset((topic.name, index) for topic, index in found if topic and topic.has(index))
+    def _waits(self, partitions: Partitions) -> str:
+        topics = names_in_words(self.topics.by_name[name].word() for name in partitions.runs())
+        return f"waits for {in_words(partitions)}, which the coordinator assigns to nobody: does it have {topics}?"
+
+    def _named(self, by_id: ById) -> Tuple[Partitions, str]:
+        """Partitions by their topics' names; and, in words, those that this program wasn't told of, which are left out."""
+        known, strange = {}, {}
+        for topic_id, indexes in by_id.items():
+            topic = self.topics.by_id.get(topic_id)
+            here = topic.among(indexes) if topic else frozenset()
+            if topic:
+                known[topic.name] = here
+            if len(here) < len(indexes):
+                strange[topic.name if topic else str(topic_id)] = indexes - here
+        return Partitions(known), in_words(Partitions(strange)) if strange else ""
 
     def _change(self, group: Group, member: str, epoch: int, phrases: List[str], now: float) -> Change:
         """A change after which a group isn't settled begins a rebalance, where none is under way. One that moves nothing takes no time."""
+        group.changed, group.waits_for = now, None
         began = now if group.since is None else group.since
         is_settled = group.is_settled(self.topics) if group.members else None
         group.since = began if is_settled is False else None
@@ -228,6 +265,8 @@ def _moves(before: Member, member: Member, asked: Asked) -> Iterable[str]:
     gained = (member.assigned or NOTHING) - (before.assigned or NOTHING)
     if gained:
         yield f"is assigned {in_words(gained)}"
+    if member.strange and member.strange != before.strange:
+        yield f"is assigned {member.strange}, which isn't known here: the coordinator has other topics"
     revoked = (before.assigned or NOTHING) - (member.assigned or NOTHING) - released
     if revoked and member.assigned is not None:
         yield f"revokes {in_words(revoked)}"

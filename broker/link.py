@@ -3,15 +3,18 @@
 from __future__ import annotations
 
 import asyncio
+import contextlib
 import functools
 import socket
+import time
 from typing import Awaitable, Callable, Optional
 
 from broker.frames import REPLY_SIZES, BadFrame, framed, read_body
 from broker.streams import within
-from broker.words import say
+from broker.output import say
 
 OPEN_SECONDS = 5
+LOOK_SECONDS = 1
 ANSWER_SECONDS = 60
 # A connection that was opened: its link is made where it is served.
 Connection = Callable[[], Awaitable["Link"]]
@@ -26,8 +29,11 @@ class Coordinator:
 
     def __init__(self, host: str, port: int) -> None:
         self.host, self.port = host, port
-        # Whether it was there when a client last connected. None: no client has.
-        self.is_there: Optional[bool] = None
+        # Whether it could be reached the last time; and whether that has been said.
+        self.is_there, self._is_missed = False, False
+        # A connection on which nothing is asked, and since when it is there.
+        self._watched: Optional[socket.socket] = None
+        self._looked = 0.0
 
     def __str__(self) -> str:
         return f"{self.host}:{self.port}"
@@ -35,10 +41,29 @@ class Coordinator:
     async def connect(self) -> Optional[Connection]:
         """A new connection, or None where the coordinator can't be reached."""
         try:
-            connection = socket.socket()
+            connection = await self._open()
         except OSError as why:
             say(f"a client's connection is closed, since none to the coordinator can be made for it: {why}")
             return None
+        return functools.partial(linked, connection) if connection else None
+
+    async def look(self) -> None:
+        """Sees whether it is there."""
+        self._looked, self._watched = time.monotonic(), None
+        with contextlib.suppress(OSError):
+            self._watched = await self._open()
+
+    async def run(self) -> None:
+        """Looks for ever: whenever the connection ends, and once a second where there is none."""
+        while True:
+            if self._watched:
+                await _ended(self._watched)
+            await asyncio.sleep(max(0.0, self._looked + LOOK_SECONDS - time.monotonic()))
+            await self.look()
+
+    async def _open(self) -> Optional[socket.socket]:
+        """A new connection, or None where the coordinator can't be reached. Raises OSError where this process may have no more files."""
+        connection = socket.socket()
         connection.setblocking(False)
         try:
             await within(OPEN_SECONDS, asyncio.get_running_loop().sock_connect(connection, (self.host, self.port)))
@@ -46,15 +71,20 @@ class Coordinator:
             connection.close()
             self._was_not_there(str(why) or f"it hasn't answered for {OPEN_SECONDS} s")
             return None
-        if self.is_there is False:
+        if self._is_missed:
             say(f"the coordinator {self} is there again")
-        self.is_there = True
-        return functools.partial(linked, connection)
+        self.is_there, self._is_missed = True, False
+        return connection
 
     def _was_not_there(self, why: str) -> None:
-        if self.is_there is not False:
+        if not self._is_missed:
             say(f"the coordinator {self} can't be reached, and clients' connections are closed: {why}")
-        self.is_there = False
+        self.is_there, self._is_missed = False, True
+
+
+async def _ended(connection: socket.socket) -> None:
+    with connection, contextlib.suppress(OSError):
+        await asyncio.get_running_loop().sock_recv(connection, 1)
 
 
 async def linked(connection: socket.socket) -> Link:

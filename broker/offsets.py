@@ -23,7 +23,19 @@ class Committed:
 
 # What a partition has in which nothing was committed.
 NOTHING = Committed(-1, -1, "")
-OfTopic = Dict[int, Committed]
+
+
+@dataclasses.dataclass
+class OfTopic:
+    """What a group has committed of a topic: by partition; the sum of the offsets; and how often something was committed."""
+
+    entries: Dict[int, Committed] = dataclasses.field(default_factory=dict)
+    total: int = 0
+    revision: int = 0
+
+    def lag(self, end_offset: int) -> int:
+        """How many records are between the committed offsets and the ends, of the partitions in which something was committed."""
+        return max(0, len(self.entries) * end_offset - self.total)
 
 
 class Offsets:
@@ -39,18 +51,17 @@ class Offsets:
         return self.count + len(commits) <= MOST_OFFSETS and self.text_bytes + 4 * text_bytes <= MOST_TEXT_BYTES
 
     def store(self, group: str, topic: str, partition: int, committed: Committed) -> None:
-        entries = self._groups.setdefault(group, {}).setdefault(topic, {})
-        former = entries.get(partition)
+        of_topic = self._groups.setdefault(group, {}).setdefault(topic, OfTopic())
+        former = of_topic.entries.get(partition)
         self.count += former is None
         self.text_bytes += 4 * len(committed.metadata)
         self.text_bytes -= 4 * len(former.metadata) if former else -4 * (len(group) + len(topic))
-        entries[partition] = committed
-
-    def of(self, group: str, topic: str, partition: int) -> Committed:
-        return self._groups.get(group, {}).get(topic, {}).get(partition, NOTHING)
+        of_topic.entries[partition] = committed
+        of_topic.total += committed.offset - (former.offset if former else 0)
+        of_topic.revision += 1
 
     def of_group(self, group: str) -> Dict[str, OfTopic]:
-        """All offsets of a group, by topic and partition."""
+        """All offsets of a group, by topic."""
         return self._groups.get(group, {})
 
     def groups(self) -> Iterator[str]:

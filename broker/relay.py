@@ -18,9 +18,11 @@ from broker.cluster import Cluster, Node
 from broker.fields import Unreadable
 from broker.frames import BadFrame, framed, read_body, read_request
 from broker.link import Connection, CoordinatorClosed, Link
-from broker.streams import close, within
+from broker.room import CutOff
+from broker.streams import close, taken
+from broker.turns import Pace
 from broker.watch import Watch
-from broker.words import say
+from broker.output import say
 
 MOST_CONNECTIONS = 2_000
 # A client that says nothing for so long is disconnected, as is one that doesn't read its replies.
@@ -36,28 +38,33 @@ async def serve_node(cluster: Cluster, node: Node, watch: Watch, listener: socke
     """
 
     async def prepare(client: socket.socket, address: Address) -> Optional[Work]:
+        number = cluster.record.opened(f"{address[0]}:{address[1]}", f"{node.host}:{node.port}")
         coordinator = await node.coordinator.connect()
         if coordinator is None:
             client.close()
+            cluster.record.closed(number)
             return None
-        return relay(cluster, node, watch, client, coordinator, address)
+        return relay(Relay(cluster, node, watch, number), client, coordinator, address)
 
     await accept(listener, MOST_CONNECTIONS, prepare)
 
 
-async def relay(cluster: Cluster, node: Node, watch: Watch, client: socket.socket, coordinator: Connection, address: Address) -> None:
+async def relay(it: Relay, client: socket.socket, coordinator: Connection, address: Address) -> None:
     """Serves a client until either side closes. Says why, unless it was the client."""
     link = await coordinator()
     reader, writer = await asyncio.open_connection(sock=client)
-    node.connections += 1
+    # What is written counts as taken once all of it is.
+    writer.transport.set_write_buffer_limits(high=0)
+    it.node.connections += 1
     try:
-        await Relay(cluster, node, watch, link).serve(reader, writer)
-    except (BadFrame, Unreadable, Closed, CoordinatorClosed) as why:
+        await it.serve(reader, writer, link)
+    except (BadFrame, Unreadable, Closed, CutOff, CoordinatorClosed) as why:
         say(f"closed the connection of {address[0]}:{address[1]}: {why}")
     except OSError:
         pass
     finally:
-        node.connections -= 1
+        it.node.connections -= 1
+        it.cluster.record.closed(it.number)
         link.close()
         await close(writer)
 
@@ -67,48 +74,55 @@ class Closed(Exception):
 
 
 class Relay:
-    def __init__(self, cluster: Cluster, node: Node, watch: Watch, link: Link) -> None:
-        self.cluster, self.node, self.watch, self.link = cluster, node, watch, link
+    """The connection of this number to a node."""
 
-    async def serve(self, reader: asyncio.StreamReader, writer: asyncio.StreamWriter) -> None:
+    def __init__(self, cluster: Cluster, node: Node, watch: Watch, number: int) -> None:
+        self.cluster, self.node, self.watch, self.number = cluster, node, watch, number
+
+    async def serve(self, reader: asyncio.StreamReader, writer: asyncio.StreamWriter, link: Link) -> None:
         """Answers requests until the client closes. Raises where anything else ends the connection."""
         while True:
-            body = await self._next(reader)
+            body = await self._next(reader, writer, link)
             if body is None:
                 return
-            writer.write(framed(await self._answer(body)))
-            if writer.transport.get_write_buffer_size():
-                await _drain(writer)
+            self.cluster.record.request(self.number, body)
+            writer.write(framed(await self._answer(body, link)))
+            await self._is_taken(writer)
 
-    async def _next(self, reader: asyncio.StreamReader) -> Optional[bytes]:
+    async def _next(self, reader: asyncio.StreamReader, writer: asyncio.StreamWriter, link: Link) -> Optional[bytes]:
         """The next request's body, or None where the client has closed. Raises Closed where the coordinator has."""
-        reading = asyncio.ensure_future(read_body(reader))
+        reading = asyncio.ensure_future(read_body(reader, held=lambda size: self.cluster.room.held(writer, size)))
         try:
-            await asyncio.wait({reading, self.link.arriving}, timeout=IDLE_SECONDS, return_when=asyncio.FIRST_COMPLETED)
+            await asyncio.wait({reading, link.arriving}, timeout=IDLE_SECONDS, return_when=asyncio.FIRST_COMPLETED)
             if reading.done():
                 return reading.result()
         finally:
             reading.cancel()
-        if not self.link.arriving.done():
+        if not link.arriving.done():
             raise Closed(f"it said nothing for {IDLE_SECONDS} s")
-        raise Closed("the coordinator closed its side" if self.link.arriving.result() is None else "the coordinator wasn't asked")
+        raise Closed("the coordinator closed its side" if link.arriving.result() is None else "the coordinator wasn't asked")
 
-    async def _answer(self, body: bytes) -> bytes:
-        request = read_request(body)
+    async def _answer(self, body: bytes, link: Link) -> bytes:
+        request = read_request(body, Pace(self.cluster.turns))
         if request.key not in ANSWERS:
             raise Closed(f"it asked for {request.name}, which nobody can do here")
         began = time.monotonic()
         try:
-            reply = await ANSWERS[request.key](Call(request, self.cluster, self.node, self.link, self.watch))
+            reply = await ANSWERS[request.key](Call(request, self.cluster, self.node, link, self.watch))
         except Unreadable as why:
             raise Unreadable(f"{request.name} version {request.version}: {why}") from None
         self.watch.answered(request.name, time.monotonic() - began)
+        self.cluster.record.reply(self.number, reply)
         return reply
 
-
-async def _drain(writer: asyncio.StreamWriter) -> None:
-    try:
-        await within(UNREAD_SECONDS, writer.drain())
-    except asyncio.TimeoutError:
-        writer.transport.abort()
-        raise Closed(f"it read none of its replies for {UNREAD_SECONDS} s") from None
+    async def _is_taken(self, writer: asyncio.StreamWriter) -> None:
+        """Waits until the client has read its reply. Until then none of its requests is."""
+        size = writer.transport.get_write_buffer_size()
+        if not size:
+            return
+        with self.cluster.room.held(writer, size):
+            try:
+                await taken(writer, UNREAD_SECONDS)
+            except asyncio.TimeoutError:
+                writer.transport.abort()
+                raise Closed(f"it read none of its replies for {UNREAD_SECONDS} s") from None

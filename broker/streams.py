@@ -4,7 +4,10 @@ from __future__ import annotations
 
 import asyncio
 import contextlib
-from typing import Awaitable, TypeVar
+import fcntl
+import struct
+import termios
+from typing import Awaitable, Tuple, TypeVar
 
 Result = TypeVar("Result")
 CLOSE_SECONDS = 60
@@ -21,6 +24,28 @@ async def within(seconds: float, work: Awaitable[Result]) -> Result:
     finally:
         task.cancel()
     raise asyncio.TimeoutError
+
+
+async def taken(writer: asyncio.StreamWriter, seconds: float) -> None:
+    """Waits until the other side has taken what was written, or raises asyncio.TimeoutError where it takes no byte for so long."""
+    left = _left(writer)
+    while left[0]:
+        try:
+            await within(seconds, writer.drain())
+        except asyncio.TimeoutError:
+            if _left(writer) >= left:
+                raise
+        left = _left(writer)
+
+
+def _left(writer: asyncio.StreamWriter) -> Tuple[int, int]:
+    """How many bytes wait in this process, and in the system. (It asks for more only once much of its own is gone.)"""
+    waiting = writer.transport.get_write_buffer_size()
+    connection = writer.get_extra_info("socket")
+    try:
+        return waiting, struct.unpack("i", fcntl.ioctl(connection.fileno(), termios.TIOCOUTQ, bytes(4)))[0]
+    except (OSError, ValueError):
+        return waiting, 0
 
 
 async def close(writer: asyncio.StreamWriter) -> None:

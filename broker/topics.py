@@ -5,7 +5,7 @@ from __future__ import annotations
 import dataclasses
 import re
 import uuid
-from typing import Dict, Iterator, Optional, Sequence
+from typing import Dict, FrozenSet, Iterator, Optional, Sequence
 
 MOST_TOPICS = 10_000
 MOST_PARTITIONS_OF_A_TOPIC = 100_000
@@ -21,6 +21,10 @@ class Topic:
 
     def has(self, partition: int) -> bool:
         return 0 <= partition < self.count
+
+    def among(self, indexes: FrozenSet[int]) -> FrozenSet[int]:
+        """Those of the indexes that it has."""
+        return indexes if not indexes or 0 <= min(indexes) and max(indexes) < self.count else indexes & {*range(self.count)}
 
     def word(self) -> str:
         """As on a command line."""

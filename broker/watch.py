@@ -5,13 +5,14 @@ from __future__ import annotations
 import asyncio
 import collections
 import time
-from typing import Callable, Deque, Iterable, List, Optional
+from typing import Callable, Deque, Dict, Iterable, List, Optional, Tuple
 
 from broker import codes, commits, heartbeats
 from broker.groups import Change, Groups
 from broker.metrics import Counter, Histogram, Labels
+from broker.partitions import Partitions
 from broker.topics import Topics
-from broker.words import Partition, in_words, plain, short_id
+from broker.words import in_words, plain, short_id
 
 MOST_LINES = 50
 ANSWER_BOUNDS = (0.0001, 0.00025, 0.0005, 0.001, 0.0025, 0.005, 0.01, 0.05, 0.1, 0.5, 1, 5)
@@ -23,8 +24,8 @@ class Watch:
     def __init__(self, topics: Topics, say: Callable[[str], None], clock: Callable[[], float] = time.monotonic) -> None:
         self.groups = Groups(topics)
         self._say, self.clock = say, clock
-        # The last lines that were said, and how much has been seen since the beginning.
-        self.lines: Deque[str] = collections.deque(maxlen=MOST_LINES)
+        # The last lines that were said, each with its moment, and how much has been seen since the beginning.
+        self.lines: Deque[Tuple[float, str]] = collections.deque(maxlen=MOST_LINES)
         self.revision = 0
         self.heartbeats = Counter("broker_heartbeats_total", "Heartbeats that were answered, by error code.")
         self.commits = Counter("broker_committed_partitions_total", "Partitions in commits that were answered, by error code.")
@@ -43,11 +44,10 @@ class Watch:
 
     def commit(self, asked: commits.Asked, results: List[commits.Result]) -> None:
         self.revision += 1
-        for code in sorted({result.code for result in results}):
-            partitions: List[Partition] = [(result.topic, result.partition) for result in results if result.code == code]
-            self.commits.add(_labels(code), len(partitions))
+        for code, count in sorted(collections.Counter(result.code for result in results).items()):
+            self.commits.add(_labels(code), count)
             if code != codes.NONE:
-                phrase = f"{codes.name(code)}: its commit of {in_words(partitions)}"
+                phrase = f"{codes.name(code)}: its commit of {in_words(_of_code(results, code))}"
                 self._changed(Change(asked.group, asked.member, asked.epoch, [phrase]))
 
     def answered(self, api: str, seconds: float) -> None:
@@ -74,7 +74,7 @@ class Watch:
 
     def tell(self, line: str) -> None:
         self.revision += 1
-        self.lines.append(line)
+        self.lines.append((self.clock(), line))
         self._say(line)
 
     def metrics(self) -> Iterable[str]:
@@ -82,6 +82,14 @@ class Watch:
         yield from self.commits.lines()
         yield from self.seconds.lines()
         yield from self.rebalances.lines()
+
+
+def _of_code(results: List[commits.Result], code: int) -> Partitions:
+    topics: Dict[str, List[int]] = {}
+    for result in results:
+        if result.code == code:
+            topics.setdefault(result.topic, []).append(result.partition)
+    return Partitions({topic: frozenset(indexes) for topic, indexes in topics.items()})
 
 
 def _labels(code: int) -> Labels:

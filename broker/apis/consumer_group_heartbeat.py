@@ -16,14 +16,14 @@ NO_EPOCH, NO_INTERVAL, NO_ASSIGNMENT = int32(0), int32(0), int8(-1)
 
 async def answer(call: Call) -> bytes:
     request = call.request
-    asked = read_request(request)
+    asked = await read_request(request)
     # (Null and empty both mean that there is none.)
     if asked.regex:
         return refuse(call, asked, codes.INVALID_REQUEST, "regular expressions are not supported")
     if not call.is_coordinator_of(asked.group):
         return refuse(call, asked, codes.NOT_COORDINATOR, "another broker coordinates this group")
     reply = await call.link.ask(request.body if request.version == 0 else as_version_0(request.body, asked))
-    call.watch.heartbeat(request.client, asked, read_reply(reply))
+    call.watch.heartbeat(request.client, asked, await read_reply(reply, request.pace))
     return reply
 
 

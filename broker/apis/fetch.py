@@ -14,7 +14,7 @@ from broker.log import FIRST_OFFSET
 
 # Whatever the client allows.
 MOST_WAIT_SECONDS = 5.0
-MOST_BYTES = 4 << 20
+MOST_BYTES = 512 << 10
 # There are no fetch sessions: every request says all that it wants.
 NO_SESSION = int32(0)
 NO_OFFSET = -1
@@ -35,21 +35,21 @@ async def answer(call: Call) -> bytes:
     _isolation = fields.int8()
     if version >= 7:
         _session, _session_epoch = fields.int32(), fields.int32()
-    topics = fields.array(lambda: _topic(fields, version))
+    topics = await fields.nested_array(lambda: _topic(fields, version))
     if version >= 7:
-        _forgotten = fields.array(lambda: (fields.string(), fields.array(fields.int32)))
+        _forgotten = await fields.array(lambda: (fields.string(), fields.int32s()))
     if version >= 11:
         _rack = fields.string()
-    await _wait(call.cluster, [each for topic in topics for each in topic], min(wait_ms / 1000, MOST_WAIT_SECONDS))
+    await _wait(call, [each for topic in topics for each in topic], min(wait_ms / 1000, MOST_WAIT_SECONDS))
     room = Room(min(most_bytes, MOST_BYTES))
-    answers = array(_topic_reply(call.cluster, topic, room, version) for topic in topics if topic)
+    answers = array([await _topic_reply(call, topic, room) for topic in topics if topic])
     no_error = int16(codes.NONE) + NO_SESSION if version >= 7 else b""
     return call.request.reply(int32(0) + no_error + answers)
 
 
-def _topic(fields: Reader, version: int) -> List[Asked]:
+async def _topic(fields: Reader, version: int) -> List[Asked]:
     name = fields.string()
-    return fields.array(lambda: _partition(fields, name, version))
+    return await fields.array(lambda: _partition(fields, name, version))
 
 
 def _partition(fields: Reader, topic: str, version: int) -> Asked:
@@ -68,11 +68,15 @@ def _code(cluster: Cluster, asked: Asked) -> int:
     return codes.NONE if FIRST_OFFSET <= asked.offset <= cluster.log.end_offset() else codes.OFFSET_OUT_OF_RANGE
 
 
-async def _wait(cluster: Cluster, asked: List[Asked], seconds: float) -> None:
+async def _wait(call: Call, asked: List[Asked], seconds: float) -> None:
     """Waits until a record that is asked for has come, at most so long. An error is answered at once."""
-    if all(_code(cluster, each) == codes.NONE for each in asked):
-        first = min((cluster.log.seconds_until(each.offset) for each in asked), default=seconds)
-        await asyncio.sleep(max(0.0, min(first, seconds)))
+    first = min(await call.request.pace.all(_seconds_until(call.cluster, each) for each in asked), default=seconds)
+    await asyncio.sleep(max(0.0, min(first, seconds)))
+
+
+def _seconds_until(cluster: Cluster, asked: Asked) -> float:
+    """When there is something to answer."""
+    return cluster.log.seconds_until(asked.offset) if _code(cluster, asked) == codes.NONE else 0.0
 
 
 class Room:
@@ -89,8 +93,13 @@ class Room:
         return batch
 
 
-def _topic_reply(cluster: Cluster, topic: List[Asked], room: Room, version: int) -> bytes:
-    return string(topic[0].topic) + array(_partition_reply(cluster, each, room, version) for each in topic)
+async def _topic_reply(call: Call, topic: List[Asked], room: Room) -> bytes:
+    entries = []
+    for each in topic:
+        # (A partition has up to 200 records, which take as long as a piece of work may.)
+        await call.request.pace.pause()
+        entries.append(_partition_reply(call.cluster, each, room, call.request.version))
+    return string(topic[0].topic) + array(entries)
 
 
 def _partition_reply(cluster: Cluster, asked: Asked, room: Room, version: int) -> bytes:

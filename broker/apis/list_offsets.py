@@ -20,14 +20,14 @@ async def answer(call: Call) -> bytes:
     _replica = fields.int32()
     if version >= 2:
         _isolation = fields.int8()
-    topics = fields.array(lambda: _topic(call, version))
+    topics = await fields.nested_array(lambda: _topic(call, version))
     return call.request.reply((int32(0) if version >= 2 else b"") + array(topics))
 
 
-def _topic(call: Call, version: int) -> bytes:
+async def _topic(call: Call, version: int) -> bytes:
     fields = call.request.fields
     name = fields.string()
-    return string(name) + array(fields.array(lambda: _partition(call, name, version)))
+    return string(name) + array(await fields.array(lambda: _partition(call, name, version)))
 
 
 def _partition(call: Call, topic: str, version: int) -> bytes:

@@ -7,7 +7,7 @@ from typing import NamedTuple, Optional
 
 from broker import codes
 from broker.call import Call
-from broker.cluster import CLUSTER_ID, LEADER_EPOCH, Cluster, Node
+from broker.cluster import CLUSTER_ID, LEADER_EPOCH, Node
 from broker.fields import NO_TAGS, Reader, boolean, compact_array, compact_nullable_string, compact_string, int16, int32
 from broker.topics import Topic
 
@@ -25,7 +25,7 @@ class Asked(NamedTuple):
 
 async def answer(call: Call) -> bytes:
     fields, version, cluster = call.request.fields, call.request.version, call.cluster
-    asked = fields.compact_nullable_array(lambda: _asked(fields, version))
+    asked = await fields.compact_nullable_array(lambda: _asked(fields, version))
     _may_create_topics = fields.boolean()
     if version <= 10:
         _wants_cluster_operations = fields.boolean()
@@ -37,8 +37,10 @@ async def answer(call: Call) -> bytes:
     reply += compact_string(CLUSTER_ID) + int32(cluster.nodes[0].id)
     # (Kafka's broker, too, answers once for a topic that is asked for twice.)
     each_once = {it.id if it.name is None else it.name: it for it in asked}.values()
-    reply += compact_array(_topic(cluster, each, version) for each in each_once)
-    return call.request.reply(reply + (NOT_TOLD if version <= 10 else b"") + NO_TAGS)
+    found = [(it, cluster.topics.by_id.get(it.id) if it.name is None else cluster.topics.by_name.get(it.name)) for it in each_once]
+    async with cluster.making(sum(topic.count if topic else 1 for _, topic in found)):
+        reply += compact_array([await _topic(call, *each) for each in found])
+        return call.request.reply(reply + (NOT_TOLD if version <= 10 else b"") + NO_TAGS)
 
 
 def _asked(fields: Reader, version: int) -> Asked:
@@ -53,12 +55,14 @@ def _broker(node: Node) -> bytes:
     return int32(node.id) + compact_string(node.host) + int32(node.port) + no_rack + NO_TAGS
 
 
-def _topic(cluster: Cluster, asked: Asked, version: int) -> bytes:
-    found = cluster.topics.by_id.get(asked.id) if asked.name is None else cluster.topics.by_name.get(asked.name)
+async def _topic(call: Call, asked: Asked, found: Optional[Topic]) -> bytes:
+    cluster, version = call.cluster, call.request.version
+    await call.request.pace.pause()
     if found is None:
         code = codes.UNKNOWN_TOPIC_ID if asked.name is None else codes.UNKNOWN_TOPIC_OR_PARTITION
         return _entry(code, Topic(asked.name or "", asked.id, 0), b"\1", version)
-    partitions = compact_array(_partition(cluster.leader_of(index), index) for index in range(found.count))
+    entries = await call.request.pace.all(_partition(cluster.leader_of(index), index) for index in range(found.count))
+    partitions = compact_array(entries)
     return _entry(codes.NONE, found, partitions, version)
 
 

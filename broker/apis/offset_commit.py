@@ -14,7 +14,7 @@ from broker.fields import NO_TAGS, compact_array, compact_string, int16, int32
 
 async def answer(call: Call) -> bytes:
     offsets = call.cluster.offsets
-    asked = read_request(call.request.fields)
+    asked = await read_request(call.request.fields)
     partitions = asked.partitions()
     if not call.is_coordinator_of(asked.group):
         return refuse(call, asked, codes.NOT_COORDINATOR)
@@ -22,10 +22,9 @@ async def answer(call: Call) -> bytes:
         # What the coordinator takes has to be there at the next OffsetFetch.
         return refuse(call, asked, codes.INVALID_COMMIT_OFFSET_SIZE)
     reply = await call.link.ask(call.request.body)
-    results = read_reply(reply)
-    for partition, result in zip(partitions, results):
-        if result.code == codes.NONE:
-            offsets.store(asked.group, *partition)
+    pace = call.request.pace
+    results = await read_reply(reply, pace)
+    await pace.all(offsets.store(asked.group, *partition) for partition, result in zip(partitions, results) if result.code == codes.NONE)
     call.watch.commit(asked, results)
     return reply
 

@@ -7,12 +7,12 @@ from typing import List, NamedTuple, Optional, Sequence
 from broker import codes
 from broker.call import Call
 from broker.fields import NO_TAGS, Reader, Unreadable, compact_array, compact_nullable_string, compact_string, int16, int32, int64
-from broker.offsets import Committed
+from broker.offsets import NOTHING, Committed, OfTopic
 
 
 class AskedTopic(NamedTuple):
     name: str
-    partitions: List[int]
+    partitions: Sequence[int]
 
 
 class AskedGroup(NamedTuple):
@@ -24,26 +24,28 @@ class AskedGroup(NamedTuple):
 
 async def answer(call: Call) -> bytes:
     fields = call.request.fields
-    groups = fields.compact_array(lambda: _group(fields))
+    groups = await fields.nested_compact_array(lambda: _group(fields))
     _want_apart([group.name for group in groups])
     # (Whether offsets of open transactions are to be waited for: there are no transactions.)
     _wants_stable = fields.boolean()
     fields.tags()
-    return call.request.reply(int32(0) + compact_array(_group_reply(call, group) for group in groups) + NO_TAGS)
+    async with call.cluster.making(sum(_entries(call, group) for group in groups)):
+        replies = [await _group_reply(call, group) for group in groups]
+        return call.request.reply(int32(0) + compact_array(replies) + NO_TAGS)
 
 
-def _group(fields: Reader) -> AskedGroup:
+async def _group(fields: Reader) -> AskedGroup:
     name = fields.compact_string()
     # (The coordinator alone could judge these two, which librdkafka leaves out.)
     _member, _member_epoch = fields.compact_nullable_string(), fields.int32()
-    topics = fields.compact_nullable_array(lambda: _topic(fields))
+    topics = await fields.compact_nullable_array(lambda: _topic(fields))
     _want_apart([topic.name for topic in topics or ()])
     fields.tags()
     return AskedGroup(name, topics)
 
 
 def _topic(fields: Reader) -> AskedTopic:
-    topic = AskedTopic(fields.compact_string(), fields.compact_array(fields.int32))
+    topic = AskedTopic(fields.compact_string(), fields.compact_int32s())
     _want_apart(topic.partitions)
     fields.tags()
     return topic
@@ -55,20 +57,29 @@ def _want_apart(keys: Sequence[object]) -> None:
         raise Unreadable("it asks for one offset twice")
 
 
-def _group_reply(call: Call, group: AskedGroup) -> bytes:
+def _entries(call: Call, group: AskedGroup) -> int:
+    """How many the reply has for a group."""
+    if group.topics is None:
+        return 1 + sum(len(it.entries) for it in call.cluster.offsets.of_group(group.name).values())
+    return 1 + sum(1 + len(topic.partitions) for topic in group.topics)
+
+
+async def _group_reply(call: Call, group: AskedGroup) -> bytes:
+    await call.request.pace.pause()
     if not call.is_coordinator_of(group.name):
         return compact_string(group.name) + compact_array([]) + int16(codes.NOT_COORDINATOR) + NO_TAGS
-    offsets = call.cluster.offsets
     topics = group.topics
     if topics is None:
-        topics = [AskedTopic(topic, sorted(stored)) for topic, stored in sorted(offsets.of_group(group.name).items())]
-    entries = [
-        compact_string(topic.name)
-        + compact_array(_partition(index, offsets.of(group.name, topic.name, index)) for index in topic.partitions)
-        + NO_TAGS
-        for topic in topics
-    ]
-    return compact_string(group.name) + compact_array(entries) + int16(codes.NONE) + NO_TAGS
+        topics = [AskedTopic(topic, sorted(stored.entries)) for topic, stored in sorted(call.cluster.offsets.of_group(group.name).items())]
+    replies = [await _topic_reply(call, group.name, topic) for topic in topics]
+    return compact_string(group.name) + compact_array(replies) + int16(codes.NONE) + NO_TAGS
+
+
+async def _topic_reply(call: Call, group: str, topic: AskedTopic) -> bytes:
+    await call.request.pace.pause()
+    stored = call.cluster.offsets.of_group(group).get(topic.name, OfTopic()).entries
+    entries = await call.request.pace.all(_partition(index, stored.get(index, NOTHING)) for index in topic.partitions)
+    return compact_string(topic.name) + compact_array(entries) + NO_TAGS
 
 
 def _partition(index: int, committed: Committed) -> bytes:

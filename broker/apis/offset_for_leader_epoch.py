@@ -14,14 +14,14 @@ async def answer(call: Call) -> bytes:
     fields, version = call.request.fields, call.request.version
     if version >= 3:
         _replica = fields.int32()
-    topics = fields.array(lambda: _topic(call))
+    topics = await fields.nested_array(lambda: _topic(call))
     return call.request.reply(int32(0) + array(topics))
 
 
-def _topic(call: Call) -> bytes:
+async def _topic(call: Call) -> bytes:
     fields = call.request.fields
     name = fields.string()
-    return string(name) + array(fields.array(lambda: _partition(call, name)))
+    return string(name) + array(await fields.array(lambda: _partition(call, name)))
 
 
 def _partition(call: Call, topic: str) -> bytes:

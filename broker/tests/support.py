@@ -4,11 +4,11 @@ from __future__ import annotations
 
 import asyncio
 import contextlib
-import io
 import re
 import struct
 import uuid
 from typing import AsyncIterator, Callable, List, Optional, Tuple
+from unittest import mock
 
 from broker.acceptor import listen
 from broker.cluster import Cluster, Node
@@ -16,6 +16,7 @@ from broker.frames import framed
 from broker.link import Coordinator
 from broker.log import Log
 from broker.offsets import Committed, Offsets
+from broker.output import STANDARD_ERROR
 from broker.relay import serve_node
 from broker.topics import Topic, Topics
 from broker.watch import Watch
@@ -81,14 +82,9 @@ def accept_all(_: int, body: bytes) -> bytes:
 class Front:
     """The front end over a played coordinator: its port, what it printed, and what it said on standard error."""
 
-    def __init__(self, port: int, coordinator: Played, lines: List[str], said: io.StringIO, watch: Watch) -> None:
-        self.port, self.coordinator, self.lines, self.watch = port, coordinator, lines, watch
-        self._stderr = said
+    def __init__(self, port: int, coordinator: Played, lines: List[str], said: List[str], watch: Watch) -> None:
+        self.port, self.coordinator, self.lines, self.said, self.watch = port, coordinator, lines, said, watch
         self.writers: List[asyncio.StreamWriter] = []
-
-    def said(self) -> List[str]:
-        """Its lines on standard error. (Python's own can stand between them.)"""
-        return [line for line in self._stderr.getvalue().splitlines() if line.startswith("broker: ")]
 
     async def client(self) -> Client:
         client = Client(*await asyncio.open_connection(HOST, self.port))
@@ -135,9 +131,9 @@ async def front(answer: Callable[[int, bytes], Optional[bytes]] = accept_all, cl
     node = cluster.nodes[0]
     node.coordinator = Coordinator(*server.sockets[0].getsockname()[:2])
     lines: List[str] = []
-    said = io.StringIO()
+    said: List[str] = []
     watch = Watch(cluster.topics, lines.append)
-    with listen(HOST, 0) as listener, contextlib.redirect_stderr(said):
+    with listen(HOST, 0) as listener, mock.patch.object(STANDARD_ERROR, "line", said.append):
         task = asyncio.ensure_future(serve_node(cluster, node, watch, listener))
         it = Front(listener.getsockname()[1], played, lines, said, watch)
         try:

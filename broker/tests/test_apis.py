@@ -11,6 +11,7 @@ from broker.apis import ANSWERS
 from broker.call import Call
 from broker.cluster import Cluster, group_number, java_hash
 from broker.frames import read_request
+from broker.turns import Pace
 from broker.watch import Watch
 from broker.tests.support import data, small_cluster
 
@@ -31,7 +32,7 @@ def rows() -> Iterator[Tuple[str, str, str]]:
 
 def answer(cluster: Cluster, text: str, node: int = 0) -> bytes:
     """The reply of a node to a request that doesn't go on to the coordinator."""
-    request = read_request(data(text))
+    request = read_request(data(text), Pace(cluster.turns))
     nobody: Any = None
     call = Call(request, cluster, cluster.nodes[node], nobody, Watch(cluster.topics, lambda _: None))
     return asyncio.run(ANSWERS[request.key](call))  # type: ignore[arg-type]

@@ -2,7 +2,10 @@
 
 from __future__ import annotations
 
+import asyncio
+import inspect
 import unittest
+from typing import Any
 
 from broker import fields
 from broker.fields import Reader, Unreadable
@@ -29,6 +32,8 @@ WRITTEN = [
     (fields.array([b"\1", b"\2"]), "00000002 01 02", lambda it: it.array(it.int8), [1, 2]),
     (fields.compact_array([b"\1", b"\2"]), "03 01 02", lambda it: it.compact_array(it.int8), [1, 2]),
     (fields.NULL, "00", lambda it: it.compact_nullable_array(it.int8), None),
+    (fields.array([fields.int32(3), fields.int32(-1)]), "00000002 00000003 ffffffff", Reader.int32s, (3, -1)),
+    (fields.compact_array([fields.int32(3)]), "02 00000003", Reader.compact_int32s, (3,)),
     (ORDERS.bytes, "11111111 1111 1111 1111 111111111111", Reader.uuid, ORDERS),
     (data("02 00 03 'abc' 05 01 'd'"), "02 00 03 616263 05 01 64", Reader.tags, None),
 ]
@@ -44,6 +49,9 @@ UNREADABLE = [
     ("04 'ab'", Reader.compact_string),
     ("02 ff", Reader.compact_string),
     ("ffffffff", lambda it: it.array(it.int8)),
+    ("7fffffff 00000001", Reader.int32s),
+    ("00", Reader.compact_int32s),
+    ("65" + 101 * "00 00", Reader.tags),
     ("00", lambda it: it.compact_array(it.int8)),
     ("03 01", lambda it: it.compact_array(it.int8)),
     ("808080808001", Reader.unsigned_varint),
@@ -58,7 +66,7 @@ class Fields(unittest.TestCase):
         found = []
         for written, text, read, _ in WRITTEN:
             reader = Reader(data(text))
-            found.append((text, written, read(reader), reader.at))
+            found.append((text, written, _value(read(reader)), reader.at))
         self.assertEqual(found, wanted)
 
     def test_signed_varints(self) -> None:
@@ -71,7 +79,18 @@ class Fields(unittest.TestCase):
 
 def _is_read(text: str, take) -> bool:  # type: ignore[no-untyped-def]
     try:
-        take(Reader(data(text)))
+        _value(take(Reader(data(text))))
         return True
     except Unreadable:
         return False
+
+
+def _value(read: Any) -> Any:
+    """What was read. Arrays of structures are read in pieces."""
+    if not inspect.isawaitable(read):
+        return read
+
+    async def wait() -> Any:
+        return await read
+
+    return asyncio.run(wait())

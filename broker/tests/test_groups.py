@@ -2,20 +2,23 @@
 
 from __future__ import annotations
 
+import asyncio
+import json
 import pathlib
 import re
 import unittest
 import uuid
-from typing import Any, Dict, FrozenSet, List, Optional, Tuple
+from typing import Any, Dict, Iterable, List, Optional, Tuple
 from unittest import mock
 
-from broker import groups, report
+from broker import groups
 from broker.commits import Asked as Commit
 from broker.commits import Partition, Result, Topic
-from broker.heartbeats import Asked, Index, Told
+from broker.heartbeats import Asked, ById, Told
 from broker.offsets import Committed
+from broker.partitions import Partitions
+from broker.report import Report
 from broker.watch import Watch
-from broker.words import Partition as Place
 from broker.words import in_words, plain
 from broker.tests.support import ORDERS, small_cluster
 
@@ -23,8 +26,8 @@ README = pathlib.Path(__file__).resolve().parents[2] / "README.md"
 A, B, C = (f"00000000-0000-0000-0000-00000000000{number}" for number in (1, 2, 3))
 
 
-def of_orders(*indexes: int) -> FrozenSet[Index]:
-    return frozenset((ORDERS, index) for index in indexes)
+def of_orders(*indexes: int) -> ById:
+    return {ORDERS: frozenset(indexes)}
 
 
 class Conversation:
@@ -41,17 +44,18 @@ class Conversation:
         self.now = now
         self.watch.heartbeat("till", Asked(self.name, member, epoch, **fields), told)
 
-    def join(self, now: float, member: str, epoch: int, shown: FrozenSet[Index], instance: Optional[str] = None) -> None:
-        self.beat(now, member, 0, Told(0, member, epoch, shown), names=["orders"], instance=instance, owned=frozenset())
+    def join(self, now: float, member: str, epoch: int, shown: ById, instance: Optional[str] = None) -> None:
+        self.beat(now, member, 0, Told(0, member, epoch, shown), names=["orders"], instance=instance, owned={})
 
     def commit(self, now: float, member: str, epoch: int, code: int) -> None:
         self.now = now
         topics = [Topic("orders", [Partition("orders", 1, Committed(9, 0, ""))])]
         self.watch.commit(Commit(self.name, epoch, member, topics), [Result("orders", 1, code)])
 
-    def rebalance(self, kept: FrozenSet[Index] = of_orders(0), moved: FrozenSet[Index] = of_orders(1)) -> None:
-        """A has all partitions; B joins, and gets some of them after five seconds."""
-        self.join(0, A, 1, kept | moved)
+    def rebalance(self, *, count: int = 2) -> None:
+        """A has all partitions; B joins, and gets half of them after five seconds."""
+        kept, moved = of_orders(*range(count // 2)), of_orders(*range(count // 2, count))
+        self.join(0, A, 1, of_orders(*range(count)))
         self.beat(5, A, 1, Told(0, A, 1))
         self.join(6, B, 2, of_orders())
         self.beat(10, A, 1, Told(0, A, 1, kept))
@@ -59,8 +63,15 @@ class Conversation:
         self.beat(11, B, 2, Told(0, B, 2, moved))
 
     def group(self) -> Dict[str, Any]:
-        found: Dict[str, Any] = report.groups(self.cluster, self.watch)["groups"][0]
+        found: Dict[str, Any] = self.known()["groups"][0]
         return found
+
+    def known(self) -> Dict[str, Any]:
+        found: Dict[str, Any] = json.loads(asyncio.run(Report(self.cluster, self.watch).groups()))
+        return found
+
+    def metrics(self) -> str:
+        return Report(self.cluster, self.watch).metrics()
 
 
 REBALANCE = [
@@ -83,7 +94,7 @@ class Groups(unittest.TestCase):
 
     def test_the_rebalance_that_the_first_page_shows(self) -> None:
         it = Conversation("app", partitions=4)
-        it.rebalance(of_orders(0, 1), of_orders(2, 3))
+        it.rebalance(count=4)
         shown = re.findall(r"^    (app  .*)$", README.read_text(encoding="utf-8"), re.M)
         self.assertEqual(it.lines, shown)
 
@@ -119,8 +130,24 @@ class Groups(unittest.TestCase):
         back = [(member["short_id"], member["is_away"]) for member in it.group()["members"]]
         self.assertEqual((away, back), ([("000001", True)], [("000002", False)]))
         # The epoch is as it was, so that was no rebalance.
-        self.assertIn("broker_rebalance_seconds_count 1", report.metrics(it.cluster, it.watch))
+        self.assertIn("broker_rebalance_seconds_count 1", it.metrics())
         self.assertEqual(it.lines[1], "g  000001  epoch 1  goes away, and instance i has 45 s to come back")
+
+    def test_members_that_wait_for_a_topic_are_said(self) -> None:
+        # The coordinator doesn't have the topic, or not under this id.
+        it = Conversation()
+        it.join(0, A, 1, {})
+        it.join(1, B, 2, {})
+        it.beat(5, A, 1, Told(0, A, 2))
+        for moment in (19, 21, 22):
+            it.now = moment
+            it.watch.expire()
+        line = f"waits for orders[0..1], which the coordinator assigns to nobody: does it have orders:{ORDERS}:2?"
+        self.assertEqual(it.lines[3:], [f"g  -  epoch 2  {line}"])
+        self.assertEqual(it.group()["waits_for"], {"orders": [[0, 1]]})
+        self.assertIn("broker_groups_waiting 1\n", it.metrics())
+        it.beat(23, A, 2, Told(0, A, 2, of_orders(0, 1)))
+        self.assertEqual((it.group()["waits_for"], it.group()["is_settled"]), (None, True))
 
     def test_what_is_known_during_a_rebalance(self) -> None:
         it = Conversation()
@@ -128,9 +155,10 @@ class Groups(unittest.TestCase):
         it.join(6, B, 2, of_orders())
         it.beat(10, A, 1, Told(0, A, 1, of_orders(0)))
         it.now = 10.25
-        member = {"client": "till", "instance": None, "is_away": False, "assignor": None, "topics": ["orders"]}
-        a = {"id": A, "short_id": "000001", "epoch": 1, "assigned": {"orders": [(0, 0)]}, "held": {"orders": [(0, 1)]}, "heard_seconds_ago": 0.2}
-        b = {"id": B, "short_id": "000002", "epoch": 2, "assigned": {}, "held": {}, "heard_seconds_ago": 4.2}
+        member = {"client": "till", "instance": None, "is_away": False, "assignor": None, "topics": ["orders"], "strange": ""}
+        a = {"id": A, "short_id": "000001", "epoch": 1, "assigned": {"orders": [[0, 0]]}, "held": {"orders": [[0, 1]]}}
+        a.update({"known_seconds": 10.2, "heard_seconds_ago": 0.2})
+        b = {"id": B, "short_id": "000002", "epoch": 2, "assigned": {}, "held": {}, "known_seconds": 4.2, "heard_seconds_ago": 4.2}
         self.assertEqual(
             it.group(),
             {
@@ -139,6 +167,11 @@ class Groups(unittest.TestCase):
                 "epoch": 2,
                 "is_settled": False,
                 "rebalancing_seconds": 4.2,
+                "changed_seconds_ago": 0.2,
+                "waits_for": None,
+                "more_members": 0,
+                "committed": {"orders": 1},
+                "lag": {"orders": 0},
                 "members": [{**member, **a}, {**member, **b}],
                 "offsets": {"orders": {"1": 7}},
             },
@@ -149,7 +182,7 @@ class Groups(unittest.TestCase):
         it.rebalance()
         it.join(12, B, 1, of_orders(0, 1))
         held = {member["short_id"]: member["held"] for member in it.group()["members"]}
-        self.assertEqual((it.group()["is_settled"], held), (False, {"000001": {"orders": [(0, 0)]}, "000002": {"orders": [(0, 1)]}}))
+        self.assertEqual((it.group()["is_settled"], held), (False, {"000001": {"orders": [[0, 0]]}, "000002": {"orders": [[0, 1]]}}))
         it.beat(13, A, 2, Told(25))
         self.assertEqual((it.group()["is_settled"], it.lines[-1]), (True, "g  settled after 1.0 s"))
 
@@ -164,8 +197,11 @@ class Groups(unittest.TestCase):
 
     def test_topics_that_were_not_named_are_left_out(self) -> None:
         it = Conversation()
-        it.beat(0, A, 0, Told(0, A, 1, frozenset([(uuid.UUID(int=5), 0), (ORDERS, 1), (ORDERS, 2)])), names=["orders", "others"])
-        self.assertEqual(it.lines, ["g  000001  epoch 1  joins; subscribes orders; is assigned orders[1]"])
+        it.beat(0, A, 0, Told(0, A, 1, {uuid.UUID(int=5): frozenset([0]), ORDERS: frozenset([1, 2])}), names=["orders", "others"])
+        strange = "00000000-0000-0000-0000-000000000005[0] orders[2]"
+        line = f"joins; subscribes orders; is assigned orders[1]; is assigned {strange}, which isn't known here: the coordinator has other topics"
+        self.assertEqual(it.lines, [f"g  000001  epoch 1  {line}"])
+        self.assertEqual(it.group()["members"][0]["strange"], strange)
 
     def test_metrics_after_a_rebalance(self) -> None:
         it = Conversation()
@@ -194,7 +230,7 @@ class Groups(unittest.TestCase):
             "broker_committed_offsets 1",
             'broker_connections{node="0"} 0',
         ]
-        lines = report.metrics(it.cluster, it.watch).splitlines()
+        lines = it.metrics().splitlines()
         self.assertEqual([line for line in wanted if line not in lines], [])
 
     def test_tables_are_bounded(self) -> None:
@@ -211,13 +247,14 @@ class Groups(unittest.TestCase):
 
 class Words(unittest.TestCase):
     def test_partitions(self) -> None:
-        rows: List[Tuple[List[Place], str]] = [
-            ([], "nothing"),
-            ([("b", 3), ("a", 0), ("a", 1), ("a", 5)], "a[0..1,5] b[3]"),
-            ([("a", 2 * number) for number in range(14)], "a[0,2,4,6,8,10,12,14,16,18,20,22,..]"),
-            ([(chr(97 + number), 0) for number in range(14)], "a[0] b[0] c[0] d[0] e[0] f[0] g[0] h[0] i[0] j[0] k[0] l[0] .."),
+        rows: List[Tuple[Dict[str, Iterable[int]], str]] = [
+            ({}, "nothing"),
+            ({"b": [3], "a": [0, 1, 5], "c": []}, "a[0..1,5] b[3]"),
+            ({"a": range(0, 28, 2)}, "a[0,2,4,6,8,10,12,14,16,18,20,22,..]"),
+            ({chr(97 + number): [0] for number in range(14)}, "a[0] b[0] c[0] d[0] e[0] f[0] g[0] h[0] i[0] j[0] k[0] l[0] .."),
         ]
-        self.assertEqual([in_words(partitions) for partitions, _ in rows], [text for _, text in rows])
+        sets = [Partitions({topic: frozenset(indexes) for topic, indexes in topics.items()}) for topics, _ in rows]
+        self.assertEqual([in_words(partitions) for partitions in sets], [text for _, text in rows])
 
     def test_texts_of_clients_are_printed_plainly(self) -> None:
         rows = [("orders-app", "orders-app"), ("a\tb\x1b[2J", "a\\u0009b\\u001b[2J"), ("é", "é"), ("x" * 70, "x" * 60 + "..")]

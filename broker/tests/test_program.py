@@ -13,6 +13,7 @@ import socket
 import struct
 import subprocess
 import sys
+import time
 import unittest
 import urllib.request
 from typing import IO, Iterator, List, Optional
@@ -74,6 +75,12 @@ class Broker:
             text: str = answer.read().decode()
             return text
 
+    def is_up(self, port: int) -> bool:
+        """Whether it says that the coordinator at a port can be reached."""
+        found = re.search(rf'^broker_coordinator_up{{coordinator="{HOST}:{port}"}} (\d)$', self.get("metrics"), re.M)
+        assert found is not None
+        return found[1] == "1"
+
     def children(self) -> List[int]:
         number = self.process.pid
         return [int(word) for word in pathlib.Path(f"/proc/{number}/task/{number}/children").read_text().split()]
@@ -90,17 +97,15 @@ def broker(*words: str) -> Iterator[Broker]:
 
 
 @contextlib.contextmanager
-def coordinator(*words: str) -> Iterator[int]:
-    """The port of `coord serve`."""
-    with free_port() as port:
-        command = [PROGRAM, "serve", "--port", str(port), "--workers", "1", "--shards", "1", *words]
-        process = subprocess.Popen(command, stdout=subprocess.PIPE, text=True)
-        assert process.stdout is not None
-        listens = process.stdout.readline() == f"listening {port}\n"
+def coordinator(port: int, *words: str) -> Iterator[None]:
+    """`coord serve` at a port."""
+    command = [PROGRAM, "serve", "--port", str(port), "--workers", "1", "--shards", "1", *words]
+    process = subprocess.Popen(command, stdout=subprocess.PIPE, text=True)
+    assert process.stdout is not None
     try:
-        if not listens:
+        if process.stdout.readline() != f"listening {port}\n":
             raise AssertionError("coord serve doesn't listen")
-        yield port
+        yield
     finally:
         process.terminate()
         process.communicate(timeout=SECONDS)
@@ -186,16 +191,21 @@ class Program(unittest.TestCase):
         self.assertEqual([(each["name"], {it.ports[each["node"]]}) for each in known], [(group, homes[group]) for group in GROUPS])
 
     @needs_program
-    def test_a_coordinator_that_ends_is_said(self) -> None:
-        with coordinator("--connections", "1", f"orders:{ORDERS}:2") as port, broker("--coordinator", f"{HOST}:{port}", f"orders:{ORDERS}:2") as it:
-            # It ends once the first connection has ended.
-            self.assertEqual((ask(it.ports[0], join("g")) or b"")[9:11], b"\0\0")
-            while ask(it.ports[0], join("g")) is not None:
-                pass
-            self.assertIn(f'broker_coordinator_up{{coordinator="{HOST}:{port}"}} 0', it.get("metrics"))
+    def test_a_coordinator_that_is_not_there_yet_or_not_any_more_is_said_although_no_client_comes(self) -> None:
+        with free_port() as port, broker("--coordinator", f"{HOST}:{port}", f"orders:{ORDERS}:2") as it:
+            states = [it.is_up(port)]
+            with coordinator(port, f"orders:{ORDERS}:2"):
+                while not it.is_up(port):
+                    time.sleep(0.01)
+                states.append((ask(it.ports[0], join("g")) or b"")[9:11] == b"\0\0")
+            while it.is_up(port):
+                time.sleep(0.01)
+            states.append(json.loads(it.get("groups"))["coordinators"][0]["is_there"])
             it.process.terminate()
             _, said = it.process.communicate(timeout=SECONDS)
-        self.assertIn(f"broker: the coordinator {HOST}:{port} can't be reached, and clients' connections are closed: ", said)
+        self.assertEqual(states, [False, True, False])
+        gone, there = (f"broker: the coordinator {HOST}:{port} {what}" for what in ("can't be reached", "is there again"))
+        self.assertEqual([line.split(",")[0] for line in said.splitlines()], [gone, there, gone])
 
     @needs_program
     def test_a_started_coordinator_that_ends_ends_the_front_end(self) -> None:

@@ -92,7 +92,7 @@ class Relay(unittest.IsolatedAsyncioTestCase):
             for text, why in NO_REQUESTS:
                 client = await it.client()
                 client.writer.write(data(text))
-                whys.append((text, await client.body(), it.said()[len(whys) :]))
+                whys.append((text, await client.body(), it.said[len(whys) :]))
         found = [(text, body, len(lines), why in lines[0]) for (text, body, lines), (_, why) in zip(whys, NO_REQUESTS)]
         self.assertEqual(found, [(text, None, 1, True) for text, _ in NO_REQUESTS])
 
@@ -112,7 +112,7 @@ class Relay(unittest.IsolatedAsyncioTestCase):
                 gone.close()
             self.assertIsNotNone(await (await it.client()).ask(VERSIONS.format(1)))
             await it.wait_for(lambda: cluster.nodes[0].connections == 1)
-        self.assertEqual(it.said(), [])
+        self.assertEqual(it.said, [])
 
     async def test_a_client_that_closes_closes_its_connection_to_the_coordinator(self) -> None:
         async with front() as it:
@@ -120,7 +120,7 @@ class Relay(unittest.IsolatedAsyncioTestCase):
             await client.ask(HEARTBEAT.format(1))
             client.close()
             await asyncio.wait_for(it.coordinator.ended.wait(), 10)
-        self.assertEqual(it.said(), [])
+        self.assertEqual(it.said, [])
 
     async def test_a_coordinator_that_closes_closes_the_client_behind_the_replies_before(self) -> None:
         def answer(number: int, body: bytes) -> Optional[bytes]:
@@ -132,7 +132,7 @@ class Relay(unittest.IsolatedAsyncioTestCase):
                 client.send(text)
             bodies = [await client.body() for _ in range(3)]
         self.assertEqual([body and body[3] for body in bodies], [1, 2, None])
-        self.assertIn("the coordinator closed the connection instead of an answer", it.said()[0])
+        self.assertIn("the coordinator closed the connection instead of an answer", it.said[0])
 
     async def test_a_coordinator_that_ends_closes_quiet_clients(self) -> None:
         async with front() as it:
@@ -140,7 +140,7 @@ class Relay(unittest.IsolatedAsyncioTestCase):
             await it.wait_for(lambda: it.coordinator.opened == 1)
             it.coordinator.writers[0].close()
             self.assertEqual(await client.body(), None)
-            self.assertIn("the coordinator closed its side", it.said()[0])
+            self.assertIn("the coordinator closed its side", it.said[0])
 
     async def test_a_coordinator_that_is_not_there_is_said_once_a_time(self) -> None:
         cluster = small_cluster()
@@ -151,7 +151,7 @@ class Relay(unittest.IsolatedAsyncioTestCase):
                 self.assertEqual([await (await it.client()).body() for _ in range(2)], [None, None])
                 cluster.nodes[0].coordinator.host, cluster.nodes[0].coordinator.port = there.host, there.port
             self.assertIsNotNone(await (await it.client()).ask(VERSIONS.format(1)))
-        said = it.said()
+        said = it.said
         self.assertEqual((len(said), "can't be reached" in said[0], "is there again" in said[1]), (2, True, True))
 
     async def test_where_no_file_is_left_for_the_coordinator_the_client_is_closed(self) -> None:
@@ -160,7 +160,7 @@ class Relay(unittest.IsolatedAsyncioTestCase):
             with mock.patch.object(link, "socket", no_files):
                 self.assertIsNone(await (await it.client()).body())
             self.assertIsNotNone(await (await it.client()).ask(VERSIONS.format(1)))
-            self.assertIn("none to the coordinator can be made for it: Too many open files", it.said()[0])
+            self.assertIn("none to the coordinator can be made for it: Too many open files", it.said[0])
 
     async def test_the_end_waits_for_nobody(self) -> None:
         async def ask_on(client: Client) -> None:
@@ -184,7 +184,7 @@ class Relay(unittest.IsolatedAsyncioTestCase):
                 clients = [await it.client() for _ in range(3)]
                 await clients[1].ask(VERSIONS.format(1))
                 clients[2].send(VERSIONS.format(2))
-                await it.wait_for(lambda: "further ones wait" in "".join(it.said()))
+                await it.wait_for(lambda: "further ones wait" in "".join(it.said))
                 opened = it.coordinator.opened
                 clients[0].close()
                 self.assertIsNotNone(await clients[2].body())

@@ -6,7 +6,7 @@ import asyncio
 import contextlib
 import json
 import unittest
-from typing import AsyncIterator, Dict, Tuple
+from typing import Any, AsyncIterator, Dict, Tuple
 
 from broker.acceptor import listen
 from broker.status import Status
@@ -51,7 +51,7 @@ class TheStatus(unittest.IsolatedAsyncioTestCase):
             first, fields, body = await get(port, "/groups")
         known = json.loads(body)
         self.assertEqual((first, fields["Content-Type"], len(body)), ("HTTP/1.1 200 OK", "application/json", int(fields["Content-Length"])))
-        self.assertEqual(known["lines"], REBALANCE)
+        self.assertEqual([(each["seconds_ago"], each["line"]) for each in known["lines"]], [*zip((11, 5, 1, 0.5, 0, 0), REBALANCE)])
         held = {member["short_id"]: (member["epoch"], member["held"]) for member in known["groups"][0]["members"]}
         self.assertEqual(held, {"000001": (2, {"orders": [[0, 0]]}), "000002": (2, {"orders": [[1, 1]]})})
 
@@ -81,12 +81,12 @@ class TheStatus(unittest.IsolatedAsyncioTestCase):
                 events.append(await self.event(reader))
             writer.close()
         self.assertIn(b"Content-Type: text/event-stream\r\n", head)
-        self.assertEqual((events[0]["lines"], events[-1]["lines"]), ([], REBALANCE))
+        self.assertEqual((events[0]["lines"], [each["line"] for each in events[-1]["lines"]]), ([], REBALANCE))
 
     @staticmethod
-    async def event(reader: asyncio.StreamReader) -> Dict[str, object]:
+    async def event(reader: asyncio.StreamReader) -> Dict[str, Any]:
         text = await asyncio.wait_for(reader.readuntil(b"\n\n"), SECONDS)
-        found: Dict[str, object] = json.loads(text[len(b"data: ") :])
+        found: Dict[str, Any] = json.loads(text[len(b"data: ") :])
         return found
 
     async def test_other_requests_are_refused(self) -> None:
