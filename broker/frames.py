@@ -6,7 +6,7 @@ import asyncio
 import contextlib
 import dataclasses
 import struct
-from typing import Callable, ContextManager, Optional
+from typing import Callable, ContextManager, Iterator, List, Optional
 
 from broker.fields import NO_TAGS, Reader, Unreadable, int32
 from broker.turns import Pace
@@ -14,6 +14,8 @@ from broker.versions import API_VERSIONS, SPOKEN
 
 # A request begins with API key, API version and correlation id.
 REQUEST_SIZES = range(8, (1 << 20) + 1)
+# A reply's body, in pieces: a long one is never copied whole.
+Reply = List[bytes]
 # As much of a frame as a stream reads ahead in any case.
 LONG = 1 << 16
 REPLY_SIZES = range(4, (8 << 20) + 1)
@@ -45,6 +47,20 @@ def framed(body: bytes) -> bytes:
     return int32(len(body)) + body
 
 
+def framed_in_blocks(reply: Reply) -> Iterator[bytes]:
+    """A reply's frame, in blocks that have more than a few bytes."""
+    block = [int32(sum(map(len, reply)))]
+    size = 0
+    for piece in reply:
+        block.append(piece)
+        size += len(piece)
+        if size > LONG:
+            yield b"".join(block)
+            block, size = [], 0
+    if block:
+        yield b"".join(block)
+
+
 @dataclasses.dataclass
 class Request:
     """A request's header, and a reader of the fields behind it."""
@@ -64,10 +80,10 @@ class Request:
     def pace(self) -> Pace:
         return self.fields.pace
 
-    def reply(self, fields: bytes) -> bytes:
+    def reply(self, *fields: bytes) -> Reply:
         """A reply's body. (The header of an ApiVersions reply has no tags in any version, so that all can read it.)"""
         has_tags = self.version >= SPOKEN[self.key].flexible and self.key != API_VERSIONS
-        return int32(self.correlation) + (NO_TAGS if has_tags else b"") + fields
+        return [int32(self.correlation) + (NO_TAGS if has_tags else b""), *fields]
 
 
 def read_request(body: bytes, pace: Pace) -> Request:

@@ -7,15 +7,16 @@ committed before this program began, or past it, isn't known.
 from __future__ import annotations
 
 import dataclasses
-from typing import Dict, Iterator, Sequence, Tuple
+from typing import Dict, Iterator, NamedTuple, Sequence, Tuple
 
 # All entries together, and the bytes of all their texts.
 MOST_OFFSETS = 1_000_000
 MOST_TEXT_BYTES = 64 << 20
 
 
-@dataclasses.dataclass(frozen=True)
-class Committed:
+class Committed(NamedTuple):
+    """(A tuple of such fields costs no time at garbage collections, of which there would be some for a million of them.)"""
+
     offset: int
     leader_epoch: int
     metadata: str

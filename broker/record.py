@@ -5,7 +5,7 @@ from __future__ import annotations
 import time
 from typing import Iterable, Optional
 
-from broker.frames import framed
+from broker.frames import Reply, framed
 from broker.output import Output, Write, say
 from broker.topics import Topic
 
@@ -34,8 +34,9 @@ class Record:
     def request(self, connection: int, body: bytes) -> None:
         self._of(connection, "in", body=body)
 
-    def reply(self, connection: int, body: bytes) -> None:
-        self._of(connection, "out", body=body)
+    def reply(self, connection: int, reply: Reply) -> None:
+        if self._output:
+            self._of(connection, "out", body=b"".join(reply))
 
     def closed(self, connection: int) -> None:
         self._of(connection, "close")

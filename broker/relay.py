@@ -16,7 +16,7 @@ from broker.apis import ANSWERS
 from broker.call import Call
 from broker.cluster import Cluster, Node
 from broker.fields import Unreadable
-from broker.frames import BadFrame, framed, read_body, read_request
+from broker.frames import BadFrame, Reply, framed_in_blocks, read_body, read_request
 from broker.link import Connection, CoordinatorClosed, Link
 from broker.room import CutOff
 from broker.streams import close, taken
@@ -86,8 +86,7 @@ class Relay:
             if body is None:
                 return
             self.cluster.record.request(self.number, body)
-            writer.write(framed(await self._answer(body, link)))
-            await self._is_taken(writer)
+            await self._send(writer, await self._answer(body, link))
 
     async def _next(self, reader: asyncio.StreamReader, writer: asyncio.StreamWriter, link: Link) -> Optional[bytes]:
         """The next request's body, or None where the client has closed. Raises Closed where the coordinator has."""
@@ -102,7 +101,7 @@ class Relay:
             raise Closed(f"it said nothing for {IDLE_SECONDS} s")
         raise Closed("the coordinator closed its side" if link.arriving.result() is None else "the coordinator wasn't asked")
 
-    async def _answer(self, body: bytes, link: Link) -> bytes:
+    async def _answer(self, body: bytes, link: Link) -> Reply:
         request = read_request(body, Pace(self.cluster.turns))
         if request.key not in ANSWERS:
             raise Closed(f"it asked for {request.name}, which nobody can do here")
@@ -115,14 +114,15 @@ class Relay:
         self.cluster.record.reply(self.number, reply)
         return reply
 
-    async def _is_taken(self, writer: asyncio.StreamWriter) -> None:
-        """Waits until the client has read its reply. Until then none of its requests is."""
-        size = writer.transport.get_write_buffer_size()
-        if not size:
-            return
-        with self.cluster.room.held(writer, size):
-            try:
-                await taken(writer, UNREAD_SECONDS)
-            except asyncio.TimeoutError:
-                writer.transport.abort()
-                raise Closed(f"it read none of its replies for {UNREAD_SECONDS} s") from None
+    async def _send(self, writer: asyncio.StreamWriter, reply: Reply) -> None:
+        """Sends a reply, and waits until the client has read it. Until then none of its requests is."""
+        with self.cluster.room.held(writer, sum(map(len, reply))):
+            for block in framed_in_blocks(reply):
+                if writer.transport.is_closing():
+                    return
+                writer.write(block)
+                try:
+                    await taken(writer, UNREAD_SECONDS)
+                except asyncio.TimeoutError:
+                    writer.transport.abort()
+                    raise Closed(f"it read none of its replies for {UNREAD_SECONDS} s") from None

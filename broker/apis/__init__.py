@@ -1,4 +1,4 @@
-"""The APIs. Each module has a function `answer`, which makes the reply to one request.
+"""The APIs. Each module has a function `answer`, which makes the reply to one request, in pieces.
 
 What stands behind a request's last field isn't looked at, as in Kafka's broker: librdkafka leaves three bytes there where it asks for the
 metadata of all topics. The coordinator does look at the two APIs that are its own.
@@ -21,8 +21,9 @@ from broker.apis import (
     offset_for_leader_epoch,
 )
 from broker.call import Call
+from broker.frames import Reply
 
-ANSWERS: Dict[int, Callable[[Call], Awaitable[bytes]]] = {
+ANSWERS: Dict[int, Callable[[Call], Awaitable[Reply]]] = {
     versions.API_VERSIONS: api_versions.answer,
     versions.METADATA: metadata.answer,
     versions.FIND_COORDINATOR: find_coordinator.answer,

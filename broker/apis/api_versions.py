@@ -5,13 +5,14 @@ from __future__ import annotations
 from broker import codes
 from broker.call import Call
 from broker.fields import NO_TAGS, array, compact_array, int16, int32
+from broker.frames import Reply
 from broker.versions import SPOKEN
 
 NO_THROTTLE = int32(0)
 FLEXIBLE = 3
 
 
-async def answer(call: Call) -> bytes:
+async def answer(call: Call) -> Reply:
     request, version = call.request, call.request.version
     rows = [int16(key) + int16(spoken.lowest) + int16(spoken.highest) for key, spoken in sorted(SPOKEN.items())]
     if not SPOKEN[request.key].has(version):

@@ -9,12 +9,13 @@ from __future__ import annotations
 from broker import codes
 from broker.call import Call
 from broker.fields import NO_TAGS, NULL, compact_nullable_string, int8, int16, int32
+from broker.frames import Reply
 from broker.heartbeats import Asked, Told, as_version_0, read_reply, read_request
 
 NO_EPOCH, NO_INTERVAL, NO_ASSIGNMENT = int32(0), int32(0), int8(-1)
 
 
-async def answer(call: Call) -> bytes:
+async def answer(call: Call) -> Reply:
     request = call.request
     asked = await read_request(request)
     # (Null and empty both mean that there is none.)
@@ -24,10 +25,10 @@ async def answer(call: Call) -> bytes:
         return refuse(call, asked, codes.NOT_COORDINATOR, "another broker coordinates this group")
     reply = await call.link.ask(request.body if request.version == 0 else as_version_0(request.body, asked))
     call.watch.heartbeat(request.client, asked, await read_reply(reply, request.pace))
-    return reply
+    return [reply]
 
 
-def refuse(call: Call, asked: Asked, code: int, why: str) -> bytes:
+def refuse(call: Call, asked: Asked, code: int, why: str) -> Reply:
     """A refusal of this broker's own."""
     call.watch.heartbeat(call.request.client, asked, Told(code))
     no_member = NULL

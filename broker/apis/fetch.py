@@ -10,6 +10,7 @@ from broker import codes
 from broker.call import Call
 from broker.cluster import Cluster
 from broker.fields import Reader, array, int16, int32, int64, string
+from broker.frames import Reply
 from broker.log import FIRST_OFFSET
 
 # Whatever the client allows.
@@ -28,7 +29,7 @@ class Asked:
     most_bytes: int
 
 
-async def answer(call: Call) -> bytes:
+async def answer(call: Call) -> Reply:
     fields, version = call.request.fields, call.request.version
     _replica = fields.int32()
     wait_ms, _least_bytes, most_bytes = fields.int32(), fields.int32(), fields.int32()

@@ -5,12 +5,13 @@ from __future__ import annotations
 from broker import codes
 from broker.call import Call
 from broker.fields import int16, int32, nullable_string, string
+from broker.frames import Reply
 
 GROUP = 0
 NO_NODE = int32(-1) + string("") + int32(-1)
 
 
-async def answer(call: Call) -> bytes:
+async def answer(call: Call) -> Reply:
     fields, version = call.request.fields, call.request.version
     key = fields.string()
     kind = fields.int8() if version >= 1 else GROUP

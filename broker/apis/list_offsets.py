@@ -8,6 +8,7 @@ from broker import codes
 from broker.call import Call
 from broker.cluster import LEADER_EPOCH
 from broker.fields import array, int16, int32, int64, string
+from broker.frames import Reply
 from broker.log import FIRST_OFFSET, Log
 
 LATEST, EARLIEST = -1, -2
@@ -15,7 +16,7 @@ LATEST, EARLIEST = -1, -2
 NONE = -1
 
 
-async def answer(call: Call) -> bytes:
+async def answer(call: Call) -> Reply:
     fields, version = call.request.fields, call.request.version
     _replica = fields.int32()
     if version >= 2:

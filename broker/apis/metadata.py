@@ -8,7 +8,8 @@ from typing import NamedTuple, Optional
 from broker import codes
 from broker.call import Call
 from broker.cluster import CLUSTER_ID, LEADER_EPOCH, Node
-from broker.fields import NO_TAGS, Reader, boolean, compact_array, compact_nullable_string, compact_string, int16, int32
+from broker.fields import NO_TAGS, Reader, boolean, compact_array, compact_nullable_string, compact_string, int16, int32, unsigned_varint
+from broker.frames import Reply
 from broker.topics import Topic
 
 NO_ID = uuid.UUID(int=0)
@@ -23,7 +24,7 @@ class Asked(NamedTuple):
     name: Optional[str]
 
 
-async def answer(call: Call) -> bytes:
+async def answer(call: Call) -> Reply:
     fields, version, cluster = call.request.fields, call.request.version, call.cluster
     asked = await fields.compact_nullable_array(lambda: _asked(fields, version))
     _may_create_topics = fields.boolean()
@@ -39,8 +40,8 @@ async def answer(call: Call) -> bytes:
     each_once = {it.id if it.name is None else it.name: it for it in asked}.values()
     found = [(it, cluster.topics.by_id.get(it.id) if it.name is None else cluster.topics.by_name.get(it.name)) for it in each_once]
     async with cluster.making(sum(topic.count if topic else 1 for _, topic in found)):
-        reply += compact_array([await _topic(call, *each) for each in found])
-        return call.request.reply(reply + (NOT_TOLD if version <= 10 else b"") + NO_TAGS)
+        topics = [await _topic(call, *each) for each in found]
+        return call.request.reply(reply, unsigned_varint(len(topics) + 1), *topics, (NOT_TOLD if version <= 10 else b"") + NO_TAGS)
 
 
 def _asked(fields: Reader, version: int) -> Asked:

@@ -10,9 +10,10 @@ from broker import codes
 from broker.call import Call
 from broker.commits import Asked, Result, Topic, read_reply, read_request
 from broker.fields import NO_TAGS, compact_array, compact_string, int16, int32
+from broker.frames import Reply
 
 
-async def answer(call: Call) -> bytes:
+async def answer(call: Call) -> Reply:
     offsets = call.cluster.offsets
     asked = await read_request(call.request.fields)
     partitions = asked.partitions()
@@ -26,10 +27,10 @@ async def answer(call: Call) -> bytes:
     results = await read_reply(reply, pace)
     await pace.all(offsets.store(asked.group, *partition) for partition, result in zip(partitions, results) if result.code == codes.NONE)
     call.watch.commit(asked, results)
-    return reply
+    return [reply]
 
 
-def refuse(call: Call, asked: Asked, code: int) -> bytes:
+def refuse(call: Call, asked: Asked, code: int) -> Reply:
     """A refusal of this broker's own: one code for all partitions."""
     call.watch.commit(asked, [Result(each.topic, each.partition, code) for each in asked.partitions()])
     return call.request.reply(int32(0) + compact_array(_refused(topic, code) for topic in asked.topics) + NO_TAGS)

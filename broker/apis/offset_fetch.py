@@ -6,7 +6,8 @@ from typing import List, NamedTuple, Optional, Sequence
 
 from broker import codes
 from broker.call import Call
-from broker.fields import NO_TAGS, Reader, Unreadable, compact_array, compact_nullable_string, compact_string, int16, int32, int64
+from broker.fields import NO_TAGS, Reader, Unreadable, compact_array, compact_nullable_string, compact_string, int16, int32, int64, unsigned_varint
+from broker.frames import Reply
 from broker.offsets import NOTHING, Committed, OfTopic
 
 
@@ -22,7 +23,7 @@ class AskedGroup(NamedTuple):
     topics: Optional[List[AskedTopic]]
 
 
-async def answer(call: Call) -> bytes:
+async def answer(call: Call) -> Reply:
     fields = call.request.fields
     groups = await fields.nested_compact_array(lambda: _group(fields))
     _want_apart([group.name for group in groups])
@@ -30,8 +31,8 @@ async def answer(call: Call) -> bytes:
     _wants_stable = fields.boolean()
     fields.tags()
     async with call.cluster.making(sum(_entries(call, group) for group in groups)):
-        replies = [await _group_reply(call, group) for group in groups]
-        return call.request.reply(int32(0) + compact_array(replies) + NO_TAGS)
+        pieces = [piece for group in groups for piece in await _group_reply(call, group)]
+        return call.request.reply(int32(0) + unsigned_varint(len(groups) + 1), *pieces, NO_TAGS)
 
 
 async def _group(fields: Reader) -> AskedGroup:
@@ -64,15 +65,15 @@ def _entries(call: Call, group: AskedGroup) -> int:
     return 1 + sum(1 + len(topic.partitions) for topic in group.topics)
 
 
-async def _group_reply(call: Call, group: AskedGroup) -> bytes:
+async def _group_reply(call: Call, group: AskedGroup) -> List[bytes]:
     await call.request.pace.pause()
     if not call.is_coordinator_of(group.name):
-        return compact_string(group.name) + compact_array([]) + int16(codes.NOT_COORDINATOR) + NO_TAGS
+        return [compact_string(group.name) + compact_array([]) + int16(codes.NOT_COORDINATOR) + NO_TAGS]
     topics = group.topics
     if topics is None:
         topics = [AskedTopic(topic, sorted(stored.entries)) for topic, stored in sorted(call.cluster.offsets.of_group(group.name).items())]
-    replies = [await _topic_reply(call, group.name, topic) for topic in topics]
-    return compact_string(group.name) + compact_array(replies) + int16(codes.NONE) + NO_TAGS
+    pieces = [await _topic_reply(call, group.name, topic) for topic in topics]
+    return [compact_string(group.name) + unsigned_varint(len(topics) + 1), *pieces, int16(codes.NONE) + NO_TAGS]
 
 
 async def _topic_reply(call: Call, group: str, topic: AskedTopic) -> bytes:

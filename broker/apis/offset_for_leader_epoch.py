@@ -6,11 +6,12 @@ from broker import codes
 from broker.call import Call
 from broker.cluster import LEADER_EPOCH
 from broker.fields import array, int16, int32, int64, string
+from broker.frames import Reply
 
 UNDEFINED = -1
 
 
-async def answer(call: Call) -> bytes:
+async def answer(call: Call) -> Reply:
     fields, version = call.request.fields, call.request.version
     if version >= 3:
         _replica = fields.int32()

@@ -35,7 +35,7 @@ def answer(cluster: Cluster, text: str, node: int = 0) -> bytes:
     request = read_request(data(text), Pace(cluster.turns))
     nobody: Any = None
     call = Call(request, cluster, cluster.nodes[node], nobody, Watch(cluster.topics, lambda _: None))
-    return asyncio.run(ANSWERS[request.key](call))  # type: ignore[arg-type]
+    return b"".join(asyncio.run(ANSWERS[request.key](call)))  # type: ignore[arg-type]
 
 
 def five_seconds_later() -> Cluster:
