@@ -2,7 +2,7 @@
 
 import random
 import time
-from typing import Any, Dict, Union
+from typing import Any, Dict, Sequence, Union
 
 from clients.consumers import Consumers
 from clients.log import Beat, Committing
@@ -71,20 +71,22 @@ def cuts(t: Trial) -> None:
     t.quiet(BOTH, "the reply that gives partitions is lost", moment)
     lose_a_joins_reply(t)
     moment = time.time()
-    t.stand.tell_relay("cut-all")
-    time.sleep(4 * INTERVAL)
+    wait_for_other_connections(t, "cut-all", ("c1", "c2", "c4"))
     t.check(not t.problem(BOTH) and not t.of("LOST", since=moment), "all connections are cut at once: nothing is lost")
 
 
 def cut_in_steady_state(t: Trial, kind: str) -> None:
-    before = {it.connection for it in t.exchanges("c1")}
     moment = time.time()
-    t.stand.tell_relay(f"cut c1 {kind}")
-    time.sleep(3 * INTERVAL)
-    new = {it.connection for it in t.exchanges("c1")} - before
+    wait_for_other_connections(t, f"cut c1 {kind}", ("c1",))
     codes = {it.told.code for it in t.heartbeats(since=moment)}
-    goes_on = bool(new) and not t.changes(moment) and codes == {0}
-    t.check(goes_on, f"cut {kind}: c1 goes on over another connection, nothing moves, heartbeat codes {codes}")
+    t.check(not t.changes(moment) and codes == {0}, f"cut {kind}: c1 goes on over another connection, nothing moves, heartbeat codes {codes}")
+
+
+def wait_for_other_connections(t: Trial, line: str, names: Sequence[str]) -> None:
+    """Cuts, and waits until each of these clients was answered twice over connections that it didn't have. (What moves does so by then.)"""
+    before = {it.connection for it in t.exchanges()}
+    t.stand.tell_relay(line)
+    t.wait_for(lambda: all(sum(it.connection not in before for it in t.heartbeats(name)) > 1 for name in names), 90, f"{line}: all go on")
 
 
 def lose_a_joins_reply(t: Trial) -> None:
