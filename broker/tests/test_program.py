@@ -4,6 +4,7 @@ where BROKER_TEST_LIBRARY names libmigwelun.so."""
 from __future__ import annotations
 
 import contextlib
+import fcntl
 import json
 import os
 import pathlib
@@ -20,9 +21,12 @@ from typing import IO, Iterator, List, Optional
 
 from broker.starter import free_port
 from broker.tests.support import HOST, ORDERS, SECONDS, data
+from broker.tests.test_relay import WITH_REGEX
 
 TOP = pathlib.Path(__file__).resolve().parents[2]
 CLIENT = TOP / "examples/client.py"
+# Linux' number for it, which Python has from version 3.10 on, and a page.
+F_SETPIPE_SZ, PIPE_BYTES = 1031, 4096
 PROGRAM = os.environ.get("BROKER_TEST_PROGRAM", "")
 COORDINATORS = 3
 GROUPS = [f"group-{number}" for number in range(9)]
@@ -151,11 +155,28 @@ class Program(unittest.TestCase):
                 (["--start", "--program", "/nowhere", "--port", "0"], "/nowhere can't be started"),
                 (["--start", "--port", str(taken.getsockname()[1])], "Address already in use"),
                 (["--embedded", "--library", "/nowhere", "--port", "0"], "tools/build-library makes it"),
+                (["--start", "--record", "/nowhere/record", "--port", "0"], "No such file or directory: '/nowhere/record'"),
             ]
             for words, why in rows:
                 command = [sys.executable, "-B", "-m", "broker", *words, f"t:{ORDERS}:2"]
                 ran = subprocess.run(command, cwd=TOP, capture_output=True, text=True, timeout=SECONDS, check=False)
                 self.assertEqual((ran.returncode, ran.stdout, ran.stderr.count("\n"), why in ran.stderr), (1, "", 1, True), ran.stderr)
+
+    def test_outputs_that_nobody_reads_hold_nobody_up(self) -> None:
+        # A coordinator that answers nothing. A request with a regular expression is refused before it, which a line on standard output
+        # says, and the end of a connection with other bytes one on standard error.
+        with socket.create_server((HOST, 0), backlog=200) as silent:
+            with broker("--coordinator", f"{HOST}:{silent.getsockname()[1]}", f"orders:{ORDERS}:2") as it:
+                assert it.process.stderr is not None
+                for pipe in (it.process.stdout, it.process.stderr):
+                    fcntl.fcntl(pipe, F_SETPIPE_SZ, PIPE_BYTES)
+                codes = {(ask(it.ports[0], WITH_REGEX) or b"")[9:11] for _ in range(100)}
+                closed = {ask(it.ports[0], "ffff ffff ffff ffff ffff ffff") for _ in range(60)}
+                metrics = it.get("metrics").splitlines()
+                it.process.terminate()
+                status = it.process.wait(SECONDS)
+        self.assertEqual((codes, closed, status), ({data("002a")}, {None}, 0))
+        self.assertIn('broker_heartbeats_total{code="42",error="INVALID_REQUEST"} 100', metrics)
 
     @needs_program
     def test_two_members_of_another_hand(self) -> None:

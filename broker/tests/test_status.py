@@ -89,6 +89,17 @@ class TheStatus(unittest.IsolatedAsyncioTestCase):
         found: Dict[str, Any] = json.loads(text[len(b"data: ") :])
         return found
 
+    async def test_the_oldest_connection_gives_way(self) -> None:
+        async with status(Conversation()) as port:
+            watchers = [await asyncio.open_connection(HOST, port) for _ in range(70)]
+            for _, writer in watchers[:64]:
+                writer.write(b"GET /events HTTP/1.1\r\n\r\n")
+            first, _, _ = await get(port, "/metrics")
+            ended = await asyncio.wait_for(watchers[0][0].read(), SECONDS)
+            for _, writer in watchers:
+                writer.close()
+        self.assertEqual((first, ended == b"" or ended.startswith(b"HTTP/1.1 200 OK")), ("HTTP/1.1 200 OK", True))
+
     async def test_other_requests_are_refused(self) -> None:
         rows = [
             (b"GET /other HTTP/1.1\r\n\r\n", "HTTP/1.1 404 Not Found"),
