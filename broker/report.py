@@ -17,7 +17,7 @@ from broker.watch import Watch
 from broker.words import short_id
 
 # What a page shows: so many groups, members of each, and offsets of topics that have no more partitions.
-SHOWN_GROUPS, SHOWN_MEMBERS, SHOWN_PARTITIONS = 50, 200, 128
+SHOWN_GROUPS, SHOWN_MEMBERS, SHOWN_PARTITIONS = 50, 200, 48
 UNKNOWN = [
     "The coordinator isn't asked for its state. All this is read off the heartbeats and commits that passed here since this program began.",
     "A group's epoch is the greatest epoch of its members that was seen; its target assignment isn't known.",

@@ -13,7 +13,7 @@ from typing import Deque, Iterable, List, TypeVar
 
 Item = TypeVar("Item")
 # How long a piece and the pause behind it take, and how long work goes on before it has to take turns. An item takes some microseconds.
-PIECE_SECONDS, PAUSE_SECONDS, FREE_SECONDS = 0.002, 0.001, 0.001
+PIECE_SECONDS, PAUSE_SECONDS, FREE_SECONDS = 0.002, 0.001, 0.0002
 ITEMS = 16
 
 

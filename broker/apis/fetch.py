@@ -3,8 +3,7 @@
 from __future__ import annotations
 
 import asyncio
-import dataclasses
-from typing import List
+from typing import List, NamedTuple
 
 from broker import codes
 from broker.call import Call
@@ -15,14 +14,13 @@ from broker.log import FIRST_OFFSET
 
 # Whatever the client allows.
 MOST_WAIT_SECONDS = 5.0
-MOST_BYTES = 512 << 10
+MOST_BYTES = 256 << 10
 # There are no fetch sessions: every request says all that it wants.
 NO_SESSION = int32(0)
 NO_OFFSET = -1
 
 
-@dataclasses.dataclass
-class Asked:
+class Asked(NamedTuple):
     topic: str
     partition: int
     offset: int

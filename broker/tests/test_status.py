@@ -5,6 +5,7 @@ from __future__ import annotations
 import asyncio
 import contextlib
 import json
+import re
 import unittest
 from typing import Any, AsyncIterator, Dict, Tuple
 
@@ -66,8 +67,8 @@ class TheStatus(unittest.IsolatedAsyncioTestCase):
     async def test_the_page_stands_alone(self) -> None:
         async with status(Conversation()) as port:
             first, fields, body = await get(port, "/?x=y")
-        links = [word for word in (b" src=", b" href=", b"@import", b"url(", b"http://", b"https://") if word in body]
-        self.assertEqual((first, fields["Content-Type"], links), ("HTTP/1.1 200 OK", "text/html; charset=utf-8", []))
+        links = re.findall(rb"(?:src|href)=\"([^\"]*)\"|(@import|url\(|https?://)", body)
+        self.assertEqual((first, fields["Content-Type"], links), ("HTTP/1.1 200 OK", "text/html; charset=utf-8", [(b"groups", b""), (b"metrics", b"")]))
 
     async def test_events_follow_what_happens(self) -> None:
         it = Conversation()
