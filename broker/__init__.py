@@ -7,8 +7,10 @@
     apis                              a module for each API that is answered
     heartbeats, commits               the messages that the coordinator answers, as far as they are read here
     link, relay, embedded             a connection to the coordinator, a client's, and a coordinator in this process
-    acceptor, streams                 the taking of connections in order, and bounds on how long streams may take
-    groups, watch, words, metrics     what the frames tell of the groups, in words and numbers
-    status                            the page, and the same as JSON and for Prometheus
+    acceptor, streams, room           the taking of connections in order, and bounds on how long streams may take and how much waits
+    turns                             long work in pieces, so that nobody else waits for it
+    output, record                    lines by a thread of their own, and the record of all frames
+    partitions, groups, watch         what the frames tell of the groups
+    words, metrics, report, status    the same in words and numbers, as JSON, and as a page
     starter, command_line, __main__   the program
 """
