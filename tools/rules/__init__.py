@@ -9,7 +9,6 @@
     world      one coordinator, its clients, and pools of messages that are delivered in any order
     lines      the lines of scripts of worlds: what each asks for and prints, and why one can't be read
     compare    runs the program over scripts, and compares what it prints
-    timing     runs the program over lines, and takes its processor time
 
 The rules are those of KIP-848 and of the Kafka protocol guide, and this project's own where these leave a choice
 (docs/MODEL.md). Nothing here is taken from the program.
