@@ -20,7 +20,7 @@ AHEAD, IN_TURN, BESIDE = "ahead", "in turn", "beside"
 # What runs beside others leaves the processors to them.
 NICE = {AHEAD: 10, IN_TURN: 0, BESIDE: 10}
 # How long a check may take, in seconds.
-LIMIT = 3_600
+LIMIT = 7_200
 
 
 @dataclasses.dataclass
@@ -36,7 +36,8 @@ class Check:
 
     @property
     def name(self) -> str:
-        return " ".join(it for it in self.words if it not in (PROGRAM, SEED)).replace(BY_RATTLE, "(built by rattle)")
+        shown = {BY_RATTLE: "(built by rattle)", SEED: "(fresh)"}
+        return " ".join(shown.get(it, it) for it in self.words if it != PROGRAM)
 
 
 CHECKS = (
@@ -114,8 +115,9 @@ def run(it: Check, seed: str) -> None:
         ran = commands.run([f"{ROOT}/tools/{words[0]}", *words[1:]], ROOT, limit=LIMIT, nice=NICE[it.when])
     except commands.Stopped:
         return
-    it.passed, it.failed = counts_in(ran.lines()[-1])
-    for line in ran.lines()[:-1]:
+    lines = ran.lines()
+    it.passed, it.failed = counts_in(lines[-1])
+    for line in lines[:-1] if LAST_LINE.fullmatch(lines[-1]) else lines:
         if it.failed or ran.status or "not run" in line:
             say(f"{it.name}: {line}")
     ended(it, ran.status, began, f", seed {seed}" if SEED in it.words else "")
