@@ -70,15 +70,10 @@ class Over(crates.Tree):
     def library(self, crate: str) -> str:
         return self.home.library(crate) if self.is_by_ci else f"{self.home.folder(crate)}/out/proved/{crate}.rlib"
 
-    def note(self, crate: str) -> pathlib.Path:
-        return pathlib.Path(f"{self.library(crate)}.sum")
-
     def is_kept(self, crate: str) -> bool:
         """Whether there is a library of the crate's sources and of those below it as they are in the copy."""
-        try:
-            return self.is_by_ci or os.path.isdir(self.library(crate)) and self.note(crate).read_text() == sources.sum_of(self, crate, self.kit)
-        except OSError:
-            return False
+        library, note = self.library(crate), pathlib.Path(f"{self.library(crate)}.sum")
+        return self.is_by_ci or os.path.isdir(library) and note.is_file() and note.read_text() == sources.sum_of(self, crate, self.kit)
 
     def build_words(self, crate: str, made: str) -> List[str]:
         """The words that prove a crate and build it: a library for the crates above, or what is linked into the program, or the C library."""
@@ -97,9 +92,8 @@ class Build:
         self.over, self.goal, self.made = Over(tree, copied, crates.kit_folder(), goal), goal, made
         self.made_of = sources.sum_of(copied, goal)
         self.processors, self.memory = schedule.processors(), schedule.USED_MEMORY * schedule.free_memory()
-        self.every = sources.crates_of(copied, goal)
         # Statements fit the very libraries that they were made over.
-        self.names = self.over.above([it for it in self.every if it == goal or not self.over.is_kept(it)])
+        self.names = self.over.above([it for it in copied.uses if it == goal or not self.over.is_kept(it)])
         self.lanes = min(self.processors, MOST_LANES, len(self.names))
         self.progress = progress.Progress(copied, self.names, self.lanes)
         self.chains = self.progress.chains()
@@ -110,7 +104,7 @@ class Build:
 
     def run(self, what: str) -> bool:
         """Proves every crate, and builds of them what is wanted. Whether that was built."""
-        began, left, count = time.monotonic(), len(self.names), len(self.every)
+        began, left, count = time.monotonic(), len(self.names), len(self.over.uses)
         which = f"its {count} crates are" if left == count else f"{left} of its {count} crates {'is' if left == 1 else 'are'}"
         say(f"building the {what}: {which} proved first, side by side; {self.progress.time_left()} on this machine")
         with concurrent.futures.ThreadPoolExecutor(self.lanes) as pool:
@@ -166,7 +160,7 @@ class Build:
             if ran.status != -signal.SIGKILL or self.is_over.is_set():
                 break
         if ran.status == 0 and crate != self.goal:
-            self.over.note(crate).write_text(sources.sum_of(self.over, crate, self.over.kit))
+            pathlib.Path(f"{self.over.library(crate)}.sum").write_text(sources.sum_of(self.over, crate, self.over.kit))
         return ran
 
     def end(self, crate: str, ran: commands.Ran) -> bool:

@@ -78,17 +78,12 @@ def program(tree: crates.Tree) -> Kept:
     return Kept(tree, "coord", beside=["coord.o"])
 
 
-def crates_of(tree: crates.Tree, crate: str) -> Sequence[str]:
-    """The crates that this one is made of, lowest first, and itself."""
-    return [*tree.below(crate), crate]
-
-
 def sum_of(tree: crates.Tree, name: str, kit: str = "") -> str:
     """A checksum of all that a crate is made of: its sources, those below it, and the toolchain where given."""
     made = hashlib.sha256()
     with contextlib.suppress(OSError):
         made.update(pathlib.Path(kit, "KIT-ID").read_bytes() if kit else b"")
-    for crate in crates_of(tree, name):
+    for crate in [*tree.below(name), name]:
         made.update(repr((crate, tree.uses[crate])).encode())
         for path in tree.sources(crate):
             content = pathlib.Path(tree.folder(crate), path).read_bytes()
@@ -98,12 +93,10 @@ def sum_of(tree: crates.Tree, name: str, kit: str = "") -> str:
 
 def copy(tree: crates.Tree, folder: str, name: str) -> crates.Tree:
     """Copies the sources of a crate and of those below it, without what was built of them."""
-    os.makedirs(folder)
-    lines = [f"{it}: {' '.join(tree.uses[it])}\n" for it in crates_of(tree, name)]
-    pathlib.Path(folder, "crates.txt").write_text("".join(lines))
-    for crate in crates_of(tree, name):
+    names = [*tree.below(name), name]
+    for crate in names:
         os.makedirs(f"{folder}/crates/{crate}")
-        for part in crates.PARTS:
-            if os.path.isdir(f"{tree.folder(crate)}/{part}"):
-                shutil.copytree(f"{tree.folder(crate)}/{part}", f"{folder}/crates/{crate}/{part}", symlinks=True)
+        for part in (it for it in crates.PARTS if os.path.isdir(f"{tree.folder(crate)}/{it}")):
+            shutil.copytree(f"{tree.folder(crate)}/{part}", f"{folder}/crates/{crate}/{part}", symlinks=True)
+    pathlib.Path(folder, "crates.txt").write_text("".join(f"{it}: {' '.join(tree.uses[it])}\n" for it in names))
     return crates.Tree(folder, tree.kit)
