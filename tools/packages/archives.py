@@ -26,7 +26,7 @@ def tar(files: Files, seconds: int, top: str = "./") -> bytes:
             about = tarfile.TarInfo(f"{top}{path}")
             about.mtime, about.uname, about.gname = seconds, "root", "root"
             entry = files.get(path, Entry(mode=0o755))
-            about.mode, about.size, about.linkname = entry.mode, len(entry.content), entry.link
+            about.mode, about.size, about.linkname = 0o777 if entry.link else entry.mode, len(entry.content), entry.link
             about.type = tarfile.SYMTYPE if entry.link else tarfile.REGTYPE if path in files else tarfile.DIRTYPE
             archive.addfile(about, io.BytesIO(entry.content))
     return made.getvalue()
@@ -45,7 +45,7 @@ def deb(files: Files, control: Dict[str, str], scripts: Dict[str, str], seconds:
     """A Debian package: the fields of its control file, and the scripts and lists beside it."""
     sums = "".join(f"{hashlib.md5(files[it].content).hexdigest()}  {it}\n" for it in sorted(files) if not files[it].link)
     sizes = sum(-(-len(it.content) // 1024) for it in files.values())
-    fields = {**control, "Installed-Size": str(sizes)}
+    fields = {"Package": control["Package"], "Installed-Size": str(sizes), **control}
     about = {"control": "".join(f"{name}: {text}\n" for name, text in fields.items()), "md5sums": sums, **scripts}
     beside = {name: Entry(text.encode(), 0o755 if text.startswith("#!") else 0o644) for name, text in about.items()}
     made = b"!<arch>\n"

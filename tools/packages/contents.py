@@ -25,9 +25,11 @@ EXAMPLES = ("*.md", "*.py", "run/*", "reply/*", "frame/*", "stories/*", "capture
 # The newest C library that may be needed: Debian 11's.
 NEWEST_GLIBC = (2, 31)
 DESCRIPTION = """Kafka consumer group coordinator (KIP-848), proved
- Coordinates Kafka consumer groups by the KIP-848 rebalance protocol: a server on 127.0.0.1, a program that answers frames and scripts line by
- line, a C library, and a small broker in Python (migwelun-broker) for stock consumers. Each reply is proved, byte by byte, to be
- the one that the definitions of the protocol prescribe."""
+ Coordinates Kafka consumer groups by the KIP-848 rebalance protocol: a server
+ on 127.0.0.1, a program that answers frames and scripts line by line, a C
+ library, and a small broker in Python (migwelun-broker) for stock consumers.
+ Each reply is proved, byte by byte, to be the reply that the definitions of
+ the protocol prescribe. Groups are in memory: it isn't for production."""
 
 
 class NotMade(Exception):
