@@ -15,8 +15,8 @@ def bash(commands: List[Help]) -> str:
     valued = [it for command in commands for it in command.options if it.value]
     lines = [f"{name}() {{", "    local words word=${COMP_WORDS[COMP_CWORD]} before=${COMP_WORDS[COMP_CWORD - 1]}", "    case $before in"]
     for it in {it.names: it for it in valued}.values():
-        does = f'COMPREPLY=($(compgen -W "{" ".join(it.choices)}" -- "$word"))' if it.choices else f"COMPREPLY=($(compgen -f -- \"$word\"))" * (it.value == "PATH" or it.value == "FILE")
-        lines.append(f"    {'|'.join(it.names)}) {does + '; ' if does else ''}return ;;")
+        does = f'-W "{" ".join(it.choices)}"' if it.choices else "-f" * (it.value in ("PATH", "FILE"))
+        lines.append(f"    {'|'.join(it.names)}) " + f'COMPREPLY=($(compgen {does} -- "$word")); ' * bool(does) + "return ;;")
     first = [it for it, _ in top.subcommands] + names(top.options)
     lines += ["    esac", "    case $COMP_CWORD:${COMP_WORDS[1]} in", f'    1:*) words="{" ".join(first)}" ;;']
     lines += [f'    *:{it.command.split()[-1]}) words="{" ".join(names(it.options))}" ;;' for it in subcommands]
@@ -41,7 +41,7 @@ def zsh(commands: List[Help]) -> str:
 def _zsh_options(options: List[Option], indent: str) -> List[str]:
     lines = []
     for it in options:
-        value = f":{it.value}:({' '.join(it.choices)})" if it.value else ""
+        value = f":{_quoted(it.value)}:({' '.join(it.choices)})" if it.value else ""
         lines += [f"{indent}'{name}[{_quoted(it.about)}]{value}'" for name in it.names]
     return [f"{it} \\" for it in lines[:-1]] + lines[-1:]
 

@@ -17,8 +17,9 @@ FILES = TOP / "tools/packages/files"
 ANSWERS = answers.of(str(TOP))
 VERSION = ANSWERS["--version",].split()[1]
 SUBCOMMANDS = ("reply", "frame", "run", "serve")
-BROKER = "migwelun-broker"
-# The tools that need only Python, which are commands migwelun-NAME of the package, and the parts that they share.
+# The programs in Python, with the document that their man pages have, and its sections where that isn't all. They are commands migwelun-NAME of the
+# package, and so are the tools that need only Python. Behind these the parts that they share.
+PROGRAMS = {"broker": ("broker/README.md", ("The command line", "What a broker does for a consumer")), "conformance": ("docs/CONFORMANCE.md", ())}
 TOOLS = ("tell-run", "draw-run", "write-run", "tell-capture", "run-lines", "reply-lines")
 SHARED = ("rules", "stories")
 EXAMPLES = ("*.md", "*.py", "run/*", "reply/*", "frame/*", "stories/*", "capture/*", "embed/*.c", "embed/python/*.py", "embed/rust/*.*", "embed/rust/*/*.rs")
@@ -58,7 +59,6 @@ def files_of(program: pathlib.Path, library: pathlib.Path, version: str, seconds
             raise NotMade(f"{it.name} needs glibc {'.'.join(map(str, glibc_of(it)))}, newer than {'.'.join(map(str, NEWEST_GLIBC))}")
     files = {
         "bin/coord": Entry(program.read_bytes(), 0o755),
-        f"bin/{BROKER}": Entry((FILES / BROKER).read_bytes(), 0o755),
         "lib/libmigwelun.so": Entry((library / "libmigwelun.so").read_bytes()),
         "lib/libmigwelun.a": Entry((library / "libmigwelun.a").read_bytes()),
         "lib/pkgconfig/migwelun.pc": Entry((FILES / "migwelun.pc").read_bytes().replace(b"VERSION", version.encode())),
@@ -70,8 +70,11 @@ def files_of(program: pathlib.Path, library: pathlib.Path, version: str, seconds
         "share/migwelun/out/libmigwelun.a": Entry(link="../../../lib/libmigwelun.a"),
         "share/doc/migwelun/examples": Entry(link="../../migwelun/examples"),
     }
-    shared = [*(TOP / "broker").glob("*.*"), *(TOP / "broker/apis").glob("*.py"), *(it for each in EXAMPLES for it in (TOP / "examples").glob(each))]
+    shared = [it for each in EXAMPLES for it in (TOP / "examples").glob(each)]
     shared += [it for each in SHARED for it in (TOP / "tools" / each).glob("**/*.py")]
+    for name in programs():
+        files[f"bin/migwelun-{name}"] = Entry((FILES / "python-program").read_bytes(), 0o755)
+        shared += [it for ending in ("py", "html") for it in (TOP / name).glob(f"**/*.{ending}") if not {"tests", "planted"} & {*it.parts}]
     for name in filter(lambda it: (TOP / "tools" / it).is_file(), TOOLS):
         shared.append(TOP / "tools" / name)
         files[f"bin/migwelun-{name}"] = Entry(link=f"../share/migwelun/tools/{name}")
@@ -88,19 +91,27 @@ def taken(path: pathlib.Path) -> Entry:
 def of_options(version: str, seconds: int) -> Files:
     """Man pages and completions."""
     coord = [options.read("coord", ANSWERS["--help",]), *(options.read(f"coord {it}", ANSWERS[it, "--help"]) for it in SUBCOMMANDS)]
-    ran = subprocess.run([sys.executable, "-B", "-m", "broker", "--help"], cwd=TOP, env={**os.environ, "COLUMNS": "1000", "BROKER_NAME": BROKER}, capture_output=True, text=True)
-    broker = options.read(BROKER, ran.stdout)
-    document, front = (TOP / "docs/COMMANDS.md").read_text(), (TOP / "broker/README.md").read_text()
+    document = (TOP / "docs/COMMANDS.md").read_text()
     parts = {"coord": "\n\n".join(document.split("\n\n")[1:3]) + "\n" + "".join(f"### {it}\n{manual.section(document, it)}" for it in ("Lines", "Reasons"))}
     parts.update({f"coord {it}": manual.section(document, f"`coord {it}`") for it in SUBCOMMANDS})
-    parts[BROKER] = manual.section(front, "The command line") + manual.section(front, "What a broker does for a consumer")
-    pages = [it.command.replace(" ", "-") for it in (*coord, broker)]
+    others = []
+    for name in programs():
+        command, (path, titles) = f"migwelun-{name}", PROGRAMS[name]
+        words = {**os.environ, "COLUMNS": "1000", "BROKER_NAME": command}
+        ran = subprocess.run([sys.executable, "-B", "-m", name, "--help"], cwd=TOP, env=words, stdout=subprocess.PIPE, text=True, check=True)
+        others.append(options.read(command, ran.stdout.replace(f"python3 -m {name}", command)))
+        text = (TOP / path).read_text() if (TOP / path).is_file() else "# \n"
+        parts[command] = "".join(manual.section(text, it) for it in titles) or text.partition("\n")[2]
+    pages = [it.command.replace(" ", "-") for it in (*coord, *others)]
     files: Files = {}
-    for it in (*coord, broker):
-        own = it.command.replace(" ", "-")
+    for it, own in zip((*coord, *others), pages):
         text = manual.page(it, version, seconds, parts[it.command], [name for name in pages if name != own])
         files[f"share/man/man1/{own}.1.gz"] = Entry(zipped(text.encode()))
-    return {**files, **completions_of([coord, [broker]])}
+    return {**files, **completions_of([coord, *([it] for it in others)])}
+
+
+def programs() -> List[str]:
+    return [it for it in PROGRAMS if (TOP / it).is_dir()]
 
 
 def completions_of(programs: List[List[options.Help]]) -> Files:

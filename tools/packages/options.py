@@ -52,6 +52,6 @@ def read(command: str, text: str) -> Help:
 
 def option(spelled: str, about: str) -> Option:
     names = tuple(re.findall(r"(?<![\w-])--?[\w-]+", spelled))
-    value = re.search(r"[ =]<?([A-Z][\w:]*)>?$", spelled)
-    choices = CHOICES.search(about)
-    return Option(names, value[1] if value else "", CHOICES.sub("", about), tuple(choices[1].split(", ")) if choices else ())
+    value = spelled.rpartition(names[-1])[2].strip(" =<>")
+    choices = CHOICES.search(about) or re.fullmatch(r"\{(.*)\}", value)
+    return Option(names, value, CHOICES.sub("", about), tuple(re.split(", ?", choices[1])) if choices else ())
