@@ -5,6 +5,10 @@ from typing import List
 from packages.options import Help, Option
 
 
+# What a value is called where it is a file.
+FILES = ("PATH", "FILE")
+
+
 def names(options: List[Option]) -> List[str]:
     return [name for it in options for name in it.names if name.startswith("--")]
 
@@ -15,7 +19,7 @@ def bash(commands: List[Help]) -> str:
     valued = [it for command in commands for it in command.options if it.value]
     lines = [f"{name}() {{", "    local words word=${COMP_WORDS[COMP_CWORD]} before=${COMP_WORDS[COMP_CWORD - 1]}", "    case $before in"]
     for it in {it.names: it for it in valued}.values():
-        does = f'-W "{" ".join(it.choices)}"' if it.choices else "-f" * (it.value in ("PATH", "FILE"))
+        does = f'-W "{" ".join(it.choices)}"' if it.choices else "-f" * (it.value in FILES)
         lines.append(f"    {'|'.join(it.names)}) " + f'COMPREPLY=($(compgen {does} -- "$word")); ' * bool(does) + "return ;;")
     first = [it for it, _ in top.subcommands] + names(top.options)
     lines += ["    esac", "    case $COMP_CWORD:${COMP_WORDS[1]} in", f'    1:*) words="{" ".join(first)}" ;;']
@@ -41,7 +45,8 @@ def zsh(commands: List[Help]) -> str:
 def _zsh_options(options: List[Option], indent: str) -> List[str]:
     lines = []
     for it in options:
-        value = f":{_quoted(it.value)}:({' '.join(it.choices)})" if it.value else ""
+        action = f"({' '.join(it.choices)})" if it.choices else "_files" * (it.value in FILES)
+        value = f":{_quoted(it.value)}:{action}" if it.value else ""
         lines += [f"{indent}'{name}[{_quoted(it.about)}]{value}'" for name in it.names]
     return [f"{it} \\" for it in lines[:-1]] + lines[-1:]
 
