@@ -1,20 +1,23 @@
-"""Scripts of `coord run` with what they print, told as tables and drawn as pictures.
+"""Scripts of `coord run`, stories and recorded traffic, told as tables and drawn as pictures.
 
-    names    names for error codes, refusals and topics, and sets of partitions in short
-    reading  a script line by line, with what each prints: by a file, a program, or the rules in tools/rules
-    events   what happens in a line
-    story    what happens in each line, and who holds what after it
-    table    a story as a table of text, and the numbers of a script's messages
-    flights  messages from the rows in which they are sent to those in which they arrive
-    columns  who holds each partition, from row to row
-    labels   the words at the arrows and lanes of a picture
-    layout   where the rows, lanes and bars of a picture are
-    svg      shapes and texts
-    look     colours, letters and strokes
-    arrows   messages as arrows
-    legend   what the marks of a picture mean
-    picture  a story as a picture
-    command  the command lines of tools/tell-run and tools/draw-run
+    names      names for error codes, refusals and topics, and sets of partitions in short
+    reading    a script line by line, with what each prints: by a file, a program, or the rules in tools/rules
+    notation   stories as they are written, made into scripts, and told of scripts
+    events     what happens in a line
+    story      what happens in each line, and who holds what after it
+    recording  the frames of recorded traffic: by the broker, or in a packet capture
+    capture    recorded traffic as a story, and as lines for `coord reply`
+    words      the words for what happens
+    table      a story as a table of text
+    flights    messages from the rows in which they are sent to those in which they arrive
+    columns    who holds each partition, from row to row
+    layout     where the rows, lanes and bars of a picture are
+    svg        shapes and texts
+    look       colours, letters and strokes
+    arrows     messages as arrows
+    legend     what the marks of a picture mean
+    picture    a story as a picture
+    command    the command lines of the tools
 
 Who holds what is what the clients themselves believe that they may read (docs/TWO-MEMBERS.md). It follows from the
 replies that they take, by the rules for a client; where a script settles, from the rules for a whole world.

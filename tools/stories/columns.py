@@ -31,6 +31,7 @@ class Column:
     """The bar of one partition: who holds it, from row to row. The last row is that of the end."""
 
     group: str
+    partition: Partition
     label: str
     segments: list[Segment]
 
@@ -58,7 +59,7 @@ def column_of(story: Story, group: str, partition: Partition) -> Column:
             segments[-1] = segments[-1][0], row + 1, holders
         else:
             segments.append((row, row + 1, holders))
-    return Column(group, story.topics.partition(partition), [it for it in segments if it[2]])
+    return Column(group, partition, story.topics.partition(partition), [it for it in segments if it[2]])
 
 
 def how_held(standing: Standing, partition: Partition) -> str:

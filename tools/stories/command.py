@@ -1,4 +1,4 @@
-"""The command lines of tools/tell-run and tools/draw-run."""
+"""The command lines of the tools that read scripts and stories."""
 
 from __future__ import annotations
 
@@ -7,31 +7,40 @@ import os
 import sys
 from typing import Callable, Iterable
 
-from stories.reading import NoScript, Output, Ruled, Script, output_in, output_of
+from stories.notation import Writer
+from stories.reading import NoScript, Ruled, Script, lines_of, output_in, output_of
 from stories.story import Story, tell
 
 
 def parser(name: str, document: str) -> argparse.ArgumentParser:
+    return argparse.ArgumentParser(prog=f"tools/{name}", description=document, formatter_class=argparse.RawDescriptionHelpFormatter)
+
+
+def add_script(made: argparse.ArgumentParser) -> None:
     """Words that name a script, and where its output comes from."""
-    made = argparse.ArgumentParser(prog=f"tools/{name}", description=document, formatter_class=argparse.RawDescriptionHelpFormatter)
-    made.add_argument("script", metavar="SCRIPT", help="lines for `coord run`")
+    made.add_argument("script", metavar="SCRIPT", help="lines for `coord run`, or a story where its name ends in .story; - is standard input")
     outputs = made.add_mutually_exclusive_group()
     outputs.add_argument("output", metavar="OUTPUT", nargs="?", help="what it printed; without it the rules in tools/rules say so")
     outputs.add_argument("--program", metavar="PATH", help="runs PATH run over the script, and takes its output")
-    return made
 
 
-def output(asked: argparse.Namespace) -> Output:
+def story(asked: argparse.Namespace) -> Story:
+    lines, numbers = lines_of(asked.script), None
+    if asked.script.endswith(".story"):
+        writer = Writer(asked.script)
+        lines = [line.encode() for line in writer.write(lines)]
+        numbers = writer.lines
     if asked.output is not None:
-        return output_in(asked.output)
-    return Ruled() if asked.program is None else output_of(asked.program, asked.script)
+        printed = output_in(asked.output)
+    else:
+        printed = Ruled() if asked.program is None else output_of(asked.program, lines)
+    return tell(Script(asked.script, lines, printed), numbers)
 
 
-def run(name: str, asked: argparse.Namespace, lines: Callable[[Story, Script], Iterable[str]]) -> int:
-    """Prints the lines that are made of a story, and gives the status."""
+def run(name: str, lines: Callable[[], Iterable[str]]) -> int:
+    """Prints lines, and gives the status: 2 where they can't be made."""
     try:
-        script = Script(asked.script, output(asked))
-        for line in lines(tell(script), script):
+        for line in lines():
             sys.stdout.buffer.write(f"{line}\n".encode())
         sys.stdout.flush()
     except NoScript as wrong:

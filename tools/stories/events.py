@@ -2,8 +2,7 @@
 
 from __future__ import annotations
 
-import dataclasses
-from typing import FrozenSet, List, Optional, Tuple, Union
+from typing import FrozenSet, List, NamedTuple, Optional, Tuple, Union
 
 from stories.names import Partition
 
@@ -13,8 +12,7 @@ Partitions = FrozenSet[Partition]
 AT_ONCE, LATE, AGAIN = "", "late", "again"
 
 
-@dataclasses.dataclass(frozen=True)
-class Sent:
+class Sent(NamedTuple):
     """A heartbeat leaves its client. A join says that nothing is owned, a short one says nothing."""
 
     client: int
@@ -23,16 +21,14 @@ class Sent:
     owned: Optional[Partitions]
 
 
-@dataclasses.dataclass(frozen=True)
-class Reply:
+class Reply(NamedTuple):
     number: int
     code: int
     epoch: int
     shows: Optional[Partitions]
 
 
-@dataclasses.dataclass(frozen=True)
-class Delivered:
+class Delivered(NamedTuple):
     """A request comes to the coordinator, which replies, or closes the connection."""
 
     client: int
@@ -41,8 +37,7 @@ class Delivered:
     mark: str
 
 
-@dataclasses.dataclass(frozen=True)
-class Taken:
+class Taken(NamedTuple):
     """A reply comes to its client, which ignores it where it waits for no reply, or for another one."""
 
     client: int
@@ -51,64 +46,68 @@ class Taken:
     mark: str
 
 
-@dataclasses.dataclass(frozen=True)
-class GaveUp:
+class GaveUp(NamedTuple):
     client: int
 
 
-@dataclasses.dataclass(frozen=True)
-class Released:
+class Released(NamedTuple):
     client: int
     partition: Partition
 
 
-@dataclasses.dataclass(frozen=True)
-class Committed:
-    client: int
-    commit: int
+class Place(NamedTuple):
+    """A partition whose offset is committed. A member can commit what it doesn't hold."""
+
     topic: str
     index: int
     offset: int
+    partition: Optional[Partition]
+    is_held: bool
 
 
-@dataclasses.dataclass(frozen=True)
-class Brought:
-    """A commit comes to the coordinator."""
+class Committed(NamedTuple):
+    client: int
+    commit: int
+    places: List[Place]
+
+
+class Brought(NamedTuple):
+    """A commit comes to the coordinator, which answers with a code for each partition."""
 
     client: int
     commit: int
-    code: int
+    places: List[Place]
+    codes: List[int]
     mark: str
 
+    def unheld(self) -> list[Place]:
+        """What is accepted of a member that doesn't hold it."""
+        return [place for place, code in zip(self.places, self.codes) if code == 0 and not place.is_held]
 
-@dataclasses.dataclass(frozen=True)
-class ImageSet:
+
+class ImageSet(NamedTuple):
     """The topics by their ids, each with the number of its partitions."""
 
     topics: List[Tuple[bytes, int]]
 
 
-@dataclasses.dataclass(frozen=True)
-class ClockSet:
+class ClockSet(NamedTuple):
     moment: int
 
 
-@dataclasses.dataclass(frozen=True)
-class Ticked:
+class Ticked(NamedTuple):
     moment: int
     removed: int
 
 
-@dataclasses.dataclass(frozen=True)
-class Settled:
+class Settled(NamedTuple):
     """Three rounds in which no message is lost, with the last numbers of messages before and after it."""
 
     requests: Tuple[int, int]
     replies: Tuple[int, int]
 
 
-@dataclasses.dataclass(frozen=True)
-class Refused:
+class Refused(NamedTuple):
     """Nothing happens."""
 
     fault: int

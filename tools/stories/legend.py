@@ -6,8 +6,8 @@ from stories import events
 from stories.columns import REMOVED, REVOKES, is_double
 from stories.flights import COMMIT
 from stories.layout import LABEL_SIZE, MARGIN, Layout
-from stories.look import ARROW, DASHES, PALE, RED, SLATE
-from stories.svg import Canvas, Point, text_width
+from stories.look import ARROW, DASHES, PALE, RED
+from stories.svg import SLATE, Canvas, Point, text_width
 
 # The room between two marks, and between two lines of them.
 APART, LINE = 24.0, 20.0
@@ -51,6 +51,13 @@ class Legend:
         if any(map(is_double, parts)):
             x, y = self.place(22, "two members at once")
             self.canvas.rect(x, y - 6, 16, 12, "none", f'rx="3" stroke="{RED}" stroke-width="1.5"')
+        if self.layout.unheld:
+            x, y = self.place(18, "a commit is accepted of a member that doesn't hold it")
+            self.canvas.circle((x + 6, y), 4, SLATE, f'stroke="{RED}" stroke-width="2"')
+        if self.layout.breaks:
+            x, y = self.place(16, "time passes: the rows aren't in scale")
+            self.canvas.line([(x + 5, y - 9), (x + 5, y + 9)], SLATE, 4)
+            self.canvas.broken(x + 5, y, 4)
 
     def place(self, room: float, words: str) -> Point:
         """The place of the next mark, with its words behind the room that it takes. A line that is full is ended."""

@@ -5,10 +5,10 @@ from __future__ import annotations
 from stories import events
 from stories.columns import REMOVED, REVOKES
 from stories.layout import LABEL_SIZE, SCRIPT_SIZE, TITLE_SIZE
-from stories.svg import MONO, SANS, text_width
+from stories.svg import GROUND, MONO, SANS, SLATE, text_width
 
-GROUND, EDGE, BAND, GUIDE = "#fcfcfd", "#d0d7de", "#eff2f6", "#eef1f4"
-INK, QUIET, SLATE, RED = "#24292f", "#6b7480", "#4a5361", "#c3212f"
+EDGE, BAND, GUIDE = "#d0d7de", "#eff2f6", "#eef1f4"
+INK, QUIET, RED = "#24292f", "#6b7480", "#c3212f"
 COLORS = ("#2463c4", "#c2620a", "#1f7f46", "#7a3fc0", "#b8316f", "#0b7d84", "#85571f", "#5b6b16")
 HEAD, PILL, PILL_SIZE, LANE, ARROW = 22.0, 16.0, 10.0, 4.0, 1.6
 STYLE = f"""

@@ -3,10 +3,11 @@
 from __future__ import annotations
 
 import uuid
-from typing import Iterable, Tuple
+from typing import Dict, Iterable, Tuple
 
-# A topic's id, and the partition's index.
+# A topic's id, and the partition's index; the id of each topic and how many partitions it has, by its name.
 Partition = Tuple[bytes, int]
+Image = Dict[str, Tuple[bytes, int]]
 
 CODES = {
     0: "NONE",
@@ -34,8 +35,6 @@ FAULTS = {
 }
 # What a request of each kind is called.
 KINDS = {"join": "join", "short": "heartbeat", "owned": "heartbeat", "full": "full heartbeat", "leave": "leaves", "away": "goes away"}
-# From this many neighbours on, partitions are shown as a range.
-RANGE = 3
 
 
 def code_name(code: int) -> str:
@@ -56,8 +55,8 @@ def shortened(text: str, most: int) -> str:
 
 
 def moment_text(moment: int) -> str:
-    seconds, rest = divmod(moment, 1_000)
-    return f"{seconds} s" if not rest else f"{moment} ms"
+    """A time in whole seconds or milliseconds, as stories have it."""
+    return f"{moment} ms" if moment % 1_000 else f"{moment // 1_000} s"
 
 
 def counted(count: int, one: str) -> str:
@@ -71,10 +70,14 @@ class Topics:
         self.labels: dict[bytes, str] = {}
         self.ids: dict[str, int] = {}
 
+    def next(self, name: str) -> str:
+        """What the next topic of a name is called."""
+        return printable(name) + (f"({self.ids[name] + 1})" if name in self.ids else "")
+
     def add(self, name: str, topic: bytes) -> None:
         if topic not in self.labels:
+            self.labels[topic] = self.next(name)
             self.ids[name] = self.ids.get(name, 0) + 1
-            self.labels[topic] = printable(name) + (f"({self.ids[name]})" if self.ids[name] > 1 else "")
 
     def label(self, topic: bytes) -> str:
         return self.labels.get(topic) or f"{str(uuid.UUID(bytes=topic))[:8]}.."
@@ -83,29 +86,24 @@ class Topics:
         return f"{self.label(partition[0])}/{partition[1]}"
 
     def text(self, partitions: Iterable[Partition], most: int = 60) -> str:
-        """Partitions by topic and index, neighbours as ranges: `t/0 t/1 u/0-5`. What is longer is cut."""
-        text = ""
-        for topic, first, last in self.runs(partitions):
-            indexes = f"{first}-{last}" if first < last else f"{first}"
-            text += f"{' ' if text else ''}{self.label(topic)}/{indexes}"
-            if len(text) > most:
-                return shortened(text, most)
+        """Partitions by topic and index, neighbours as ranges: `t/0,1 u/0-5`. Of many, the first ones and how many more there are."""
+        text, left, before = "", len([*partitions]), None
+        for topic, first, last in runs_of(partitions):
+            run = f"{first}-{last}" if first < last else f"{first}"
+            run = f",{run}" if topic == before else f"{' ' if text else ''}{self.label(topic)}/{run}"
+            if text and len(text) + len(run) > most:
+                return f"{text} and {left} more"
+            text, left, before = text + run, left - (last - first + 1), topic
         return text or "-"
 
-    @staticmethod
-    def runs(partitions: Iterable[Partition]) -> list[tuple[bytes, int, int]]:
-        runs: list[tuple[bytes, int, int]] = []
-        for topic, index in sorted(partitions):
-            if runs and runs[-1][0] == topic and runs[-1][2] == index - 1:
-                runs[-1] = topic, runs[-1][1], index
-            else:
-                runs.append((topic, index, index))
-        return [part for run in runs for part in parts_of(run)]
 
-
-def parts_of(run: tuple[bytes, int, int]) -> list[tuple[bytes, int, int]]:
-    """A run, or its partitions one by one where there are few."""
-    topic, first, last = run
-    if last - first + 1 < RANGE:
-        return [(topic, index, index) for index in range(first, last + 1)]
-    return [run]
+def runs_of(partitions: Iterable[Partition]) -> list[tuple[bytes, int, int]]:
+    """Partitions as topics with first and last indexes; two neighbours are one by one."""
+    runs: list[tuple[bytes, int, int]] = []
+    for topic, index in sorted(partitions):
+        if runs and runs[-1][0] == topic and runs[-1][2] == index - 1:
+            runs[-1] = topic, runs[-1][1], index
+        else:
+            runs.append((topic, index, index))
+    ones = (((topic, first, first), (topic, last, last)) if first + 1 == last else ((topic, first, last),) for topic, first, last in runs)
+    return [part for parts in ones for part in parts]

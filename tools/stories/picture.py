@@ -9,13 +9,13 @@ from xml.sax.saxutils import escape
 from stories import events
 from stories.arrows import Arrows
 from stories.columns import REMOVED, SURELY, Holder, is_double
-from stories.labels import TOLD, Label, Labels, pill_of
-from stories.layout import BESIDE, GAP, LABEL_SIZE, LONGEST_SCRIPT, MARGIN, ROW, UNDER, Layout
+from stories.layout import BESIDE, GAP, LABEL_SIZE, LONGEST_NAME, MARGIN, NAME_SIZE, ROW, UNDER, Layout
 from stories.legend import Legend
-from stories.look import BAND, EDGE, GROUND, GUIDE, HEAD, LANE, PALE, PILL, QUIET, RED, SLATE, STYLE, color, pill_width
+from stories.look import BAND, EDGE, GUIDE, HEAD, LANE, PALE, PILL, QUIET, RED, STYLE, color, pill_width
 from stories.names import printable, shortened
-from stories.story import OUT, Standing, Story
-from stories.svg import Canvas, number, text_width
+from stories.story import Standing, Story
+from stories.svg import GROUND, SLATE, Canvas, number, text_width
+from stories.words import TOLD, Label, Words
 
 
 def look_of(standing: Standing) -> str:
@@ -27,25 +27,18 @@ class Picture:
 
     def __init__(self, title: str, story: Story):
         self.title, self.story, self.canvas = title, story, Canvas()
-        self.rows = Labels(story).rows()
-        self.scripts = [shortened(step.text, LONGEST_SCRIPT) for step in story.steps]
+        self.rows = Words(story).rows()
+        self.pills = [row.pills for row in self.rows]
+        self.scripts = [shortened(step.text, LONGEST_NAME) for step in story.steps]
         self.layout = Layout(story, self.rows, self.scripts)
         self.end = self.layout.row(len(story.steps)) - ROW / 2 + 12
-        self.pills = self.pills_of()
-
-    def pills_of(self) -> list[list[str]]:
-        """For each row and client what is written on its lane."""
-        before: Sequence[Standing] = tuple(OUT for _ in self.story.people)
-        pills = []
-        for step in self.story.steps:
-            pills.append([pill_of(now, then, step.event) for now, then in zip(step.standings, before)])
-            before = step.standings
-        return pills
 
     def document(self) -> Iterator[str]:
         self.draw_rows()
         self.draw_lanes()
         self.draw_bars()
+        self.draw_breaks()
+        self.draw_holders_names()
         arrows = Arrows(self.canvas, self.layout, self.pills)
         for flight in self.layout.flights.all():
             arrows.draw(flight)
@@ -100,11 +93,11 @@ class Picture:
     def draw_heads(self) -> None:
         self.canvas.text(MARGIN, 33, self.layout.shared, "title")
         self.draw_head(self.layout.coordinator, "coordinator", SLATE, [])
-        for client, person in enumerate(self.story.people):
-            self.draw_head(self.layout.lanes[client], shortened(person.name, 12), color(client), self.layout.under[client])
+        for client, name in enumerate(self.layout.names):
+            self.draw_head(self.layout.lanes[client], name, color(client), self.layout.under[client])
 
     def draw_head(self, x: float, name: str, fill: str, under: list[str]) -> None:
-        width = max(34.0, text_width(name, 13, True) + 20)
+        width = max(34.0, text_width(name, NAME_SIZE, True) + 20)
         self.canvas.rect(x - width / 2, 18, width, HEAD, fill, 'rx="5"')
         self.canvas.text(x, 33.5, name, "name", "middle")
         for at, line in enumerate(under):
@@ -120,7 +113,7 @@ class Picture:
         for at, (column, (x, width)) in enumerate(zip(self.layout.columns, self.layout.bars)):
             self.canvas.text(x + width / 2, 55, column.label, "word", "middle")
             if len(self.layout.groups) > 1:
-                self.canvas.text(x + width / 2, 68, shortened(column.group, 8), "quiet", "middle")
+                self.canvas.text(x + width / 2, 68, shortened(column.group, LONGEST_NAME), "quiet", "middle")
             self.canvas.rect(x, self.layout.top, width, self.end - self.layout.top, BAND, 'rx="3"')
             for start, end, holders in column.segments:
                 self.draw_holders(x, width, self.layout.row(start), min(self.layout.row(end), self.end), holders)
@@ -132,11 +125,41 @@ class Picture:
             left = x + place * share
             fade = "" if holder.how == SURELY else f' fill-opacity="{PALE[holder.how]}"'
             self.canvas.rect(left, top, share, bottom - top, color(holder.client), f'rx="3"{fade}')
-            name = shortened(self.story.people[holder.client].name, 3)
-            if text_width(name, LABEL_SIZE, True) < share and bottom - top > 16:
-                self.canvas.text(left + share / 2, top + 15, name, "bar" if holder.how == SURELY else "pale", "middle")
         if is_double(holders):
             self.canvas.rect(x - 1.5, top, width + 3, bottom - top, "none", f'rx="3" stroke="{RED}" stroke-width="1.5"')
+
+    def draw_holders_names(self) -> None:
+        for column, (x, width) in zip(self.layout.columns, self.layout.bars):
+            for start, end, holders in column.segments:
+                top, bottom = self.layout.row(start), min(self.layout.row(end), self.end)
+                top += ROW / 2 + 2 if start + 1 in self.layout.breaks else 0
+                for place, holder in enumerate(holders):
+                    share = width / len(holders)
+                    self.draw_name(holder, x + (place + 0.5) * share, top, share, bottom - top)
+
+    def draw_name(self, holder: Holder, x: float, top: float, width: float, height: float) -> None:
+        """A holder's name, across its part of a bar or along it, where there is room for it."""
+        name, kind = self.layout.names[holder.client], "bar" if holder.how == SURELY else "pale"
+        if self.layout.name_width(holder.client) <= width and height > 16:
+            self.canvas.text(x, top + 15, name, kind, "middle")
+        elif self.layout.name_width(holder.client) + 6 <= height and width > 10:
+            self.canvas.along(x - 4, top + 6, name, kind)
+
+    def draw_breaks(self) -> None:
+        """Where time passes that the rows don't show, and commits that are accepted of who doesn't hold the partition."""
+        for at in self.layout.breaks:
+            y = self.layout.row(at) - ROW / 2
+            there = [x for x, it in zip(self.layout.lanes, self.story.steps[at - 1].standings) if it.state != "gone"]
+            for x in (*there, self.layout.coordinator):
+                self.canvas.broken(x, y, LANE)
+            for x, width in self.layout.bars:
+                self.canvas.broken(x + width / 2, y, width)
+        for at, event in self.layout.unheld:
+            group = self.story.people[event.client].group
+            for column, (x, width) in zip(self.layout.columns, self.layout.bars):
+                if column.group == group and column.partition in {place.partition for place in event.unheld()}:
+                    self.canvas.circle((x + width / 2, self.layout.row(at)), 8, GROUND)
+                    self.canvas.circle((x + width / 2, self.layout.row(at)), 5, color(event.client), f'stroke="{RED}" stroke-width="2.5"')
 
     # -- words on lanes
 
@@ -195,6 +218,7 @@ class Picture:
             self.canvas.text(x, self.end + 16, standing.state, "word", "middle")
             if standing.epoch and standing.state != "gone":
                 self.canvas.text(x, self.end + 30, f"epoch {standing.epoch}", "quiet", "middle")
+
 
 def picture(script: str, story: Story) -> Iterator[str]:
     """The lines of the picture of a story, which has the title of its script's file."""

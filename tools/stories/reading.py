@@ -5,9 +5,10 @@ from __future__ import annotations
 import dataclasses
 import re
 import subprocess
-from typing import Iterator, Optional
+import sys
+from typing import Iterator, Optional, Protocol
 
-from rules.lines import BadLine, Lines, shown
+from rules.lines import BadLine, Lines, shown, words_of
 
 SECONDS = 600
 STATE = "outside|steady|releasing|gone"
@@ -58,12 +59,19 @@ class Reported:
     owns: str
 
 
-def lines_of(path: str) -> list[bytes]:
+def read(path: str) -> bytes:
+    """The bytes of a file; `-` is standard input."""
     try:
+        if path == "-":
+            return sys.stdin.buffer.read()
         with open(path, "rb") as file:
-            lines = file.read().split(b"\n")
+            return file.read()
     except OSError as error:
         raise NoScript(f"{path}: {error.strerror}") from None
+
+
+def lines_of(path: str) -> list[bytes]:
+    lines = read(path).split(b"\n")
     return lines if lines[-1] else lines[:-1]
 
 
@@ -106,11 +114,11 @@ def output_in(path: str) -> Output:
     return Output(path, [line.decode(errors="replace") for line in lines_of(path)])
 
 
-def output_of(program: str, script: str) -> Output:
+def output_of(program: str, script: list[bytes]) -> Output:
     """What a program prints for a script."""
+    given = b"".join(line + b"\n" for line in script)
     try:
-        with open(script, "rb") as file:
-            ran = subprocess.run([program, "run"], stdin=file, capture_output=True, timeout=SECONDS, check=False)
+        ran = subprocess.run([program, "run"], input=given, capture_output=True, timeout=SECONDS, check=False)
     except (OSError, subprocess.TimeoutExpired) as error:
         raise NoScript(f"{program}: {getattr(error, 'strerror', None) or f'no end after {SECONDS} s'}") from None
     if ran.returncode:
@@ -119,28 +127,36 @@ def output_of(program: str, script: str) -> Output:
     return Output(f"the output of {program}", ran.stdout.decode(errors="replace").split("\n")[:-1])
 
 
+class Follower(Protocol):
+    """Sees each act before and after the rules play it."""
+
+    def say(self, line: str) -> None: ...
+
+    def played(self, line: str, printed: str) -> object: ...
+
+
 class Script:
     """A script with an output, or with what the rules print for it."""
 
-    def __init__(self, path: str, output: Output):
-        self.path, self.output, self.rules = path, output, Lines()
-        self.lines = lines_of(path)
+    def __init__(self, path: str, lines: list[bytes], output: Output):
+        self.path, self.lines, self.output, self.rules = path, lines, output, Lines()
 
-    def rule(self, number: int, line: bytes) -> Optional[str]:
-        """What the rules print for a line."""
-        try:
-            return self.rules.line(line)
-        except BadLine as bad:
-            reason = "it ends in a carriage return" if line.endswith(b"\r") else bad
-            raise NoScript(f"{self.path}, line {number}: {reason}") from None
-
-    def acts(self) -> Iterator[Played]:
+    def acts(self, follower: Follower) -> Iterator[Played]:
         """The lines behind those of clients."""
         agrees = True
         for number, line in enumerate(self.lines, 1):
-            ruled = self.rule(number, line)
+            try:
+                text = " ".join(words_of(line))
+                is_act = not text.startswith("client ")
+                if is_act:
+                    follower.say(text)
+                ruled = self.rules.line(line)
+            except BadLine as bad:
+                reason = "it ends in a carriage return" if line.endswith(b"\r") else bad
+                raise NoScript(f"{self.path}, line {number}: {reason}") from None
             if ruled is not None:
-                words = line.decode().split(" ")
+                follower.played(text, ruled)
+                words = text.split(" ")
                 wanted = f"line {number} of the script"
                 printed = self.output.next(wanted, ruled)
                 found = self.output.matched(f"{REFUSED}|{PRINTED[words[0]]}", printed, wanted).groups()

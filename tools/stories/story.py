@@ -3,6 +3,7 @@
 from __future__ import annotations
 
 import dataclasses
+import re
 import uuid
 from typing import Callable, Optional
 
@@ -12,10 +13,12 @@ from rules.messages import read_heartbeat_reply
 from rules.world import World
 from stories import events, names
 from stories.events import AGAIN, AT_ONCE, LATE, Event, Partitions
+from stories.notation import Telling, heads
 from stories.reading import NoScript, Played, Reported, Script
 
 # A member's id, where its client has one, isn't in what lines print.
 SOME_ID = "id"
+SAID_ID = re.compile(", id [0-9a-f-]{36}")
 
 
 @dataclasses.dataclass(frozen=True)
@@ -26,7 +29,6 @@ class Person:
     group: str
     instance: Optional[str]
     assignor: Optional[str]
-    topics: list[str]
 
 
 @dataclasses.dataclass(frozen=True)
@@ -43,9 +45,9 @@ class Standing:
 
 @dataclasses.dataclass(frozen=True)
 class Step:
-    """A line of the script, what happens in it, and where each client stands after it."""
+    """A line of the script by its number, or a moment; what happens, and where each client stands after it."""
 
-    line: int
+    at: str
     text: str
     event: Event
     standings: tuple[Standing, ...]
@@ -57,6 +59,10 @@ class Story:
     topics: names.Topics
     steps: list[Step]
     report: list[Reported]
+    # The lines of the story as it is written: those of its clients, and the acts.
+    heads: list[str]
+    acts: list[str]
+    where: str = "line"
 
     @property
     def last(self) -> tuple[Standing, ...]:
@@ -72,6 +78,7 @@ class Message:
     time: int
     reply: Optional[events.Reply] = None
     came: int = 0
+    places: list[events.Place] = dataclasses.field(default_factory=list)
 
 
 OUT = Standing("outside", 0, frozenset(), frozenset())
@@ -97,8 +104,8 @@ class Teller:
         self.requests: dict[int, Message] = {}
         self.replies: dict[int, Message] = {}
         self.commits: dict[int, Message] = {}
-        # How often time has passed.
-        self.time = 0
+        # How often time has passed, and the topics by their names.
+        self.time, self.topics = 0, {}
 
     # -- clients
 
@@ -128,7 +135,8 @@ class Teller:
             raise NoScript(f"line {played.number}: this output isn't the script's: it has no such client or message") from None
 
     def image(self, words: list[str], _found: list[str], _played: Played) -> Event:
-        return events.ImageSet([*image_of(words).values()])
+        self.topics = image_of(words)
+        return events.ImageSet([*self.topics.values()])
 
     def clock(self, words: list[str], _found: list[str], _played: Played) -> Event:
         self.time += 1
@@ -177,14 +185,15 @@ class Teller:
 
     def commit(self, words: list[str], found: list[str], _played: Played) -> Event:
         at, number = self.number(words[0]), int(found[0])
-        self.commits[number] = Message(at, 0, self.time)
-        return events.Committed(at, number, names.printable(words[1]), int(words[2]), int(words[3]))
+        places = [place_of(self.topics, words[1], int(words[2]), int(words[3]), self.clients[at])]
+        self.commits[number] = Message(at, 0, self.time, places=places)
+        return events.Committed(at, number, places)
 
     def bring(self, words: list[str], found: list[str], _played: Played) -> Event:
         message = self.commits[int(words[0])]
         mark = AGAIN if message.came else LATE if message.time < self.time else AT_ONCE
         message.came += 1
-        return events.Brought(message.client, int(words[0]), int(found[0]), mark)
+        return events.Brought(message.client, int(words[0]), message.places, [int(found[0])], mark)
 
     def settle(self, _words: list[str], _found: list[str], played: Played) -> Event:
         """What the clients and the messages are afterwards is known from the rules alone."""
@@ -225,6 +234,12 @@ class Teller:
     }
 
 
+def place_of(topics: names.Image, topic: str, index: int, offset: int, client: Client) -> events.Place:
+    """A partition of a commit, and whether its sender holds it."""
+    partition = (topics[topic][0], index) if topic in topics else None
+    return events.Place(names.printable(topic), index, offset, partition, partition in client.own)
+
+
 def is_removed(world: World, client: Client) -> bool:
     """The client takes itself for a member, and its coordinator has no record of it."""
     group = world.node.groups.get(client.group)
@@ -239,40 +254,22 @@ def standing_of(client: Client, before: Standing, removed: bool) -> Standing:
     return before if now == before else now
 
 
-def topics_of(script: Script) -> names.Topics:
-    """The topics of all images of a script, as far as its lines can be read."""
-    topics = names.Topics()
-    for line in script.lines:
-        kind, *words = line.decode(errors="replace").split(" ")
-        if kind == "image":
-            for name, (topic, _) in image_of(words).items():
-                topics.add(name, topic)
-    return topics
-
-
-def line_text(words: list[str], topics: names.Topics) -> str:
-    """A line with names in place of ids."""
-    if words[0] == "image":
-        words = [word for at, word in enumerate(words) if at % 3 != 2]
-    if words[0] == "release":
-        words = [*words[:2], topics.label(topic_of(words[2])), words[3]]
-    return names.printable(" ".join(words))
-
-
 def person_of(client: Client) -> Person:
     printable = names.printable
     instance = None if client.instance is None else printable(client.instance)
     assignor = None if client.assignor is None else printable(client.assignor)
-    return Person(printable(client.name), printable(client.group), instance, assignor, [*map(printable, client.names)])
+    return Person(printable(client.name), printable(client.group), instance, assignor)
 
 
-def tell(script: Script) -> Story:
-    """The story of a script. NoScript says why there is none."""
+def tell(script: Script, numbers: Optional[list[int]] = None) -> Story:
+    """The story of a script, whose lines may have other numbers. NoScript says why there is none."""
+    telling = Telling(script.rules)
     teller, played = Teller(), []
-    for it in script.acts():
+    for it in script.acts(telling):
         teller.start(it)
         played.append((it, teller.event(it), teller.stand(it)))
     report = script.report()
-    topics = topics_of(script)
-    steps = [Step(it.number, line_text(it.words, topics), event, standings) for it, event, standings in played]
-    return Story([*map(person_of, script.rules.clients)], topics, steps, report)
+    texts = [names.printable(SAID_ID.sub("", text)) for text in telling.texts]
+    numbers = numbers or [*range(1, len(script.lines) + 1)]
+    steps = [Step(str(numbers[it.number - 1]), text, event, standings) for (it, event, standings), text in zip(played, texts)]
+    return Story([*map(person_of, script.rules.clients)], telling.topics, steps, report, [*heads(script.rules.clients)], [*telling.acts()])

@@ -8,28 +8,28 @@ from xml.sax.saxutils import escape
 
 Point = Tuple[float, float]
 
-SANS = "-apple-system, 'Segoe UI', 'Liberation Sans', Helvetica, Arial, sans-serif"
+GROUND, SLATE = "#fcfcfd", "#4a5361"
+
+SANS = "-apple-system, 'Segoe UI', 'Liberation Sans', Helvetica, Arial, 'DejaVu Sans', sans-serif"
 MONO = "ui-monospace, Menlo, Consolas, 'Liberation Mono', monospace"
-# How wide characters are in Helvetica, in thousandths of the size; each string has those of one width.
+# How wide characters are in DejaVu Sans, in thousandths of the size; each string has those of about one width. It is the widest of
+# the families above, so that what it fits fits all of them.
 WIDTHS = {
-    222: "'ijl",
-    278: " !,./:;I[\\]ft",
-    333: "()-`r",
-    389: "*",
-    500: "Jckszvxy",
-    556: "#$0123456789L_abdeghnopqu?",
-    584: "+<=>~",
-    611: "FTZ",
-    667: "&ABEKPSVXY",
-    722: "CDHNRUw",
-    778: "GOQ",
-    833: "Mm",
-    944: "W",
+    278: "'ijl",
+    340: " ,./:;I\\|J",
+    400: "!()-[]ft",
+    500: "*_`rsz\"",
+    580: "?FLPTYckvxy",
+    636: "#$0123456789EKSZXabdeghnopqu{}",
+    690: "ABCRV",
+    780: "&DGHNOQUw",
+    850: "+<=>~M",
+    980: "%Wm",
 }
 WIDTH = {character: width for width, characters in WIDTHS.items() for character in characters}
 # What stands between the parts of a text.
 SPACE = ' dx="4"'
-OTHER_WIDTH, BOLD, MONO_WIDTH = 600, 1.08, 0.61
+OTHER_WIDTH, BOLD, MONO_WIDTH = 850, 1.13, 0.61
 
 
 def text_width(text: str, size: float, bold: bool = False) -> float:
@@ -73,6 +73,10 @@ class Canvas:
         """A text in one of the picture's kinds, with its foot on y."""
         self.spans(x, y, [(words, kind)], anchor)
 
+    def along(self, x: float, y: float, words: str, kind: str) -> None:
+        """A text that goes down from y."""
+        self.add(f'<text transform="translate({number(x)} {number(y)}) rotate(90)" class="{kind}" dy="-1">{escape(words)}</text>')
+
     def spans(self, x: float, y: float, parts: Sequence[tuple[str, str]], anchor: str = "start") -> None:
         side = "" if anchor == "start" else f' text-anchor="{anchor}"'
         place = f'<text x="{number(x)}" y="{number(y)}"{side}'
@@ -90,6 +94,13 @@ class Canvas:
         middle = (x - 6 * math.cos(angle), y - 6 * math.sin(angle))
         self.line([*points[:-1], middle], color, width, dash)
         self.polygon([(x, y), *back], color)
+
+    def broken(self, x: float, y: float, width: float) -> None:
+        """A break in what goes down here."""
+        left, right = x - width / 2 - 2.5, x + width / 2 + 2.5
+        self.line([(left, y + 2), (right, y - 2)], GROUND, 5)
+        for above in (-2.5, 2.5):
+            self.line([(left, y + 2 + above), (right, y - 2 + above)], SLATE, 1)
 
     def cross(self, at: Point, color: str, size: float = 4.5) -> None:
         x, y = at
