@@ -1,0 +1,104 @@
+"""Starts a broker by a command, and again where it ended."""
+
+from __future__ import annotations
+
+import contextlib
+import os
+import re
+import select
+import shlex
+import signal
+import subprocess
+import threading
+import time
+from typing import IO, Optional
+
+from conformance.broker import NoBroker, is_there
+from conformance.connection import Address
+
+END_SECONDS = 5.0
+POLL_SECONDS = 0.05
+ADDRESS = re.compile(rb"(\S+?):(\d{1,5})(?!\d)")
+
+
+class Starter:
+    """A broker at an address. Where there is a command, it starts the broker; without an address, its first line has that."""
+
+    def __init__(self, address: Optional[Address], command: Optional[str], seconds: float) -> None:
+        self.given, self.command, self.seconds = address, command, seconds
+        self.process: Optional[subprocess.Popen[bytes]] = None
+        # How often it was started.
+        self.starts = 0
+
+    def address(self) -> Address:
+        """Where the broker listens. It is started where it isn't there. Raises NoBroker."""
+        if self.command is None:
+            assert self.given is not None
+            return self.given
+        if self.process is None or self.process.poll() is not None:
+            self.end()
+            self.found = self._start(self.command)
+        return self.found
+
+    def has_ended(self) -> bool:
+        """Whether the broker isn't there any more."""
+        if self.process is not None:
+            return self.process.poll() is not None
+        return self.given is not None and not is_there(self.given, self.seconds)
+
+    def why(self) -> str:
+        status = None if self.process is None else self.process.poll()
+        return "the broker isn't there any more" if status is None else f"the broker ended with status {status}"
+
+    def _start(self, command: str) -> Address:
+        self.starts += 1
+        try:
+            # In a session of its own, so that whatever the command starts is ended with it.
+            self.process = subprocess.Popen(shlex.split(command), stdin=subprocess.DEVNULL, stdout=subprocess.PIPE, stderr=subprocess.DEVNULL, start_new_session=True)
+        except (OSError, ValueError) as why:
+            raise NoBroker(f"--start: {command}: {why}") from None
+        assert self.process.stdout is not None
+        until = time.monotonic() + self.seconds
+        address = self.given or self._printed(self.process.stdout, until)
+        threading.Thread(target=drain, args=(self.process.stdout,), daemon=True).start()
+        while not is_there(address, self.seconds):
+            self._go_on(until, f"{address[0]}:{address[1]} can't be reached")
+        return address
+
+    def _printed(self, output: IO[bytes], until: float) -> Address:
+        """The first HOST:PORT that the command prints."""
+        printed = b""
+        while True:
+            found = ADDRESS.search(printed) if b"\n" in printed else None
+            if found:
+                return found[1].decode(errors="replace"), int(found[2])
+            if select.select([output], [], [], POLL_SECONDS)[0]:
+                printed += os.read(output.fileno(), 4096)
+            self._go_on(until, "it has printed no HOST:PORT")
+
+    def _go_on(self, until: float, why: str) -> None:
+        assert self.process is not None
+        if self.process.poll() is not None:
+            raise NoBroker(f"--start: the command ended with status {self.process.returncode}: {why}")
+        if time.monotonic() > until:
+            raise NoBroker(f"--start: after {self.seconds:g} s {why}")
+        time.sleep(POLL_SECONDS)
+
+    def end(self) -> None:
+        """Ends what was started, and waits for it."""
+        if self.process is None:
+            return
+        for number in (signal.SIGTERM, signal.SIGKILL):
+            with contextlib.suppress(ProcessLookupError):
+                os.killpg(self.process.pid, number)
+            with contextlib.suppress(subprocess.TimeoutExpired):
+                self.process.wait(END_SECONDS)
+                break
+        self.process = None
+
+
+def drain(output: IO[bytes]) -> None:
+    """Reads on, so that the command never waits for a reader."""
+    with output:
+        while output.read(4096):
+            pass
