@@ -38,10 +38,15 @@ FIRST_PAUSE, LAST_PAUSE = 0.005, 0.25
 LONGEST_SECONDS, SLOW_SESSIONS = 120.0, 4
 NO_EPOCH_YET = 0
 REBALANCE_MS = 60_000
+JOIN_ANEW = (UNKNOWN_MEMBER_ID, FENCED_MEMBER_EPOCH)
 
 
 class Failed(Exception):
-    """Something that has to hold doesn't."""
+    """Something that has to hold doesn't. It is a minor matter where a client gets along with it."""
+
+    def __init__(self, words: str, is_minor: bool = False) -> None:
+        super().__init__(words)
+        self.is_minor = is_minor
 
 
 class NotRun(Exception):
@@ -125,7 +130,10 @@ class Play:
             self.fail(words)
 
     def want_code(self, what: str, code: int, *codes: int) -> None:
-        self.want(code in codes, f"{what} is answered with {code_text(code)}, and should be with {codes_text(codes)}")
+        """Refused is refused: of the two codes after which a client joins anew, it is a minor matter which one it is."""
+        if code not in codes:
+            is_minor = code in JOIN_ANEW and any(each in JOIN_ANEW for each in codes)
+            raise Failed(f"{what} is answered with {code_text(code)}, and should be with {codes_text(codes)}", is_minor)
 
     def want_refused(self, what: str, code: int) -> None:
         self.want(code != 0, f"{what} is accepted, and should be refused")
@@ -297,7 +305,7 @@ class Member:
             self.ids.add(reply.member)
         if request.owned is not None and reply.code == 0:
             self.reported = request.owned
-        self.play.watch(self.group).exchange(self.name, request, reply)
+        self.play.watch(request.group).exchange(self.name, request, reply)
         return reply
 
     def take(self, reply: Told) -> Told:

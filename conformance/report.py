@@ -34,7 +34,7 @@ def by_topic(results: Sequence[Result]) -> Dict[str, List[Result]]:
 def story(result: Result) -> str:
     """A failed case as a story."""
     case = result.case
-    lines = [f"FAILED {case.name}  ({case.level}; {case.section})", f"  what it sends:   {case.sends}", f"  what must hold:  {case.holds}", f"  what came:       {result.says}"]
+    lines = [f"FAILED {case.name}  ({result.level}; {case.section})", f"  what it sends:   {case.sends}", f"  what must hold:  {case.holds}", f"  what came:       {result.says}"]
     return "\n".join([*lines, "  what happened:", *(f"    {line}" for line in result.story)])
 
 
@@ -60,6 +60,7 @@ def as_json(broker: Broker, results: Sequence[Result]) -> str:
             "section": result.case.section,
             "level": result.case.level,
             "status": result.status,
+            "failed level": result.level if result.status == FAILED else None,
             "says": result.says,
             "seconds": round(result.seconds, 3),
             "story": list(result.story) if result.status == FAILED else [],
@@ -89,7 +90,7 @@ def as_junit(results: Sequence[Result]) -> str:
 def add_junit(suite: ElementTree.Element, topic: str, result: Result) -> None:
     it = ElementTree.SubElement(suite, "testcase", name=result.case.name, classname=f"conformance.{topic}", time=f"{result.seconds:.3f}")
     if result.status == FAILED:
-        ElementTree.SubElement(it, "failure", message=result.says, type=result.case.level).text = story(result)
+        ElementTree.SubElement(it, "failure", message=result.says, type=result.level).text = story(result)
     elif result.status == NOT_RUN:
         ElementTree.SubElement(it, "skipped", message=result.says)
     elif result.says:

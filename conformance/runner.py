@@ -8,22 +8,25 @@ import time
 from typing import Callable, List, Optional, Sequence, Tuple
 
 from conformance.broker import Broker, NoBroker, look
-from conformance.case import FREE, Case
+from conformance.case import FREE, MUST, SHOULD, Case
 from conformance.connection import Lost
 from conformance.play import Failed, NotRun, Play, Settings
 from conformance.starter import Starter
 from conformance.wire import Unreadable
 
 PASSED, FAILED, NOTED, NOT_RUN = "passed", "failed", "noted", "not run"
+# How long a broker that ends may still seem to be there.
+ENDING_SECONDS = 0.1
 
 
 @dataclasses.dataclass
 class Result:
-    """What came of a case: its status, why in words, what happened, and how long it took."""
+    """What came of a case: its status, why in words and how sure the standard is of it, what happened, and how long it took."""
 
     case: Case
     status: str
     says: str = ""
+    level: str = ""
     story: Sequence[str] = ()
     seconds: float = 0.0
 
@@ -67,30 +70,36 @@ class Runner:
         try:
             broker = self.look()
         except NoBroker as why:
-            return Result(case, FAILED, f"the broker can't be asked: {why}")
+            return Result(case, FAILED, f"the broker can't be asked: {why}", MUST)
         began = time.monotonic()
         play = Play(case.name, broker, self.settings, case.is_slow)
-        status, says = outcome(case, play)
+        status, says, level = outcome(case, play)
         play.close()
+        if status in (FAILED, NOTED):
+            time.sleep(ENDING_SECONDS)
         if restarts and status != NOT_RUN and self.starter.has_ended():
-            status, says = FAILED, f"{self.starter.why()}: {says}" if says else self.starter.why()
-        return Result(case, status, says, play.story.lines, time.monotonic() - began)
+            # Whatever the answer may be, a broker goes on.
+            status, says, level = FAILED, f"{self.starter.why()}: {says}" if says else self.starter.why(), MUST
+        return Result(case, status, says, level, play.story.shown(), time.monotonic() - began)
 
 
-def outcome(case: Case, play: Play) -> Tuple[str, str]:
-    """The status of a case, and why."""
+def outcome(case: Case, play: Play) -> Tuple[str, str, str]:
+    """The status of a case, why, and how sure the standard is of that."""
     wrong = NOTED if case.level == FREE else FAILED
     try:
         case.run(play)
         play.judge()
     except NotRun as why:
-        return NOT_RUN, str(why)
-    except (Failed, Lost) as why:
+        return NOT_RUN, str(why), case.level
+    except Failed as why:
         # What the checker saw comes before what came of it.
-        return wrong, "; then ".join(dict.fromkeys([*play.faults(), str(why)]))
+        level = SHOULD if why.is_minor and case.level == MUST and not play.faults() else case.level
+        return wrong, "; then ".join(dict.fromkeys([*play.faults(), str(why)])), level
+    except Lost as why:
+        return wrong, "; then ".join([*play.faults(), str(why)]), case.level
     except Unreadable as why:
-        return wrong, f"a reply can't be read: {why}"
+        return wrong, f"a reply can't be read: {why}", case.level
     except Exception as why:  # pylint: disable=broad-except
         # (A reply that nobody thought of: the run goes on.)
-        return FAILED, f"the case broke off: {type(why).__name__}: {why}"
-    return (NOTED, "; ".join(play.notes)) if play.notes else (PASSED, "")
+        return FAILED, f"the case broke off: {type(why).__name__}: {why}", case.level
+    return (NOTED, "; ".join(play.notes), case.level) if play.notes else (PASSED, "", case.level)

@@ -27,31 +27,32 @@ class Starter:
     def __init__(self, address: Optional[Address], command: Optional[str], seconds: float) -> None:
         self.given, self.command, self.seconds = address, command, seconds
         self.process: Optional[subprocess.Popen[bytes]] = None
-        # How often it was started.
-        self.starts = 0
+        self.found: Optional[Address] = None
 
     def address(self) -> Address:
         """Where the broker listens. It is started where it isn't there. Raises NoBroker."""
         if self.command is None:
             assert self.given is not None
             return self.given
-        if self.process is None or self.process.poll() is not None:
+        if self.found is None or self.has_ended():
             self.end()
             self.found = self._start(self.command)
         return self.found
 
     def has_ended(self) -> bool:
-        """Whether the broker isn't there any more."""
-        if self.process is not None:
-            return self.process.poll() is not None
-        return self.given is not None and not is_there(self.given, self.seconds)
+        """Whether the broker isn't there any more. (One that ends may still be there for a moment.)"""
+        if self.process is not None and self.process.poll() is not None:
+            return True
+        address = self.found or self.given
+        return address is not None and not is_there(address, self.seconds)
 
     def why(self) -> str:
-        status = None if self.process is None else self.process.poll()
-        return "the broker isn't there any more" if status is None else f"the broker ended with status {status}"
+        with contextlib.suppress(subprocess.TimeoutExpired):
+            if self.process is not None:
+                return f"the broker ended with status {self.process.wait(END_SECONDS)}"
+        return "the broker isn't there any more"
 
     def _start(self, command: str) -> Address:
-        self.starts += 1
         try:
             # In a session of its own, so that whatever the command starts is ended with it.
             self.process = subprocess.Popen(shlex.split(command), stdin=subprocess.DEVNULL, stdout=subprocess.PIPE, stderr=subprocess.DEVNULL, start_new_session=True)

@@ -3,7 +3,7 @@
 from __future__ import annotations
 
 import time
-from typing import Dict, Iterable, List, Optional, Sequence
+from typing import Dict, Iterable, List, Optional, Sequence, Tuple
 
 from conformance.messages import AWAY, JOIN, LEAVE, Commit, Heartbeat, Partitions, Told, Topic, by_topic
 
@@ -30,6 +30,8 @@ CODES = {
 ACTS = {JOIN: "joins", LEAVE: "leaves", AWAY: "leaves for a while"}
 MOST_LINES = 4_000
 LONGEST_VALUE = 60
+# Of so many lines a block may have that is shown once where it comes again at once.
+LONGEST_BLOCK = 24
 
 
 def code_text(code: int) -> str:
@@ -49,12 +51,34 @@ def short(value: str) -> str:
 class Story:
     def __init__(self, topics: Sequence[Topic]) -> None:
         self.began = time.monotonic()
-        self.lines: List[str] = []
+        self.lines: List[Tuple[float, str]] = []
         self._names: Dict[bytes, str] = {topic.id: topic.name for topic in topics}
 
     def say(self, line: str) -> None:
         if len(self.lines) < MOST_LINES:
-            self.lines.append(f"{time.monotonic() - self.began:7.3f} s  {line}")
+            self.lines.append((time.monotonic() - self.began, line))
+
+    def shown(self) -> List[str]:
+        """The lines with their seconds. What comes again and again is shown once."""
+        out, at = [], 0
+        while at < len(self.lines):
+            size, times = self._block(at)
+            out += [f"{seconds:7.3f} s  {line}" for seconds, line in self.lines[at : at + size]]
+            if times > 1:
+                out.append(f"           (the same{'' if size == 1 else f' {size} lines'} {times - 1} times more, until {self.lines[at + size * times - 1][0]:.3f} s)")
+            at += size * times
+        return out
+
+    def _block(self, at: int) -> Tuple[int, int]:
+        """How many lines from there on come again at once, and how often they stand there; one line, once, where none do."""
+        words = [line for _, line in self.lines[at : at + LONGEST_BLOCK * 2]]
+        size = next((size for size in range(1, LONGEST_BLOCK + 1) if size * 2 <= len(words) and words[:size] == words[size : size * 2]), 0)
+        if size == 0:
+            return 1, 1
+        times = 2
+        while [line for _, line in self.lines[at + size * times : at + size * (times + 1)]] == words[:size]:
+            times += 1
+        return size, times
 
     # -- words
 

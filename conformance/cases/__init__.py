@@ -27,7 +27,8 @@ TOPICS = (
 def load() -> List[Case]:
     for topic in TOPICS:
         importlib.import_module(f"conformance.cases.{topic}")
-    return CASES
+    places = [topic.replace("_", " ") for topic in TOPICS]
+    return sorted(CASES, key=lambda case: places.index(topic_of(case)))
 
 
 def topic_of(case: Case) -> str:

@@ -1,7 +1,8 @@
-"""New partitions of a topic, where the broker can be told of them (`--grow COMMAND`). They are the last cases: the topic isn't as it was."""
+"""New partitions of a topic, where the broker can be told of them (`--grow COMMAND`, which has the topic's name in TOPIC). They are the last cases: the topic isn't as it was."""
 
 from __future__ import annotations
 
+import os
 import subprocess
 from typing import Set
 
@@ -18,7 +19,8 @@ def grow(play: Play) -> None:
         raise NotRun("it needs --grow COMMAND, which adds partitions to the first topic")
     play.story.say(f"-- {command}")
     try:
-        subprocess.run(command, shell=True, check=True, stdin=subprocess.DEVNULL, stdout=subprocess.DEVNULL, stderr=subprocess.DEVNULL, timeout=GROW_SECONDS)
+        topic = {**os.environ, "TOPIC": play.topic().name}
+        subprocess.run(command, shell=True, check=True, env=topic, stdin=subprocess.DEVNULL, stdout=subprocess.DEVNULL, stderr=subprocess.DEVNULL, timeout=GROW_SECONDS)
     except (OSError, subprocess.SubprocessError) as why:
         raise NotRun(f"--grow: {why}") from None
 

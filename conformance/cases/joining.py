@@ -3,11 +3,11 @@
 from __future__ import annotations
 
 from conformance.case import FREE, GROUP_EPOCH, HANDLING, MEMBER_EPOCH, MEMBER_ID, MUST, REQUEST, RESPONSE, SHOULD, case
+from conformance.cases.heartbeats import NO_SUCH_TOPIC
 from conformance.messages import NOTHING
 from conformance.play import NotRun, Play, new_id
 from conformance.story import code_text
 
-NO_SUCH_TOPIC = "conformance-no-such-topic"
 
 
 @case("join-alone", HANDLING, MUST, "a member joins a group that isn't there", "it becomes a member, and gets all partitions of its topic")

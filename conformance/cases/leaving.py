@@ -79,7 +79,7 @@ def leave_and_join(play: Play) -> None:
     play.want(a.epoch > epoch, f"it joins again at epoch {a.epoch}, and was at {epoch} before")
 
 
-@case("last-leaves", GROUP_EPOCH, MUST, "the only member leaves, and another one joins the empty group", "the new one gets everything; the epoch doesn't begin anew while the group is there")
+@case("last-leaves", GROUP_EPOCH, MUST, "the only member leaves, and another one joins the empty group", "the new one gets everything")
 def last_leaves(play: Play) -> None:
     a, b = play.member("a"), play.member("b")
     a.join()
@@ -87,3 +87,15 @@ def last_leaves(play: Play) -> None:
     a.leave()
     b.join()
     play.settle(b)
+
+
+@case("last-leaves-epoch", GROUP_EPOCH, SHOULD, "the only member leaves, and joins again at once", "the group is there still: its epoch goes on")
+def last_leaves_epoch(play: Play) -> None:
+    a = play.member("a", id=new_id())
+    a.join()
+    play.settle(a)
+    epoch = a.epoch
+    a.leave()
+    a.join()
+    play.settle(a)
+    play.want(a.epoch > epoch, f"it joins again at epoch {a.epoch}, and was at {epoch} before")

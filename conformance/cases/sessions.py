@@ -8,6 +8,7 @@ from typing import Callable
 from conformance.case import MUST, REBALANCE_TIMEOUT, SESSIONS, SHOULD, STATIC, case
 from conformance.cases.heartbeats import UNKNOWN_MEMBER_ID, settled_pair, told_to_revoke
 from conformance.cases.static_members import heir, static_pair
+from conformance.messages import NOTHING
 from conformance.play import Member, Play, new_id
 
 PAUSE = 0.25
@@ -109,12 +110,13 @@ def rebalance_timeout_ends(play: Play) -> None:
     b.join()
     told_to_revoke(play, a)
     play.story.say("-- a beats on, and gives nothing up")
-    end = time.monotonic() + SOON_MS / 1000 + play.settings.late
-    reply = a.tries()
-    while reply.code == 0 and time.monotonic() < end:
+    begin, reply = time.monotonic(), a.tries()
+    while reply.code == 0 and time.monotonic() < begin + SOON_MS / 1000 + play.settings.late:
         time.sleep(PAUSE)
+        if time.monotonic() > begin + SOON_MS / 1000:
+            # From now on what it has may go to others.
+            play.watch(a.group).members[a.id].holds = NOTHING
         b.turn()
-        play.watch(a.group).members[a.id].epoch = a.epoch
         reply = a.tries()
     play.want_code(f"{play.settings.late:g} s after its rebalance timeout a heartbeat of the member", reply.code, UNKNOWN_MEMBER_ID)
     play.settle(b)

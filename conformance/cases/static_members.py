@@ -143,7 +143,7 @@ def static_instance_after_leave(play: Play) -> None:
     play.settle(back, d)
 
 
-@case("static-away-foreign-instance", STATIC, MUST, "epoch -2 under a member's id, with an instance that isn't its own", "refused, and the member goes on")
+@case("static-away-foreign-instance", STATIC, SHOULD, "epoch -2 under a member's id, with an instance that isn't its own", "refused, and the member goes on")
 def static_away_foreign_instance(play: Play) -> None:
     s, _ = static_pair(play)
     reply = s.ask(s.request("away", instance="another-instance"))
@@ -151,7 +151,7 @@ def static_away_foreign_instance(play: Play) -> None:
     s.turn()
 
 
-@case("static-away-dynamic", STATIC, MUST, "epoch -2, with an instance, of a member that has none", "refused, and the member goes on")
+@case("static-away-dynamic", STATIC, SHOULD, "epoch -2, with an instance, of a member that has none", "refused, and the member goes on")
 def static_away_dynamic(play: Play) -> None:
     s, d = static_pair(play)
     reply = d.ask(d.request("away", instance=s.instance))

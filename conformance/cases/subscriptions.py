@@ -5,8 +5,7 @@ from __future__ import annotations
 from typing import Tuple
 
 from conformance.case import GROUP_EPOCH, MUST, REQUEST, SHOULD, case
-from conformance.cases.heartbeats import settled_pair
-from conformance.cases.joining import NO_SUCH_TOPIC
+from conformance.cases.heartbeats import NO_SUCH_TOPIC, settled_pair
 from conformance.messages import Topic
 from conformance.play import Member, Play
 

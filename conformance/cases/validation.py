@@ -38,7 +38,7 @@ JOINS = (
 BEATS = (
     Row("refuse-beat-without-id", MUST, "a heartbeat at epoch 1 without a member id", "only a join may lack the member id", "short", {"member": ""}, (INVALID_REQUEST, UNKNOWN_MEMBER_ID)),
     Row("refuse-leave-without-id", MUST, "a leave without a member id", "only a join may lack the member id", "leave", {"member": ""}, (INVALID_REQUEST, UNKNOWN_MEMBER_ID)),
-    Row("refuse-away-without-instance", MUST, "epoch -2 without an instance id", "epoch -2 is for static members", "away", {"instance": None}, (INVALID_REQUEST, UNKNOWN_MEMBER_ID)),
+    Row("refuse-away-without-instance", SHOULD, "epoch -2 without an instance id", "epoch -2 is for static members", "away", {"instance": None}, (INVALID_REQUEST, UNKNOWN_MEMBER_ID)),
     Row("refuse-beat-assignor", MUST, "a heartbeat with an assignor that there isn't", "UNSUPPORTED_ASSIGNOR", "full", {"assignor": NO_SUCH_ASSIGNOR}, (UNSUPPORTED_ASSIGNOR,)),
 )
 

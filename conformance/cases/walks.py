@@ -30,7 +30,7 @@ class Walk:
         ]
         # Members that didn't get a reply: they send a full heartbeat next, and may be behind.
         self.behind: List[Member] = []
-        self.walks: List[Tuple[float, Callable[[Member], None]]] = [(0.72, self.beats), (0.08, self.leaves), (0.1, self.rejoins), (0.1, self.repeats)]
+        self.walks: List[Tuple[float, Callable[[Member], None]]] = [(0.8, self.beats), (0.08, self.leaves)]
 
     def go(self, steps: int) -> None:
         for _ in range(steps):
@@ -92,9 +92,6 @@ class Walk:
         kind = "owned" if kind == "short" and member.owned != member.reported and self.dice.random() < 0.7 else kind
         self.hears(member, "join" if member.epoch == 0 else kind)
 
-    def rejoins(self, member: Member) -> None:
-        self.joins(member)
-
     def leaves(self, member: Member) -> None:
         if member in self.behind:
             self.behind.remove(member)
@@ -122,9 +119,19 @@ def walks(play: Play, steps: int = STEPS, change: Callable[[Walk], None] = lambd
             member.leave()
 
 
-@case("walk", MEMBER_EPOCH, MUST, "four members join, beat, report, leave and join again at random", HOLDS)
+@case("walk", MEMBER_EPOCH, MUST, "four members join, beat, report and leave at random", HOLDS)
 def walk(play: Play) -> None:
     walks(play)
+
+
+@case("walk-rejoins", MEMBER_EPOCH, MUST, "the same, and members join anew while they are members", HOLDS)
+def walk_rejoins(play: Play) -> None:
+    walks(play, change=lambda it: it.walks.append((0.12, it.joins)))
+
+
+@case("walk-repeats", MEMBER_EPOCH, MUST, "the same, and full heartbeats are sent twice, since the first reply is lost", HOLDS)
+def walk_repeats(play: Play) -> None:
+    walks(play, change=lambda it: it.walks.append((0.12, it.repeats)))
 
 
 @case("walk-lost-replies", MEMBER_EPOCH, MUST, "the same, and every fifth reply is lost", HOLDS)
@@ -146,7 +153,7 @@ def walk_two_topics(play: Play) -> None:
 
         it.walks.append((0.15, changes))
 
-    walks(play, topics=2, loss=0.1, change=subscriptions)
+    walks(play, topics=2, change=subscriptions)
 
 
 @case("walk-static", STATIC, MUST, "static members that leave for a while, come back under new ids, and leave for good", HOLDS)
@@ -165,7 +172,7 @@ def walk_static(play: Play) -> None:
 
         it.walks.append((0.15, away))
 
-    walks(play, is_static=True, loss=0.1, change=stays_away)
+    walks(play, is_static=True, change=stays_away)
 
 
 @case("walk-commits", OFFSET_COMMITS, MUST, "the same, and members commit: at their epoch what they have, and late what they had", HOLDS + "; right commits are accepted, and late ones refused")
@@ -186,7 +193,7 @@ def walk_commits(play: Play) -> None:
 
         it.walks.append((0.3, commits))
 
-    walks(play, loss=0.1, change=with_commits)
+    walks(play, change=with_commits)
 
 
 @case("walk-many", MEMBER_EPOCH, MUST, "twelve members join and leave at random", HOLDS)

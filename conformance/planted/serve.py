@@ -2,7 +2,7 @@
 
 usage: python3 serve.py RULES SESSION_SECONDS NAME:UUID:COUNT ..
 
-RULES is the folder with the package `rules` (tools/, or a copy with a fault). Prints `listening PORT`. SIGUSR1 adds a partition to the first
+RULES is the folder with the package `rules` (tools/, or a copy with a fault). Prints `listening PORT`. SIGUSR1 adds a partition to each
 topic. Ends with its standard input.
 """
 
@@ -33,9 +33,7 @@ class Server:
             node.image[name] = (uuid.UUID(topic_id).bytes, int(count))
 
     def grow(self, *_: object) -> None:
-        name = next(iter(self.node.image))
-        topic_id, count = self.node.image[name]
-        self.node.image = {**self.node.image, name: (topic_id, count + 1)}
+        self.node.image = {name: (topic_id, count + 1) for name, (topic_id, count) in self.node.image.items()}
 
     def ticks(self) -> None:
         while True:

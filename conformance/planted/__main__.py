@@ -1,0 +1,100 @@
+"""`python3 -m conformance.planted`: plants each fault in a copy of the rules, and shows by which cases the suite finds it."""
+
+from __future__ import annotations
+
+import argparse
+import concurrent.futures
+import contextlib
+import pathlib
+import signal
+import sys
+import tempfile
+from typing import List, NamedTuple, Sequence
+
+from conformance.broker import NoBroker
+from conformance.case import Case
+from conformance.cases import load
+from conformance.planted.faults import RULES, BadFault, Fault, plant, read
+from conformance.planted.stand import SESSION_SECONDS, Broken, over_rules
+from conformance.play import Settings
+from conformance.runner import FAILED, Runner
+from conformance.starter import Starter
+
+TIMEOUT, PATIENCE = 5.0, 1.5
+# The session timeout where slow cases are played, and how much later its end may be noticed.
+SHORT_SESSION, LATE = 3.0, 3.0
+
+
+class Found(NamedTuple):
+    """By which cases a fault is found, of how many that were played."""
+
+    fault: Fault
+    cases: List[str]
+    played: int
+
+
+def main(words: Sequence[str]) -> int:
+    parser = argparse.ArgumentParser(prog="python3 -m conformance.planted", description=__doc__)
+    parser.add_argument("--only", nargs="+", metavar="FAULT", help="these faults alone")
+    parser.add_argument("--named", action="store_true", help="plays only the case that has to find the fault")
+    parser.add_argument("--jobs", type=int, default=2, metavar="N", help="so many at once (%(default)d)")
+    parser.add_argument("--serve", nargs="?", const="", metavar="FAULT", help="serves a broker with this fault, or with none, until a signal; prints HOST:PORT")
+    options = parser.parse_args(words)
+    faults = {fault.name: fault for fault in read()}
+    missing = [name for name in [*(options.only or ()), *([options.serve] if options.serve else ())] if name not in faults]
+    if missing:
+        parser.error(f"there is no fault {missing[0]}")
+    if options.serve is not None:
+        return serve([faults[options.serve]] if options.serve else [])
+    return show([faults[name] for name in options.only or faults], load(), options.named, options.jobs)
+
+
+def serve(faults: Sequence[Fault]) -> int:
+    signal.signal(signal.SIGTERM, lambda *_: sys.exit(0))
+    with contextlib.suppress(KeyboardInterrupt), tempfile.TemporaryDirectory() as folder:
+        for fault in faults:
+            plant(fault, pathlib.Path(folder))
+        with over_rules(pathlib.Path(folder) if faults else RULES.parent) as stand:
+            print(stand.addresses[0], flush=True)
+            signal.pause()
+    return 0
+
+
+def show(faults: Sequence[Fault], cases: Sequence[Case], named: bool, jobs: int) -> int:
+    """Status 0 where each fault is found by the case that names it."""
+    finders = {fault.case for fault in faults}
+    unfound = 0
+    with concurrent.futures.ThreadPoolExecutor(max(1, jobs)) as pool:
+        for found in pool.map(lambda fault: try_fault(fault, cases, named), faults):
+            is_found = found.fault.case in found.cases
+            unfound += not is_found
+            others = [name for name in found.cases if name != found.fault.case]
+            print(f"{'found' if is_found else 'NOT FOUND'}  {found.fault.name}: {found.fault.words['is']}")
+            print(f"    by {found.fault.case}; {len(found.cases)} of {found.played} cases fail{': ' if others else ''}{' '.join(others[:8])}{' ..' if len(others) > 8 else ''}", flush=True)
+    if not named:
+        print(f"cases that no planted fault names: {sum(case.name not in finders for case in cases)} of {len(cases)}")
+    print(f"{len(faults) - unfound} of {len(faults)} planted faults are found by the case that names them")
+    return int(unfound > 0)
+
+
+def try_fault(fault: Fault, cases: Sequence[Case], named: bool) -> Found:
+    """Plays the fast cases, and the slow ones too where one of them has to find the fault."""
+    is_slow = next(case.is_slow for case in cases if case.name == fault.case)
+    chosen = [case for case in cases if case.name == fault.case or not named and (is_slow or not case.is_slow)]
+    session = SHORT_SESSION if is_slow else SESSION_SECONDS
+    with tempfile.TemporaryDirectory() as folder:
+        plant(fault, pathlib.Path(folder))
+        with over_rules(pathlib.Path(folder), session) as stand:
+            settings = Settings(PATIENCE, session, LATE, f"kill -USR1 {stand.coordinators[0]}")
+            host, _, port = stand.addresses[0].rpartition(":")
+            runner = Runner(Starter((host, int(port)), None, TIMEOUT), settings, TIMEOUT, None, None)
+            results = runner.run(chosen, lambda _: None)
+    return Found(fault, [result.case.name for result in results if result.status == FAILED], len(chosen))
+
+
+if __name__ == "__main__":
+    try:
+        sys.exit(main(sys.argv[1:]))
+    except (BadFault, Broken, NoBroker) as why:
+        print(f"conformance.planted: {why}", file=sys.stderr)
+        sys.exit(2)

@@ -1,0 +1,70 @@
+"""The planted faults, and copies of the rules that have one."""
+
+from __future__ import annotations
+
+import dataclasses
+import pathlib
+import shutil
+from typing import Dict, List
+
+FILE = pathlib.Path(__file__).resolve().parent / "faults.txt"
+TOP = FILE.parents[2]
+RULES = TOP / "tools/rules"
+
+
+@dataclasses.dataclass
+class Edit:
+    """Lines of a file that stand there once, and what stands in their place."""
+
+    file: str
+    old: List[str] = dataclasses.field(default_factory=list)
+    new: List[str] = dataclasses.field(default_factory=list)
+
+
+@dataclasses.dataclass
+class Fault:
+    name: str
+    words: Dict[str, str] = dataclasses.field(default_factory=dict)
+    edits: List[Edit] = dataclasses.field(default_factory=list)
+
+    @property
+    def case(self) -> str:
+        """The case that has to find it."""
+        return self.words["case"]
+
+
+class BadFault(Exception):
+    """A fault that can't be planted, and why."""
+
+
+def read() -> List[Fault]:
+    faults: List[Fault] = []
+    for number, line in enumerate(FILE.read_text(encoding="utf-8").splitlines(), 1):
+        if not line or line.startswith("#"):
+            continue
+        key, colon, value = line.partition(":")
+        value = value[1:]
+        if key == "fault":
+            faults.append(Fault(value))
+        elif key == "file":
+            faults[-1].edits.append(Edit(value))
+        elif key in ("old", "new") and faults[-1].edits:
+            getattr(faults[-1].edits[-1], key).append(value)
+        elif colon and key in ("is", "case"):
+            faults[-1].words[key] = value
+        else:
+            raise BadFault(f"{FILE.name}, line {number}: {line}")
+    return faults
+
+
+def plant(fault: Fault, folder: pathlib.Path) -> None:
+    """Makes a copy of the rules with the fault in a folder."""
+    shutil.copytree(RULES, folder / RULES.name, ignore=shutil.ignore_patterns("__pycache__"))
+    for edit in fault.edits:
+        path = folder / RULES.name / edit.file
+        text = path.read_text(encoding="utf-8")
+        # (The last line may be the beginning of one.)
+        old, new = ("\n".join(lines) for lines in (edit.old, edit.new))
+        if text.count(old) != 1:
+            raise BadFault(f"{fault.name}: its old lines stand {text.count(old)} times in tools/rules/{edit.file}")
+        path.write_text(text.replace(old, new), encoding="utf-8")
