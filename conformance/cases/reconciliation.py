@@ -108,8 +108,9 @@ def claim_changes_nothing(play: Play) -> None:
     # What it may hold by its own words isn't what it holds.
     play.watch(a.group).members[a.id].holds = a.owned
     play.want(not (reply.assignment or NOTHING) & had, f"it is assigned {play.story.partitions((reply.assignment or NOTHING) & had)} since it claimed it")
-    b.beat("full")
-    play.want(had <= b.owned & b.assigned, f"the other member is told to give up {play.story.partitions(had - b.assigned)}")
+    for kind in ("short", "full"):
+        b.beat(kind)
+        play.want(had <= b.assigned, f"the other member is told to give up {play.story.partitions(had - b.assigned)}")
 
 
 @case("newcomer-leaves", MEMBER_EPOCH, MUST, "while the first member revokes, the second leaves again", "the first gets everything back")

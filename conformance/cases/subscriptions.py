@@ -98,11 +98,14 @@ def apart(play: Play) -> Tuple[Member, Member]:
     return a, b
 
 
-@case("subscribe-apart", GROUP_EPOCH, MUST, "two members of one group subscribe different topics", "each gets its own topic's partitions, all of them")
+@case("subscribe-apart", GROUP_EPOCH, MUST, "one member subscribes a topic, and two others of its group another topic", "each gets partitions of its own topic alone, however unequal that is")
 def subscribe_apart(play: Play) -> None:
     a, b = apart(play)
+    c = play.member("c", names=b.names)
+    c.join()
+    play.settle(a, b, c)
     play.want(a.owned == play.topic(0).partitions(), f"the first has {play.story.partitions(a.owned)}")
-    play.want(b.owned == play.topic(1).partitions(), f"the second has {play.story.partitions(b.owned)}")
+    play.want(b.owned | c.owned == play.topic(1).partitions(), f"the others have {play.story.partitions(b.owned | c.owned)}")
 
 
 @case("subscribe-swap", GROUP_EPOCH, MUST, "two members swap their topics", "each gives up what it had, and gets the other's partitions")
