@@ -4,6 +4,7 @@ from __future__ import annotations
 
 import argparse
 import re
+import signal
 import sys
 import time
 from typing import List, NoReturn, Optional, Sequence
@@ -81,8 +82,13 @@ def tell(result: Result) -> None:
         print(f"failed: {result.case.name}: {result.says}", file=sys.stderr, flush=True)
 
 
+def stop(*_: object) -> NoReturn:
+    raise KeyboardInterrupt
+
+
 def main(words: List[str]) -> int:
     options = parser().parse_args(words)
+    signal.signal(signal.SIGTERM, stop)
     cases = load()
     if options.list:
         show_list(cases)

@@ -165,8 +165,13 @@ class Play:
         names = {name for member in members for name in member.names}
         wanted = frozenset(each for topic in self.broker.topics if topic.name in names for each in topic.partitions())
         owned = [each for member in members for each in member.owned]
-        steady = all(member.is_in and member.owned == member.assigned == member.reported for member in members)
-        return steady and len({member.epoch for member in members}) <= 1 and sorted(owned) == sorted(wanted)
+        return self.are_steady(members) and sorted(owned) == sorted(wanted)
+
+    @staticmethod
+    def are_steady(members: Sequence[Member]) -> bool:
+        """They have what they are assigned, have reported it, and are at one epoch."""
+        are_done = all(member.is_in and member.owned == member.assigned and not member.has_news for member in members)
+        return are_done and len({member.epoch for member in members}) <= 1
 
     # -- offsets
 
@@ -249,10 +254,10 @@ class Member:
     assignor: Optional[str] = None
     timeout: int = REBALANCE_MS
     epoch: int = NO_EPOCH_YET
-    # What it was shown last, what it owns, and what it reported last.
+    # What it was shown last, what it owns, and whether that has changed since it reported it.
     assigned: Partitions = NOTHING
     owned: Partitions = NOTHING
-    reported: Partitions = NOTHING
+    has_news: bool = False
     # It is a member, or it may be one: it has sent a join and doesn't know what came of it.
     is_in: bool = False
     may_be_in: bool = False
@@ -304,22 +309,27 @@ class Member:
         if reply.code == 0 and request.epoch == JOIN and reply.member:
             self.ids.add(reply.member)
         if request.owned is not None and reply.code == 0:
-            self.reported = request.owned
+            self.has_news = False
         self.play.watch(request.group).exchange(self.name, request, reply)
         return reply
 
     def take(self, reply: Told) -> Told:
         """Does what the reply says, but for the release of what isn't assigned any more."""
         if reply.code in (UNKNOWN_MEMBER_ID, FENCED_MEMBER_EPOCH):
-            self.is_in, self.epoch, self.owned, self.assigned, self.reported = False, 0, NOTHING, NOTHING, NOTHING
+            self.is_in, self.epoch, self.owned, self.assigned, self.has_news = False, 0, NOTHING, NOTHING, False
         if reply.code == 0:
             self.is_in, self.id, self.epoch = True, reply.member or self.id, reply.epoch
             if reply.assignment is not None:
-                self.assigned, self.owned = reply.assignment, self.owned | reply.assignment
+                self.assigned = reply.assignment
+                self.owns(self.owned | reply.assignment)
         return reply
 
+    def owns(self, partitions: Partitions) -> None:
+        self.has_news = self.has_news or partitions != self.owned
+        self.owned = partitions
+
     def release(self) -> None:
-        self.owned &= self.assigned
+        self.owns(self.owned & self.assigned)
 
     # -- what members do
 
@@ -345,7 +355,7 @@ class Member:
 
     def turn(self, kind: str = "short") -> Told:
         """A beat as a client sends it: what it owns is reported where that has changed. What isn't assigned any more is released."""
-        kind = "join" if self.epoch == NO_EPOCH_YET else "owned" if kind == "short" and self.owned != self.reported else kind
+        kind = "join" if self.epoch == NO_EPOCH_YET else "owned" if kind == "short" and self.has_news else kind
         reply = self.beat(kind)
         self.release()
         return reply
@@ -354,7 +364,7 @@ class Member:
         """Leaves for good, or, away, for a while."""
         reply = self.ask(self.request(kind, **changes))
         self.play.want_code(f"the leave of {self.name}", reply.code, 0)
-        self.is_in, self.owned, self.assigned, self.reported = False, NOTHING, NOTHING, NOTHING
+        self.is_in, self.owned, self.assigned, self.has_news = False, NOTHING, NOTHING, False
         self.may_be_in = kind == "away"
         return reply
 

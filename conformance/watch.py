@@ -99,5 +99,3 @@ class Watch:
         never = frozenset(each for each in shown if self.topic_names.get(each[0]) not in seen.topics)
         if never:
             self.fault(f"{seen.name} is assigned {self.story.partitions(never)}, a topic that it never subscribed")
-        if request.epoch != JOIN and (seen.shown - shown) & seen.holds and shown - seen.shown:
-            self.fault(f"one reply takes partitions from {seen.name} and gives it others: a member revokes first, and is assigned then")

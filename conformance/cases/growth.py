@@ -8,7 +8,7 @@ from typing import Set
 
 from conformance.case import GROUP_EPOCH, MUST, case
 from conformance.messages import Partition
-from conformance.play import Member, NotRun, Play
+from conformance.play import NotRun, Play
 
 GROW_SECONDS = 60
 
@@ -25,10 +25,6 @@ def grow(play: Play) -> None:
         raise NotRun(f"--grow: {why}") from None
 
 
-def steady(*members: Member) -> bool:
-    return all(member.is_in and member.owned == member.assigned == member.reported for member in members) and len({member.epoch for member in members}) == 1
-
-
 @case("grow", GROUP_EPOCH, MUST, "a topic that two members share gets new partitions", "the group epoch rises, and the new partitions are assigned", is_slow=True)
 def grow_topic(play: Play) -> None:
     if play.settings.grow is None:
@@ -36,10 +32,10 @@ def grow_topic(play: Play) -> None:
     a, b = play.member("a"), play.member("b")
     a.join()
     b.join()
-    play.until("both have what they are assigned", lambda: bool(a.owned) and bool(b.owned) and steady(a, b), a, b)
+    play.until("both have what they are assigned", lambda: bool(a.owned) and bool(b.owned) and play.are_steady([a, b]), a, b)
     before: Set[Partition] = set(a.owned | b.owned)
     epoch = a.epoch
     grow(play)
-    play.until("more partitions are assigned", lambda: len(a.owned | b.owned) > len(before) and steady(a, b), a, b)
+    play.until("more partitions are assigned", lambda: len(a.owned | b.owned) > len(before) and play.are_steady([a, b]), a, b)
     play.want(before <= a.owned | b.owned, "partitions that were assigned before aren't any more")
     play.want(a.epoch > epoch, f"both stay at epoch {epoch}")

@@ -4,10 +4,10 @@ from __future__ import annotations
 
 from typing import Tuple
 
-from conformance.case import ASSIGNMENT_EPOCH, MEMBER_EPOCH, MUST, case
+from conformance.case import ASSIGNMENT_EPOCH, MEMBER_EPOCH, MUST, RESPONSE, SHOULD, case
 from conformance.cases.heartbeats import settled_pair, told_to_revoke
 from conformance.messages import NOTHING
-from conformance.play import Member, Play
+from conformance.play import Member, NotRun, Play
 
 
 def asked_to_revoke(play: Play) -> Tuple[Member, Member]:
@@ -72,8 +72,8 @@ def report_in_part(play: Play) -> None:
     a, b = asked_to_revoke(play)
     epoch, revoked = a.epoch, sorted(a.owned - a.assigned)
     if len(revoked) < 2:
-        return
-    a.owned -= {revoked[0]}
+        raise NotRun("the assignor takes one partition only, which is given up in whole")
+    a.owns(a.owned - {revoked[0]})
     for _ in range(3):
         a.beat("owned")
         b.turn()
@@ -111,6 +111,26 @@ def claim_changes_nothing(play: Play) -> None:
     for kind in ("short", "full"):
         b.beat(kind)
         play.want(had <= b.assigned, f"the other member is told to give up {play.story.partitions(had - b.assigned)}")
+
+
+@case(
+    "revoke-or-assign", RESPONSE, SHOULD, "a member is to give up one topic; before its report is answered it changes to that topic, and away from the other one",
+    "no reply both revokes partitions and assigns others: first it gives up the second topic, and then it gets the first again",
+)
+def revoke_or_assign(play: Play) -> None:
+    first, second = play.topic(0), play.topic(1)
+    a = play.member("a", names=[first.name, second.name])
+    a.join()
+    play.settle(a)
+    a.beat(names=[first.name])
+    play.until(f"it is told to give up {second.name}", lambda: a.assigned == first.partitions(), a, act=Member.beat)
+    a.release()
+    a.names = [second.name]
+    reply = a.beat("full")
+    revoked, given = first.partitions() - a.assigned, a.assigned & second.partitions()
+    play.want(not (reply.assignment and revoked and given), f"one reply takes {play.story.partitions(revoked)} and gives {play.story.partitions(given)}")
+    a.release()
+    play.settle(a)
 
 
 @case("newcomer-leaves", MEMBER_EPOCH, MUST, "while the first member revokes, the second leaves again", "the first gets everything back")

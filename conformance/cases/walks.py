@@ -89,7 +89,7 @@ class Walk:
         if self.dice.random() < 0.7:
             member.release()
         kind = "full" if member in self.behind else self.dice.choice(["short", "owned", "owned", "full"])
-        kind = "owned" if kind == "short" and member.owned != member.reported and self.dice.random() < 0.7 else kind
+        kind = "owned" if kind == "short" and member.has_news and self.dice.random() < 0.7 else kind
         self.hears(member, "join" if member.epoch == 0 else kind)
 
     def leaves(self, member: Member) -> None:

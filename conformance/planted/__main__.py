@@ -15,7 +15,7 @@ from conformance.broker import NoBroker
 from conformance.case import Case
 from conformance.cases import load
 from conformance.planted.faults import RULES, BadFault, Fault, plant, read
-from conformance.planted.stand import SESSION_SECONDS, Broken, over_rules
+from conformance.planted.stand import SESSION_SECONDS, Broken, end_all, over_rules
 from conformance.play import Settings
 from conformance.runner import FAILED, Runner
 from conformance.starter import Starter
@@ -44,13 +44,13 @@ def main(words: Sequence[str]) -> int:
     missing = [name for name in [*(options.only or ()), *([options.serve] if options.serve else ())] if name not in faults]
     if missing:
         parser.error(f"there is no fault {missing[0]}")
+    signal.signal(signal.SIGTERM, end_all)
     if options.serve is not None:
         return serve([faults[options.serve]] if options.serve else [])
     return show([faults[name] for name in options.only or faults], load(), options.named, options.jobs)
 
 
 def serve(faults: Sequence[Fault]) -> int:
-    signal.signal(signal.SIGTERM, lambda *_: sys.exit(0))
     with contextlib.suppress(KeyboardInterrupt), tempfile.TemporaryDirectory() as folder:
         for fault in faults:
             plant(fault, pathlib.Path(folder))

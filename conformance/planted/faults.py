@@ -44,7 +44,7 @@ def read() -> List[Fault]:
             continue
         key, colon, value = line.partition(":")
         value = value[1:]
-        if key == "fault":
+        if key == "name":
             faults.append(Fault(value))
         elif key == "file":
             faults[-1].edits.append(Edit(value))

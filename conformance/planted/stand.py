@@ -6,14 +6,15 @@ import contextlib
 import os
 import pathlib
 import re
+import signal
 import subprocess
 import sys
-from typing import IO, Iterator, List, NamedTuple, Optional, Sequence, Tuple
+from typing import IO, Iterator, List, NamedTuple, Sequence, Set, Tuple
 
 from conformance.planted.faults import TOP
 
 # The folder in which `python3 -m broker` finds the front end.
-FRONT_END = TOP / "examples/broker"
+FRONT_END = TOP
 SERVE = pathlib.Path(__file__).resolve().parent / "serve.py"
 TOPICS = (
     "orders:11111111-1111-1111-1111-111111111111:4",
@@ -22,6 +23,10 @@ TOPICS = (
 )
 SESSION_SECONDS = 45.0
 END_SECONDS = 10
+
+
+# What was started and hasn't been ended.
+LIVE: Set[subprocess.Popen[bytes]] = set()
 
 
 class Broken(Exception):
@@ -37,10 +42,11 @@ class Stand(NamedTuple):
 
 def begin(stack: contextlib.ExitStack, words: Sequence[str], folder: pathlib.Path, lines: int = 1) -> Tuple[int, List[str]]:
     """Starts a program that ends with the stack. Gives its process id and its first lines."""
-    # Its standard input is a pipe, so that it ends also where this process is killed.
+    # (The rules' server ends with its standard input.)
     process = subprocess.Popen(
         words, cwd=folder, stdin=subprocess.PIPE, stdout=subprocess.PIPE, stderr=subprocess.DEVNULL, env={**os.environ, "PYTHONDONTWRITEBYTECODE": "1"}
     )
+    LIVE.add(process)
     stack.callback(end, process)
     assert process.stdout is not None
     printed = [process.stdout.readline().decode().strip() for _ in range(lines)]
@@ -54,10 +60,19 @@ def drain(stack: contextlib.ExitStack, output: IO[bytes]) -> None:
     """What it prints further is thrown away, so that it never waits for a reader."""
     stack.callback(output.close)
     sink = subprocess.Popen(["cat"], stdin=output, stdout=subprocess.DEVNULL)
+    LIVE.add(sink)
     stack.callback(end, sink)
 
 
+def end_all(*_: object) -> None:
+    """Ends what was started, and this process: as the handler of a signal."""
+    for process in list(LIVE):
+        process.terminate()
+    os._exit(128 + signal.SIGTERM)
+
+
 def end(process: subprocess.Popen[bytes]) -> None:
+    LIVE.discard(process)
     process.terminate()
     try:
         process.wait(END_SECONDS)
@@ -82,6 +97,6 @@ def over_program(program: str, count: int = 1) -> Iterator[Stand]:
         yield Stand(front_end(stack, ["--program", program, *["--start"] * count], count), [])
 
 
-def front_end(stack: contextlib.ExitStack, words: Sequence[str], count: int, port: Optional[int] = None) -> List[str]:
-    _, lines = begin(stack, [sys.executable, "-m", "broker", "--port", str(port or 0), *words, *TOPICS], FRONT_END, count)
+def front_end(stack: contextlib.ExitStack, words: Sequence[str], count: int) -> List[str]:
+    _, lines = begin(stack, [sys.executable, "-m", "broker", "--port", "0", *words, *TOPICS], FRONT_END, count)
     return [re.split(r"\s+", line)[1] for line in lines]
