@@ -49,6 +49,10 @@ class Failed(Exception):
         self.is_minor = is_minor
 
 
+class Late(Failed):
+    """Something doesn't come about in time."""
+
+
 class NotRun(Exception):
     """The case can't be played with this broker, and why."""
 
@@ -150,7 +154,7 @@ class Play:
         until, pause = time.monotonic() + self.settings.patience, FIRST_PAUSE
         while not holds():
             if time.monotonic() > until:
-                self.fail(f"{self.settings.patience:g} s of heartbeats don't bring it about that {what}")
+                raise Late(f"{self.settings.patience:g} s of heartbeats don't bring it about that {what}")
             for member in members:
                 (act or Member.turn)(member)
             time.sleep(pause)
@@ -159,13 +163,25 @@ class Play:
     def settle(self, *members: Member) -> None:
         """The members beat until each partition that they subscribe has one owner, at one epoch of all."""
         members = members or tuple(member for member in self.members if member.is_in)
-        self.until("each partition has one owner and all members have one epoch", lambda: self.is_settled(members), *members)
+        try:
+            self.until("", lambda: self.is_settled(members), *members)
+        except Late:
+            self.fail(f"after {self.settings.patience:g} s of heartbeats {self.lacks(members)}")
 
     def is_settled(self, members: Sequence[Member]) -> bool:
+        return not self.lacks(members)
+
+    def lacks(self, members: Sequence[Member]) -> str:
+        """What isn't as it has to be in the end, or nothing."""
         names = {name for member in members for name in member.names}
         wanted = frozenset(each for topic in self.broker.topics if topic.name in names for each in topic.partitions())
         owned = [each for member in members for each in member.owned]
-        return self.are_steady(members) and sorted(owned) == sorted(wanted)
+        missing, more = wanted - frozenset(owned), frozenset(owned) - wanted
+        twice = frozenset(each for each in owned if owned.count(each) > 1)
+        words = [f"{member.name} is no member" for member in members if not member.is_in]
+        words += [f"{self.story.partitions(some)} is {what}" for some, what in ((missing, "nobody's"), (twice, "two members'"), (more, "assigned, and nobody subscribes it")) if some]
+        words += [] if self.are_steady(members) else [f"not all that is to be given up is reported, or the epochs differ: {', '.join(f'{member.name} is at {member.epoch}' for member in members)}"]
+        return "; ".join(words)
 
     @staticmethod
     def are_steady(members: Sequence[Member]) -> bool:

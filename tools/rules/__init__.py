@@ -8,7 +8,8 @@
     client     the client side: what a member asks, and what it makes of replies
     world      one coordinator, its clients, and pools of messages that are delivered in any order
     lines      the lines of scripts of worlds: what each asks for and prints, and why one can't be read
-    compare    runs the program over scripts, and compares what it prints
+    decode     what lines ask and print, by field, for people
+    compare    runs a program over scripts, compares what it prints, and cuts a script down that differs
 
 The rules are those of KIP-848 and of the Kafka protocol guide, and this project's own where these leave a choice
 (docs/MODEL.md). Nothing here is taken from the program.

@@ -1,44 +1,180 @@
-"""Runs the program over random scripts, and compares each line that it prints."""
+"""Runs a program over random scripts, and tells of each cause why it prints something else, with a script as short as can be."""
+
+from __future__ import annotations
 
 import argparse
-import os
+import dataclasses
 import random
+import signal
 import subprocess
-import tempfile
+import sys
+from typing import Callable, Dict, Iterable, List, NamedTuple, Optional, Sequence, Tuple
+
+from rules.decode import Fields
 
 SEED = 848
+RUN_SECONDS = 60
+# How many runs of the program the cutting down of one script may take, and how many lines and characters of it are shown.
+MOST_RUNS, MOST_LINES, MOST_TEXT = 600, 40, 400
+Lines = List[str]
 
 
-def check(tool, script, answers, words, scripts=200, lines=120):
-    """What `tools/TOOL check` does. `script` makes lines from dice, `answers` says what must be printed for them."""
-    parser = argparse.ArgumentParser(prog=f"tools/{tool} check")
+class Difference(NamedTuple):
+    """Where a program's run is not as it has to be: the input line's number (0: the report behind the last), both printed lines, and what else is wrong."""
+
+    number: int
+    wanted: Optional[str]
+    found: Optional[str]
+    what: str
+
+
+@dataclasses.dataclass
+class Tool:
+    """What is compared: how scripts are made, what must be printed for each line (by the line's number), and both by field."""
+
+    name: str
+    script: Callable[[random.Random, int], Lines]
+    answers: Callable[[Lines], List[Tuple[int, str]]]
+    fields: Callable[[str, str], Fields]
+    asks: Callable[[str], str] = str
+    # What a script is with some of its lines only, by their places.
+    kept: Callable[[Lines, Sequence[int]], Lines] = lambda lines, places: [lines[at] for at in places]
+    lines: int = 120
+    scripts: int = 200
+    command: Sequence[str] = ()
+
+    def difference(self, lines: Lines) -> Optional[Difference]:
+        """The first difference of a run over the lines, or None."""
+        wanted = self.answers(lines)
+        try:
+            given = "".join(f"{line}\n" for line in lines).encode()
+            ran = subprocess.run(self.command, input=given, capture_output=True, timeout=RUN_SECONDS, check=False)
+        except subprocess.TimeoutExpired:
+            return Difference(0, None, None, f"the program hasn't ended after {RUN_SECONDS} s")
+        found = ran.stdout.decode(errors="replace").split("\n")[:-1]
+        for at in range(max(len(wanted), len(found))):
+            number, want = wanted[at] if at < len(wanted) else (0, None)
+            have = found[at] if at < len(found) else None
+            if want != have:
+                return Difference(number, want, have, ended(ran))
+        what = ended(ran)
+        return Difference(0, None, None, what) if what else None
+
+    def cause(self, lines: Lines, difference: Difference) -> Tuple[object, ...]:
+        """What two scripts have in common that differ for one reason: which fields, and what the short ones of them say."""
+        number, wanted, found, what = difference
+        if wanted is None or found is None:
+            return wanted is None, found is None, what.split("\n")[0]
+        line = lines[number - 1] if number else ""
+        rows = differing(self.fields(line, wanted), self.fields(line, found))
+        return (line.split(" ")[0], *((name, *map(gist, values)) for name, *values in rows if name != "size"))
+
+    def shortest(self, lines: Lines, cause: Tuple[object, ...]) -> Lines:
+        """The lines without all those that the difference doesn't need."""
+        runs = 0
+
+        def still(some: Lines) -> bool:
+            nonlocal runs
+            runs += 1
+            try:
+                difference = self.difference(some)
+            except Exception:  # pylint: disable=broad-except
+                # (The rules can't read it: a line needs another one.)
+                return False
+            return difference is not None and self.cause(some, difference) == cause
+
+        size, before = len(lines), 0
+        while runs < MOST_RUNS and (size > 1 or len(lines) != before):
+            size, before, at = max(1, size // 2), len(lines), len(lines)
+            while at > 0 and runs < MOST_RUNS:
+                at = max(0, min(at, len(lines)) - size)
+                some = self.kept(lines, [*range(at), *range(at + size, len(lines))])
+                lines = some if still(some) else lines
+        return lines
+
+
+def gist(value: str) -> str:
+    """What a value has in common with others: numbers and null are all that is said of it."""
+    return value if value in ("null", "nothing") or value.replace("code ", "").isdigit() else ""
+
+
+def ended(ran: "subprocess.CompletedProcess[bytes]") -> str:
+    """What is wrong about how a program ended, or nothing."""
+    said = ran.stderr.decode(errors="replace").strip()
+    how = f"it was ended by {signal.Signals(-ran.returncode).name}" if ran.returncode < 0 else f"it ended with status {ran.returncode}" if ran.returncode else ""
+    return "\n".join(each for each in (how, f"it printed on standard error: {cut(said)}" if said else "") if each)
+
+
+def cut(text: str) -> str:
+    return text if len(text) <= MOST_TEXT else f"{text[:MOST_TEXT]}.. ({len(text)} characters)"
+
+
+def differing(wanted: Fields, found: Fields) -> List[Tuple[str, str, str]]:
+    """The fields that differ, with what was wanted and what was found of each."""
+    have, want = dict(found), dict(wanted)
+    names = dict.fromkeys([*want, *have])
+    return [(name, want.get(name, "nothing"), have.get(name, "nothing")) for name in names if want.get(name) != have.get(name)]
+
+
+def check(tool: Tool, words: Sequence[str]) -> int:
+    """What `tools/TOOL check` does."""
+    parser = argparse.ArgumentParser(prog=f"tools/{tool.name} check")
     parser.add_argument("--seed", type=int, default=SEED)
-    parser.add_argument("--scripts", type=int, default=scripts)
-    parser.add_argument("--lines", type=int, default=lines)
-    parser.add_argument("program", nargs="+")
+    parser.add_argument("--scripts", type=int, default=tool.scripts)
+    parser.add_argument("--lines", type=int, default=tool.lines)
+    parser.add_argument("program", nargs=argparse.REMAINDER)
     asked = parser.parse_args(words)
-    command = [os.path.abspath(asked.program[0]), *asked.program[1:]]
+    if not asked.program:
+        parser.error("wants a PROGRAM")
+    tool.command = asked.program
+    try:
+        return compare(tool, asked.seed, asked.scripts, asked.lines)
+    except (OSError, ValueError) as why:
+        print(f"{tool.name}: {asked.program[0]} can't be started: {getattr(why, 'strerror', None) or why}", file=sys.stderr)
+        return 2
+    except KeyboardInterrupt:
+        return 128 + signal.SIGINT
+
+
+def compare(tool: Tool, seed: int, scripts: int, count: int) -> int:
+    causes: Dict[Tuple[object, ...], int] = {}
+    told: Dict[Tuple[object, ...], str] = {}
     differ = 0
-    for number in range(asked.scripts):
-        made = script(random.Random(asked.seed * 1_000_003 + number), asked.lines)
-        wanted = answers(made)
-        ran = subprocess.run(command, input="\n".join(made) + "\n", capture_output=True, text=True, check=False)
-        found = ran.stdout.split("\n")[:-1]
-        if found != wanted or ran.returncode or ran.stderr:
-            differ += 1
-            tell(number, made, wanted, found, ran)
-    print(f"{asked.scripts} scripts, {differ} differ")
-    return 1 if differ else 0
+    for number in range(scripts):
+        lines = tool.script(random.Random(seed * 1_000_003 + number), count)
+        difference = tool.difference(lines)
+        if difference is None:
+            continue
+        differ += 1
+        cause = tool.cause(lines, difference)
+        if cause not in causes:
+            lines = tool.shortest(lines, cause)
+            told[cause] = "\n".join([f"script {number} of seed {seed}, cut down to {len(lines)} lines:", *report(tool, lines)])
+        causes[cause] = causes.get(cause, 0) + 1
+    for cause, text in told.items():
+        print(text + (f"\n    ({causes[cause] - 1} more scripts differ in this way)" if causes[cause] > 1 else "") + "\n")
+    print(f"{scripts} scripts, {differ} differ")
+    return int(differ > 0)
 
 
-def tell(number, lines, wanted, found, ran):
-    """Keeps the script, and says where the first difference is."""
-    at = next((i for i, pair in enumerate(zip(wanted, found)) if pair[0] != pair[1]), min(len(wanted), len(found)))
-    with tempfile.NamedTemporaryFile("w", prefix=f"script-{number}-", suffix=".in", delete=False) as kept:
-        kept.write("\n".join(lines) + "\n")
-    print(f"script {number} ({kept.name}): status {ran.returncode}, printed line {at + 1} differs")
-    print(f"    wanted {wanted[at:at + 1]}")
-    print(f"    found  {found[at:at + 1]} {ran.stderr[:200]}")
+def report(tool: Tool, lines: Lines) -> Iterable[str]:
+    """A script that differs, and how."""
+    difference = tool.difference(lines)
+    yield from (f"    {number:3}  {cut(line)}" for number, line in enumerate(lines[:MOST_LINES], 1))
+    if len(lines) > MOST_LINES:
+        yield f"         .. and {len(lines) - MOST_LINES} more"
+    if difference is None:
+        yield "  it doesn't always differ"
+        return
+    number, wanted, found, what = difference
+    line = lines[number - 1] if number else ""
+    if wanted is not None or found is not None:
+        yield f"  line {number} differs: {cut(tool.asks(line))}" if number else "  the report behind the last line differs"
+        if wanted is None or found is None:
+            yield f"    {'field':16}  wanted {cut(wanted or 'no line')}, found {cut(found or 'no line')}"
+        else:
+            yield from (f"    {name:16}  wanted {cut(want)}, found {cut(have)}" for name, want, have in differing(tool.fields(line, wanted), tool.fields(line, found)))
+    yield from (f"  {each}" for each in what.splitlines())
 
 
 def write_case(path, rows):
