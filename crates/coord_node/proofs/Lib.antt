@@ -15,3 +15,4 @@ pub mod CommitLemmas
 pub mod TickLemmas
 pub mod FittingAnswers
 pub mod AnsweredEvents
+pub mod MadeGroups

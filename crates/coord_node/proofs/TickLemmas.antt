@@ -143,7 +143,7 @@ module _ (moment : ℕ) where
   by_bytes-ticked (suc n) (e ∷ es) (f ∷ fs) all is =
       λ i. (string_bytes (is.0 i), is.1.group i) ∷ by_bytes-ticked n es fs (omega arith) is.2 i
 
-  get-all_ticked : (m : Groups) (q : Text) → finite.get (all_ticked m moment) q ≡ option_map (λ g. ticked g moment) (finite.get m q)
+  pub get-all_ticked : (m : Groups) (q : Text) → finite.get (all_ticked m moment) q ≡ option_map (λ g. ticked g moment) (finite.get m q)
   get-all_ticked m q =
       finite.get-from_entries text_cmp_total (map entry_ticked (finite.entries m)) q ∙ found_ticked (finite.entries m) q
       ∙ ap (option_map (λ g. ticked g moment)) (sym (finite.get-entries m q))

@@ -10,3 +10,4 @@ pub mod Absent
 pub mod Events
 pub mod Parsed
 pub mod Existence
+pub mod EachGroup

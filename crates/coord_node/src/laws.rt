@@ -1,4 +1,5 @@
 //! Laws of the coordinator's steps, proved where nothing runs.
+ghost use Rattle.coord_node.specs.EachGroup.{GroupsAreMadeBySuccess, TicksAreOfAllGroups};
 ghost use Rattle.coord_node.specs.Existence.{CoordinatorsServe, EventsAreAnswered, RunsAreAnswered};
 ghost use Rattle.coord_node.specs.Laws.{AnswersFirstJoins, GroupsAreSound, OneAnswer, RepliesFit, StepsAreSound};
 ghost use Rattle.coord_node.specs.Steps.{Step};
@@ -69,3 +70,13 @@ pub fn coordinators_serve()
 {
     steps_are_sound();
 }
+
+/// A node's tick is a tick of each of its groups, and it answers how many members they lost together.
+pub fn ticks_are_of_all_groups()
+    ensures { TicksAreOfAllGroups Step }
+{}
+
+/// A group that isn't there is there after a heartbeat exactly where that is answered with no error.
+pub fn groups_are_made_by_success()
+    ensures { GroupsAreMadeBySuccess }
+{}

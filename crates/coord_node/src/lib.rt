@@ -22,8 +22,9 @@ mod tick;
 pub use event::{Answered, NodeEvent};
 pub use group_core::{Group, Image, Moment, Stamp};
 pub use laws::{
-    coordinators_serve, events_are_answered, groups_are_sound, one_answer, path_is_answered,
-    replies_fit, runs_are_answered, steps_are_sound,
+    coordinators_serve, events_are_answered, groups_are_made_by_success, groups_are_sound,
+    one_answer, path_is_answered, replies_fit, runs_are_answered, steps_are_sound,
+    ticks_are_of_all_groups,
 };
 pub use node::Node;
 pub use parsed::ParsedBody;

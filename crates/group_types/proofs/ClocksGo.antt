@@ -1,5 +1,5 @@
 -- A group's clock goes on.
-use Rattle.std.proofs.Common.{◌≡◌, max, refl, ap, ◌∙◌}
+use Rattle.std.proofs.Common.{◌≡◌, max, ap, ◌∙◌}
 use Rattle.group_types.specs.Group.{Group}
 use Rattle.group_types.specs.Tick.{at_moment, due}
 use Rattle.group_types.specs.Clocks.{ClocksGoOn}

@@ -1,9 +1,6 @@
 -- Which heartbeats are fenced.
-use Rattle.std.proofs.Common.{◌≡◌, ◌≢◌, ◌↔◌, ℕ, suc, ◌==◌, pos, Bool, true, false, cond, not, ◌&&◌, ◌||◌, is_none, nat_le, List, All, Option, Some, None, IsTrue, refl, sym, ap, subst, ◌∙◌, true≢false}
-use Rattle.std.specs.FinMap as finite
-use Rattle.std.specs.List.{list_all}
+use Rattle.std.proofs.Common.{◌≡◌, ◌≢◌, ◌↔◌, ℕ, suc, ◌==◌, Bool, true, false, cond, not, ◌&&◌, ◌||◌, is_none, nat_le, List, Option, Some, None, refl, sym, ap, subst, ◌∙◌, true≢false}
 use Rattle.std.specs.Ordering.{is_gt}
-use Rattle.std.specs.declared.cmp.Ordering.TheVariants.{Greater}
 use Rattle.std.proofs.lemmas.Bool.Decides.{Decides-eqb}
 use Rattle.std.proofs.lemmas.List.Sums.{AllPass-from_list_all, list_all-from_AllPass}
 use Rattle.group_types.specs.declared.code.Code.TheVariants as codes
@@ -11,15 +8,13 @@ use Rattle.group_types.specs.declared.epoch.Epoch.{Epoch}
 use Rattle.group_types.specs.declared.epoch.Epoch.TheVariants.{At, Away}
 use Rattle.group_types.specs.declared.partition.Partition.{Partition}
 use Rattle.group_types.specs.Limits.{GREATEST_EPOCH}
-use Rattle.group_types.specs.Stamp.{stamp_cmp}
 use Rattle.group_types.specs.Sets.{has}
-use Rattle.group_types.specs.Request.{Heartbeat, Beats, is_invalid, is_unsupported, kind_of}
+use Rattle.group_types.specs.Request.{Heartbeat, Beats, kind_of}
 use Rattle.group_types.specs.Group.{Record, Group}
 use Rattle.group_types.specs.Renewal.{changed_if, view_for}
 use Rattle.group_types.specs.Checks.{Verdict, Accepted, Refused, Overtaken, Sender, are_granted, is_current, is_fenced, is_overtaken, sender_of, verdict_on}
-use Rattle.group_types.specs.HeartbeatStep.{Answer, Replied, Arrival, BeatsWith, ByVerdict, HeartbeatStep, IsRefused, Reply, Stages, StepBy, StepOf, TakesIn, draft_of_beat, refusal, verdict_on_change}
+use Rattle.group_types.specs.HeartbeatStep.{Answer, Replied, Arrival, BeatsWith, ByVerdict, Reply, Stages, StepBy, StepOf, TakesIn, refusal, verdict_on_change}
 use Rattle.group_types.specs.Fences.{FencesTheLate, IsAtEpoch, ReportsGranted, present, previous}
-use Rattle.group_types.proofs.Lookups.{not_none, some_is}
 use Rattle.group_types.proofs.Consistent.{consistent}
 use Rattle.group_types.proofs.Checked.{own_so}
 

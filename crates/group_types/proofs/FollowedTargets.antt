@@ -1,28 +1,25 @@
 -- The target follows the members.
 use Rattle.std.proofs.Common.{◌≡◌, ◌≢◌, ◌⊎◌, inl, inr, ℕ, suc, ◌<◌, ◌≤◌, ◌+◌, ◌==◌, Bool, true, false, cond, ◌&&◌, nat_le, nat_lt, max, List, [], ◌∷◌, Option, Some, None, refl, sym, ap, subst, ◌∙◌, arith, true≢false}
-use Rattle.std.specs.Option.{MatchOption, option_map}
+use Rattle.std.specs.Option.{MatchOption}
 use Rattle.std.specs.FinMap as finite
 use Rattle.std.proofs.lemmas.Bool.Decides.{Decides-eqb, Decides-ltb}
 use Rattle.group_types.specs.declared.code.Code.TheVariants as codes
-use Rattle.group_types.specs.declared.partition.Partition.{Partition}
 use Rattle.group_types.specs.Limits.{GREATEST_EPOCH}
 use Rattle.group_types.specs.Text.{Text, text_cmp}
 use Rattle.group_types.specs.Partition.{partition_cmp}
 use Rattle.group_types.specs.Topics.{Topics}
-use Rattle.group_types.specs.Request.{Heartbeat, reported}
+use Rattle.group_types.specs.Request.{reported}
 use Rattle.group_types.specs.Owners.{renamed_id}
 use Rattle.group_types.specs.Group.{Record, Records, Target, Group, starting_group, wanted}
 use Rattle.group_types.specs.Settle.{may_settle, settled, settled_by, settled_record}
 use Rattle.group_types.specs.Renewal.{IsChange, RenewsWhere, changed_if, view_for}
 use Rattle.group_types.specs.Leave.{away, risen, without_member}
-use Rattle.group_types.specs.Tick.{at_moment, due, expired, ticked, without_members}
+use Rattle.group_types.specs.Tick.{at_moment, due, expired, without_members}
 use Rattle.group_types.specs.Checks.{Member, Refused, Accepted}
 use Rattle.group_types.specs.HeartbeatStep as machine
 use Rattle.group_types.specs.HeartbeatStep.{Answer, Arrival, ByVerdict, Draft, HeartbeatStep, TakesIn, handed_over, sent_after}
 use Rattle.group_types.specs.Sound.{IsSound}
-use Rattle.group_types.specs.Commit.{CommitStep}
 use Rattle.group_types.specs.Laws.{GroupEvent, OfHeartbeat, OfTick, OfCommit, IsGroupRun, IsGroupStep}
-use Rattle.group_types.specs.Fencing.{IsAcceptedAs}
 use Rattle.group_types.specs.Targets.{AssignorsAreLawful, FollowsMembers, IsLawfulFor, Subscribes, TargetsFollowByLawfulAssignors}
 use Rattle.group_types.proofs.Lookups.{Found, this, another, found, Tie, ties, differs, tie, get-inserted, get-insert_other, not_none, some_is}
 use Rattle.group_types.proofs.SpreadLemmas.{get-renamed}
@@ -124,39 +121,13 @@ module _ (g : Group) (sound : IsConsistent g) (old : Member) (heir : Text) (s : 
       lawful_renamed g.records (finite.insert Base.records heir s) (renamed_id old.id heir) g.view g.target Base.target handed_renames
       (λ p. get-renamed g.target old.id heir p) lawful
 
--- ---- an accepted join or beat
+-- ---- what the stages of an accepted join or beat leave
 
-module _ (assignors : AssignorsAreLawful) (g : Group) (sound : IsSound g) (follows : Follows g) (a : Arrival) (answer : Answer) (new : Group)
-    (d : Draft) (drafting : Drafting g a d) where
+module _ (g : Group) (a : Arrival) (answer : Answer) (new : Group) (d : Draft) (drafting : Drafting g a d) where
   abbrev View : Topics
   View = view_for a.image d.group.records
 
-  -- a draft that is no change leaves the target lawful
-  drafted : (before : Record) → d.before ≡ Some before → before.names ≡ d.after.names → d.group.epoch ≡ d.group.target_epoch → d.group.epoch < GREATEST_EPOCH
-      → IsLawfulFor d.group.records g.view d.group.target
-  drafted before is_before names same below = by drafting.made
-    where
-      lawful : IsLawfulFor g.records g.view g.target
-      lawful = follows (sym drafting.ready.epoch ∙ same ∙ drafting.target_epoch) (subst (λ e. e < GREATEST_EPOCH) drafting.ready.epoch below)
-
-      from : (base : Group) → drafting.base ≡ base → IsLawfulFor (finite.insert base.records d.id d.after) g.view base.target → IsLawfulFor d.group.records g.view d.group.target
-      from base is holds =
-          subst (λ (rs : Records). IsLawfulFor rs g.view d.group.target) (sym (drafting.records ∙ ap (λ (b : Group). finite.insert b.records d.id d.after) is))
-          (subst (λ (t : Target). IsLawfulFor (finite.insert base.records d.id d.after) g.view t) (sym (drafting.target ∙ ap (λ (b : Group). b.target) is)) holds)
-
-      own : (r : Record) → finite.get g.records d.id ≡ Some r → drafting.base ≡ g → d.before ≡ Some r → IsLawfulFor d.group.records g.view d.group.target
-      own r there is was =
-          from g is (put_follows g d.id r d.after there (sym names ∙ ap (λ (x : Record). x.names) (some_is before r (sym is_before ∙ was))) lawful)
-
-      by : Made g drafting.base a (max g.clock a.moment) d → IsLawfulFor d.group.records g.view d.group.target
-      by (of_beat n r epoch there is is_base was) = own r there is_base was
-      by (of_rejoin r epoch there is is_base was) = own r there is_base was
-      by (of_newcomer epoch absent is is_base was) = absurd (not_none before (sym was ∙ is_before))
-      by (of_heir old i epoch absent there asks has is is_base was) =
-          from (handed_over g old d.id) is_base
-          (handed_follows g (consistent g sound) old d.id d.after there absent (sym names ∙ ap (λ (x : Record). x.names) (some_is before old.kept (sym is_before ∙ was))) lawful)
-
-  -- what the stages leave: the epochs of the group with its change on, and what it is to follow
+  -- the epoch of the group with its change on
   module _ (changed : Group) (records : changed.records ≡ d.group.records) (stages : machine.Stages changed d a.heartbeat answer new) where
     abbrev Renewed : Group
     Renewed = stages.renewed
@@ -193,7 +164,7 @@ module _ (assignors : AssignorsAreLawful) (g : Group) (sound : IsSound g) (follo
     offered_epoch may h m None now = refl
     offered_epoch may h m (Some r) now = refl
 
-    epoch_is : new.epoch ≡ changed.epoch
+    pub epoch_is : new.epoch ≡ changed.epoch
     epoch_is =
         ap (λ (x : Group). x.epoch) leaves ∙ offered_epoch _ Renewed d.id (finite.get Renewed.records d.id) Renewed.clock
         ∙ renewed_epoch (changed.epoch == changed.target_epoch) stages.renews
@@ -205,7 +176,7 @@ module _ (assignors : AssignorsAreLawful) (g : Group) (sound : IsSound g) (follo
     offered_view may h m (Some r) is now =
         view_for-insert a.image h.records m r (settled_record may r h.target_epoch now) is (settled_names may r h.target_epoch now)
 
-    view_after : view_for a.image new.records ≡ View
+    pub view_after : view_for a.image new.records ≡ View
     view_after =
         ap (λ (x : Group). view_for a.image x.records) leaves
         ∙ view_for-insert a.image Offered.records d.id stages.kept Last kept (sent_names stages.kept stages.told)
@@ -226,47 +197,79 @@ module _ (assignors : AssignorsAreLawful) (g : Group) (sound : IsSound g) (follo
             (lawful_renamed Renewed.records Offered.records same_name Renewed.view Renewed.target Offered.target settling.renames
             (λ p. ap (λ (t : Target). finite.get t p) settling.target ∙ same_owners Renewed.target p) lawful)
 
-    renewed_lawful : RenewsWhere false changed Renewed → IsLawfulFor Renewed.records Renewed.view Renewed.target
-    renewed_lawful (target, is_target, is) =
-        subst (λ (x : Group). IsLawfulFor x.records x.view x.target) (sym is) (target_lawful assignors changed.records changed.view changed.target target is_target)
+-- ---- an accepted join or beat
+
+module _ (assignors : AssignorsAreLawful) (g : Group) (sound : IsSound g) (follows : Follows g) (a : Arrival) (answer : Answer) (new : Group)
+    (d : Draft) (drafting : Drafting g a d) where
+  abbrev TheView : Topics
+  TheView = view_for a.image d.group.records
+
+  -- a draft that is no change leaves the target lawful
+  drafted : (before : Record) → d.before ≡ Some before → before.names ≡ d.after.names → d.group.epoch ≡ d.group.target_epoch → d.group.epoch < GREATEST_EPOCH
+      → IsLawfulFor d.group.records g.view d.group.target
+  drafted before is_before names same below = by drafting.made
+    where
+      lawful : IsLawfulFor g.records g.view g.target
+      lawful = follows (sym drafting.ready.epoch ∙ same ∙ drafting.target_epoch) (subst (λ e. e < GREATEST_EPOCH) drafting.ready.epoch below)
+
+      from : (base : Group) → drafting.base ≡ base → IsLawfulFor (finite.insert base.records d.id d.after) g.view base.target → IsLawfulFor d.group.records g.view d.group.target
+      from base is holds =
+          subst (λ (rs : Records). IsLawfulFor rs g.view d.group.target) (sym (drafting.records ∙ ap (λ (b : Group). finite.insert b.records d.id d.after) is))
+          (subst (λ (t : Target). IsLawfulFor (finite.insert base.records d.id d.after) g.view t) (sym (drafting.target ∙ ap (λ (b : Group). b.target) is)) holds)
+
+      own : (r : Record) → finite.get g.records d.id ≡ Some r → drafting.base ≡ g → d.before ≡ Some r → IsLawfulFor d.group.records g.view d.group.target
+      own r there is was =
+          from g is (put_follows g d.id r d.after there (sym names ∙ ap (λ (x : Record). x.names) (some_is before r (sym is_before ∙ was))) lawful)
+
+      by : Made g drafting.base a (max g.clock a.moment) d → IsLawfulFor d.group.records g.view d.group.target
+      by (of_beat n r epoch there is is_base was) = own r there is_base was
+      by (of_rejoin r epoch there is is_base was) = own r there is_base was
+      by (of_newcomer epoch absent is is_base was) = absurd (not_none before (sym was ∙ is_before))
+      by (of_heir old i epoch absent there asks has is is_base was) =
+          from (handed_over g old d.id) is_base
+          (handed_follows g (consistent g sound) old d.id d.after there absent (sym names ∙ ap (λ (x : Record). x.names) (some_is before old.kept (sym is_before ∙ was))) lawful)
+
+  renewed_lawful : (changed renewed : Group) → RenewsWhere false changed renewed → IsLawfulFor renewed.records renewed.view renewed.target
+  renewed_lawful changed renewed (target, is_target, is) =
+      subst (λ (x : Group). IsLawfulFor x.records x.view x.target) (sym is) (target_lawful assignors changed.records changed.view changed.target target is_target)
 
   abbrev Follows_on : Type 0
   Follows_on = new.epoch < GREATEST_EPOCH → FollowsMembers a.image new
 
-  by_change : (change : Bool) → IsChange change d.before d.after g.view View → machine.Stages (changed_if change d.group View) d a.heartbeat answer new → Follows_on
+  by_change : (change : Bool) → IsChange change d.before d.after g.view TheView → machine.Stages (changed_if change d.group TheView) d a.heartbeat answer new → Follows_on
   by_change true is stages below = by (suc d.group.epoch == d.group.target_epoch) refl stages.renews
     where
       changed : Group
-      changed = record d.group { epoch = suc d.group.epoch; view = View }
+      changed = record d.group { epoch = suc d.group.epoch; view = TheView }
 
       by : (b : Bool) → (suc d.group.epoch == d.group.target_epoch) ≡ b → RenewsWhere b changed stages.renewed → FollowsMembers a.image new
       by true same renews =
           let is_same : suc d.group.epoch ≡ d.group.target_epoch = (Decides-eqb (suc d.group.epoch) d.group.target_epoch).0 same in
           let most = drafting.ready.sound.target_epoch in
           absurd (omega (arith, is_same, most))
-      by false other renews = goes_on changed refl stages refl (renewed_lawful changed refl stages renews)
+      by false other renews = goes_on g a answer new d drafting changed refl stages refl (renewed_lawful changed stages.renewed renews)
   by_change false is stages below = at d.before refl is
     where
-      unchanged_view : (before : Record) → IsChange false (Some before) d.after g.view View → d.group.view ≡ View
+      unchanged_view : (before : Record) → IsChange false (Some before) d.after g.view TheView → d.group.view ≡ TheView
       unchanged_view before is = drafting.view ∙ is.view
 
-      at : (o : Option Record) → d.before ≡ o → IsChange false o d.after g.view View → FollowsMembers a.image new
+      at : (o : Option Record) → d.before ≡ o → IsChange false o d.after g.view TheView → FollowsMembers a.image new
       at None none never = absurd (true≢false (sym never))
       at (Some before) is_before is = by (d.group.epoch == d.group.target_epoch) refl stages.renews
         where
           by : (b : Bool) → (d.group.epoch == d.group.target_epoch) ≡ b → RenewsWhere b d.group stages.renewed → FollowsMembers a.image new
-          by false other renews = goes_on d.group refl stages (unchanged_view before is) (renewed_lawful d.group refl stages renews)
+          by false other renews = goes_on g a answer new d drafting d.group refl stages (unchanged_view before is) (renewed_lawful d.group stages.renewed renews)
           by true same renews =
-              goes_on d.group refl stages (unchanged_view before is)
+              goes_on g a answer new d drafting d.group refl stages (unchanged_view before is)
               (subst (λ (x : Group). IsLawfulFor x.records x.view x.target) (sym renews)
               (subst (λ (view : Topics). IsLawfulFor d.group.records view d.group.target) (sym drafting.view)
               (drafted before is_before is.names ((Decides-eqb d.group.epoch d.group.target_epoch).0 same)
-              (subst (λ e. e < GREATEST_EPOCH) (epoch_is d.group refl stages) below))))
+              (subst (λ e. e < GREATEST_EPOCH) (epoch_is g a answer new d drafting d.group refl stages) below))))
 
   taken : TakesIn g d a.heartbeat a.image answer new → ((new ≡ g) × Fails answer) ⊎ Follows_on
   taken takes = by (takes.change && nat_le GREATEST_EPOCH g.epoch) takes.step
     where
-      by : (b : Bool) → ByVerdict (cond b (Refused codes.CoordinatorNotAvailable) Accepted) (machine.Stages (changed_if takes.change d.group View) d a.heartbeat) g answer new
+      by : (b : Bool) → ByVerdict (cond b (Refused codes.CoordinatorNotAvailable) Accepted) (machine.Stages (changed_if takes.change d.group TheView) d a.heartbeat) g answer new
           → ((new ≡ g) × Fails answer) ⊎ Follows_on
       by true is = inl (is.1, refusal_fails answer codes.CoordinatorNotAvailable unavailable_is is.0)
       by false stages = inr (by_change takes.change takes.is_change stages)

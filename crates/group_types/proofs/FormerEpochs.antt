@@ -4,10 +4,8 @@ use Rattle.std.specs.FinMap as finite
 use Rattle.std.proofs.lemmas.Bool.Decides.{Decides-eqb}
 use Rattle.group_types.specs.declared.epoch.Epoch.{Epoch}
 use Rattle.group_types.specs.declared.epoch.Epoch.TheVariants.{At, Away}
-use Rattle.group_types.specs.declared.stamp.Stamp.{Stamp}
 use Rattle.group_types.specs.Text.{Text}
 use Rattle.group_types.specs.Partition.{Partitions}
-use Rattle.group_types.specs.Request.{Heartbeat}
 use Rattle.group_types.specs.Group.{Record, Group}
 use Rattle.group_types.specs.Join.{record_of_beat, record_of_join, returned_epoch}
 use Rattle.group_types.specs.Leave.{away, last_epoch_at}

@@ -100,7 +100,7 @@ module _ (g : Group) (a : Arrival) (answer : Answer) (new : Group) (d : Draft) (
   abbrev Now : ℕ
   Now = max g.clock a.moment
 
-  says : SaysTheSame (Last g a answer new d drafting stages) d.after
+  pub says : SaysTheSame (Last g a answer new d drafting stages) d.after
   says =
       sent_says (Settled g a answer new d drafting stages) d.after _
       (settled_says (may (Renewed g a answer new d drafting stages) d a.heartbeat) d.after _ _)

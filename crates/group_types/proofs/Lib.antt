@@ -54,3 +54,6 @@ pub mod FencedExactly
 pub mod ViewsFor
 pub mod LawfulTargets
 pub mod FollowedTargets
+pub mod GroupEpochs
+pub mod FirstChecks
+pub mod ByHand

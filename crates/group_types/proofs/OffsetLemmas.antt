@@ -1,5 +1,5 @@
 -- The offsets of a group are the last ones that were committed.
-use Rattle.std.proofs.Common.{◌≡◌, ℕ, zero, suc, ◌==◌, ℤ, pos, negsuc, int_lt, nat_le, Bool, true, false, cond, not, ◌&&◌, List, [], ◌∷◌, ◌++◌, map, Option, Some, None, MatchOption, max, refl, sym, ap, subst, ◌∙◌, true≢false}
+use Rattle.std.proofs.Common.{◌≡◌, ℕ, ◌==◌, ℤ, pos, int_lt, Bool, true, false, cond, not, ◌&&◌, List, [], ◌∷◌, ◌++◌, map, Option, Some, None, MatchOption, max, refl, sym, ap, subst, ◌∙◌}
 use Rattle.std.specs.Cmp.{IsTotalOrder, eq_by_cmp_equiv, int_cmp_total, on_total, then_total}
 use Rattle.std.specs.FinMap as finite
 use Rattle.std.specs.FinMap.{IsAntisymmetric, int_cmp-IsAntisymmetric}
@@ -7,7 +7,6 @@ use Rattle.std.specs.List.{flat_map}
 use Rattle.std.specs.Option.{option_or}
 use Rattle.std.specs.Ordering.{eq_by_cmp, int_cmp, int_eq}
 use Rattle.std.specs.Str.{bytes_eq}
-use Rattle.std.proofs.lemmas.Bool.Decides.{Decides-int_eq}
 use Rattle.std.proofs.lemmas.Map.Lookups.{exact_pairs}
 use Rattle.std.proofs.lemmas.Map.Text.{is_eq-slice_cmp}
 use Rattle.group_types.specs.declared.code.Code.{Code}
@@ -16,18 +15,16 @@ use Rattle.group_types.specs.Text.{Text, text_cmp}
 use Rattle.group_types.specs.Topics.{Topics}
 use Rattle.group_types.specs.Epoch.{is_at}
 use Rattle.group_types.specs.Group.{Committed, Group, Offsets, Record, Records, place_cmp}
-use Rattle.group_types.specs.Commit.{Commit, CommitReply, CommitStep, Commitment, TopicCommitments, answers_by, code_of_taken, commit_reply, is_stored, is_there, is_too_long, named_commitments, offsets_after, refusal_of_commit, refusal_of_member, with_offset, with_offsets}
-use Rattle.group_types.specs.Partition.{Partitions}
-use Rattle.group_types.specs.Limits.{GREATEST_EPOCH}
+use Rattle.group_types.specs.Commit.{Commit, CommitReply, CommitStep, Commitment, TopicCommitments, code_of_taken, commit_reply, is_stored, is_there, is_too_long, named_commitments, offsets_after, refusal_of_commit, refusal_of_member, with_offset, with_offsets}
 use Rattle.group_types.specs.Request.{Kind, Joins, Beats, Leaves, GoesAway, MeansNothing, Heartbeat, kind_of}
 use Rattle.group_types.specs.Renewal.{RenewsWhere, changed_if, view_for}
-use Rattle.group_types.specs.Settle.{may_settle, settled_by}
+use Rattle.group_types.specs.Settle.{settled_by}
 use Rattle.group_types.specs.Join.{Name}
 use Rattle.group_types.specs.Leave.{risen, without_member}
-use Rattle.group_types.specs.Tick.{at_moment, due, expired, ticked, without_members}
+use Rattle.group_types.specs.Tick.{at_moment, due, expired, without_members}
 use Rattle.group_types.specs.Checks.{Verdict, Accepted, Refused, Overtaken, Member, Sender, sender_of, verdict_on}
 use Rattle.group_types.specs.HeartbeatStep.{Answer, Arrival, BeatsWith, ByVerdict, Draft, GoesAwayWith, HeartbeatStep, Stages, StepOf, TakesIn, draft_of_join, draft_under, verdict_on_change}
-use Rattle.group_types.specs.Laws.{GroupEvent, OfHeartbeat, OfTick, OfCommit, IsGroupRun, IsGroupStep}
+use Rattle.group_types.specs.Laws.{OfHeartbeat, OfTick, OfCommit}
 use Rattle.group_types.specs.StoredOffsets.{CommitsLookAtTheImage, OffsetsAreTheLast, if_no_error, last_committed, last_of_topic, last_of_topics}
 use Rattle.group_types.proofs.GrantLemmas.{both_equal}
 use Rattle.group_types.proofs.Orders.{text_cmp_total, text_cmp-IsAntisymmetric}

@@ -43,3 +43,6 @@ pub mod Fences
 pub mod Clocks
 pub mod StoredOffsets
 pub mod Targets
+pub mod EpochRises
+pub mod FirstChecks
+pub mod ByHand

@@ -2,7 +2,10 @@
 ghost use Rattle.group_types.specs.Assignments.{AssignmentsAreNews};
 ghost use Rattle.group_types.specs.CommitCodes.{CommitsAreAnsweredInOrder};
 ghost use Rattle.group_types.specs.Deadlines.{ReleasesAreTimed, SessionsLast, TicksTakeTheDue};
+ghost use Rattle.group_types.specs.ByHand.{AssignorsByHand, CodesAreTheGuides, MemberOrderByHand, RangeByHand};
 ghost use Rattle.group_types.specs.Clocks.{ClocksGoOn};
+ghost use Rattle.group_types.specs.EpochRises.{EpochsRiseOnChanges};
+ghost use Rattle.group_types.specs.FirstChecks.{HeartbeatsAreCheckedInOrder};
 ghost use Rattle.group_types.specs.Fences.{FencesTheLate};
 ghost use Rattle.group_types.specs.Given.{RequestsAreStored};
 ghost use Rattle.group_types.specs.PreviousEpochs.{PreviousEpochsAreFormer};
@@ -153,4 +156,26 @@ pub fn commits_look_at_the_image()
 /// target is lawful for both, whatever came to the group before; given that the owners under each assignor are lawful.
 pub fn targets_follow_by_lawful_assignors()
     ensures { TargetsFollowByLawfulAssignors }
+{}
+
+/// A join or a beat raises the group epoch exactly where its member is new or asks for something else, or the view is another one.
+pub fn epochs_rise_on_changes()
+    ensures { EpochsRiseOnChanges }
+{}
+
+/// A heartbeat that is wrong in itself is answered so, whatever the group knows of its member.
+pub fn heartbeats_are_checked_in_order()
+    ensures { HeartbeatsAreCheckedInOrder }
+{}
+
+/// The numbers of the error codes are those of the protocol guide.
+pub fn codes_are_the_guides()
+    ensures { CodesAreTheGuides }
+{}
+
+/// Range, member order and the choice of the assignor come to what was worked out by hand.
+pub fn assignors_by_hand()
+    ensures range { RangeByHand }
+    ensures order { MemberOrderByHand }
+    ensures assignor { AssignorsByHand }
 {}
