@@ -50,6 +50,7 @@ CHECKS = (
     Check(("check-server", PROGRAM), IN_TURN),
     Check(("check-broker", PROGRAM), IN_TURN),
     Check(("check-conversations", PROGRAM), IN_TURN),
+    Check(("check-conformance", PROGRAM), IN_TURN),
     Check(("reply-lines", "check", PROGRAM, "reply"), IN_TURN),
     Check(("reply-lines", "check", "--seed", SEED, PROGRAM, "reply"), IN_TURN),
     Check(("run-lines", "check", PROGRAM, "run"), IN_TURN),
