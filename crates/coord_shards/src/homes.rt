@@ -28,7 +28,11 @@ pub(crate) fn shard_of_group(group: &str, shards: usize) -> usize
     for byte in group.as_bytes() {
         sum += u128::from(*byte);
     }
-    (sum % shards as u128) as usize
+    // Each sum but that of a text of 2^56 bytes and more has 64 bits, which are divided faster.
+    match u64::try_from(sum) {
+        Ok(sum) => (sum % shards as u64) as usize,
+        Err(_) => (sum % shards as u128) as usize,
+    }
 }
 
 /// The shard with a number, of `shards` shards, or shard 0 where there is none.

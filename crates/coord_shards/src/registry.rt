@@ -1,5 +1,5 @@
 //! The seats that are given out.
-ghost use Rattle.std.specs.Prelude.{◌≡◌, ◌+◌, ◌*◌, ◌<◌, IfSome};
+ghost use Rattle.std.specs.Prelude.{◌≡◌, ◌+◌, ◌*◌, ◌<◌, IfSome, IfNone};
 ghost use Rattle.coord_shards.specs.declared.limits.TheConstants.{MOST_SEATS};
 ghost use Rattle.coord_shards.specs.Seat.{most_calls, most_entries};
 
@@ -19,9 +19,12 @@ pub(crate) struct Registry<A: Ledger, C: Ledger> {
 }
 
 impl<A: Ledger, C: Ledger> Registry<A, C> {
-    /// Gives out the next seat: its number, and its share with the most calls of a seat.
+    /// Gives out the next seat, whose number is how many were given out: that number, and its share with the most calls of a seat.
+    /// None is left once as many were given out as there are.
     pub(crate) fn next(&mut self) -> Option<(usize, Share<C>)>
-        ensures { IfSome result (λ seat. (seat.0 < MOST_SEATS) × (seat.1.parts ≡ 1) × (seat.1.amount ≡ most_calls)) }
+        ensures share { IfSome result (λ seat. (seat.1.parts ≡ 1) × (seat.1.amount ≡ most_calls)) }
+        ensures number { IfSome result (λ seat. (seat.0 ≡ self.old.given) × (seat.0 < MOST_SEATS) × (self.new.given ≡ self.old.given + 1)) }
+        ensures none { IfNone result (self.old.given ≡ MOST_SEATS) }
     {
         if self.given >= MOST_SEATS {
             return None;

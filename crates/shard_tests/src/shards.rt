@@ -3,7 +3,9 @@
 ghost use Rattle.std.specs.Prelude.{◌≡◌, ◌+◌, ◌*◌, ◌≤◌};
 
 use crate::events::{ask, body_of, event_of, put_answer};
-use coord_shards::{AlwaysOpen, Answer, Seat, Shard, ShardFault, Shards, Stamp, Unclosed};
+use coord_shards::{
+    AlwaysOpen, Answer, Event, Moment, Seat, Shard, ShardFault, Shards, Stamp, Unclosed,
+};
 use std::alloc::{AllocError, Global};
 use std::collections::hash_map::RandomState;
 use std::marker::Brand;
@@ -26,27 +28,28 @@ use test_support::tables::{cut, number, part_words};
 /// or `refused`; and the number of a fault where no shards or no seat are to be had. Behind `|` stands what each seat tells
 /// from which something was called: its number, its calls and its events that were kept. Then come the faults of closing without
 /// the last seat, where there is one, and with all seats; and at last what each shard tells to which something came: its number, its
-/// entries that were kept, `SEAT*COUNT` for each seat, and the members of the groups `a`, `b` and `c` that are there.
+/// entries that were kept, `SEAT*COUNT` for each seat, the members of the groups `a`, `b` and `c` that are there, and what it answers
+/// to one more tick, from seat 0 and at 90 s, with `*` and the entries that this seat made by then.
 const SHARDS: &str = "
 0 0; seats 1 = fault:1
 65 0; seats 1 = fault:1
 1 65537; seats 1 = fault:1
 64 65536; seats 2 = | short:2 closed:64
 3 0 = | closed:3
-1 0; seats 256; 0 join a; 255 join a = 0@1:0 0@2:0 | seat:0 1 0 seat:255 1 0 short:2 closed:1 shard:0 0 0*1 255*1 a:2
+1 0; seats 256; 0 join a; 255 join a = 0@1:0 0@2:0 | seat:0 1 0 seat:255 1 0 short:2 closed:1 shard:0 0 0*1 255*1 a:2 done:2*2
 1 0; seats 257 = fault:2 | short:2 closed:1
-1 2; seats 1; 0 join a; 0 join a; 0 join a = 0@1:0 0@2:0 refused | seat:0 2 2 short:2 closed:1 shard:0 2 0*2 a:2
-1 0; seats 1; 0 join a; 0 join a; 0 join a = 0@1:0 0@2:0 0@3:0 | seat:0 3 0 short:2 closed:1 shard:0 0 0*3 a:3
-2 2; seats 2; 0 join a; 1 join b; 1 join a; 1 join a; 0 join b = 0@1:0 0@1:0 0@2:0 refused 0@2:0 | seat:0 2 2 seat:1 2 2 short:2 closed:2 shard:0 2 0*1 1*1 b:2 shard:1 2 0*1 1*1 a:2
-2 9; seats 1; 0 join b; 0 tick 7 44999; 0 tick 7 45000 = 0@1:0 done:0 done:1 | seat:0 3 3 short:2 closed:2 shard:0 3 0*3 b:0
-2 9; seats 1; 0 join a; 0 tick 0 45000; 0 tick 1 45000 = 0@1:0 done:0 done:1 | seat:0 3 3 short:2 closed:2 shard:0 1 0*1 shard:1 2 0*2 a:0
-2 9; seats 1; 0 image 2 3; 0 join b; 0 join a = done:0 0@1:3 0@1:0 | seat:0 3 3 short:2 closed:2 shard:0 2 0*2 b:1 shard:1 1 0*1 a:1
-3 0; seats 2; 1 image 1 5; 1 join c; 0 join a = done:0 0@1:0 0@1:5 | seat:0 1 0 seat:1 2 0 short:2 closed:3 shard:0 0 1*1 c:1 shard:1 0 0*1 1*1 a:1
-2 9; seats 1; 0 bad = closes | seat:0 1 1 short:2 closed:2 shard:0 1 0*1
-1 0; seats 1; 0 ask a; 0 join a; 0 ask a = 0@1:0 0@2:0 0@3:0 | seat:0 3 0 short:2 closed:1 shard:0 0 0*3 a:3
-2 0; seats 2; 1 ask b; 0 ask a; 0 ask = 0@1:0 0@1:0 closes | seat:0 2 0 seat:1 1 0 short:2 closed:2 shard:0 0 0*1 1*1 b:1 shard:1 0 0*1 a:1
-2 9; seats 2; 1 ask b; 0 ask a; 0 ask = 0@1:0 0@1:0 closes | seat:0 2 2 seat:1 1 1 short:2 closed:2 shard:0 2 0*1 1*1 b:1 shard:1 1 0*1 a:1
-1 2; seats 1; 0 ask a; 0 join a; 0 ask a = 0@1:0 0@2:0 refused | seat:0 2 2 short:2 closed:1 shard:0 2 0*2 a:2
+1 2; seats 1; 0 join a; 0 join a; 0 join a = 0@1:0 0@2:0 refused | seat:0 2 2 short:2 closed:1 shard:0 2 0*2 a:2 refused*2
+1 0; seats 1; 0 join a; 0 join a; 0 join a = 0@1:0 0@2:0 0@3:0 | seat:0 3 0 short:2 closed:1 shard:0 0 0*3 a:3 done:3*4
+2 2; seats 2; 0 join a; 1 join b; 1 join a; 1 join a; 0 join b = 0@1:0 0@1:0 0@2:0 refused 0@2:0 | seat:0 2 2 seat:1 2 2 short:2 closed:2 shard:0 2 0*1 1*1 b:2 refused*1 shard:1 2 0*1 1*1 a:2 refused*1
+2 9; seats 1; 0 join b; 0 tick 7 44999; 0 tick 7 45000 = 0@1:0 done:0 done:1 | seat:0 3 3 short:2 closed:2 shard:0 3 0*3 b:0 done:0*4
+2 9; seats 1; 0 join a; 0 tick 0 45000; 0 tick 1 45000 = 0@1:0 done:0 done:1 | seat:0 3 3 short:2 closed:2 shard:0 1 0*1 done:0*2 shard:1 2 0*2 a:0 done:0*3
+2 9; seats 1; 0 image 2 3; 0 join b; 0 join a = done:0 0@1:3 0@1:0 | seat:0 3 3 short:2 closed:2 shard:0 2 0*2 b:1 done:1*3 shard:1 1 0*1 a:1 done:1*2
+3 0; seats 2; 1 image 1 5; 1 join c; 0 join a = done:0 0@1:0 0@1:5 | seat:0 1 0 seat:1 2 0 short:2 closed:3 shard:0 0 1*1 c:1 done:1*1 shard:1 0 0*1 1*1 a:1 done:1*2
+2 9; seats 1; 0 bad = closes | seat:0 1 1 short:2 closed:2 shard:0 1 0*1 done:0*2
+1 0; seats 1; 0 ask a; 0 join a; 0 ask a = 0@1:0 0@2:0 0@3:0 | seat:0 3 0 short:2 closed:1 shard:0 0 0*3 a:3 done:3*4
+2 0; seats 2; 1 ask b; 0 ask a; 0 ask = 0@1:0 0@1:0 closes | seat:0 2 0 seat:1 1 0 short:2 closed:2 shard:0 0 0*1 1*1 b:1 done:1*2 shard:1 0 0*1 a:1 done:1*2
+2 9; seats 2; 1 ask b; 0 ask a; 0 ask = 0@1:0 0@1:0 closes | seat:0 2 2 seat:1 1 1 short:2 closed:2 shard:0 2 0*1 1*1 b:1 done:1*2 shard:1 1 0*1 a:1 done:1*2
+1 2; seats 1; 0 ask a; 0 join a; 0 ask a = 0@1:0 0@2:0 refused | seat:0 2 2 short:2 closed:1 shard:0 2 0*2 a:2 refused*2
 ";
 
 /// How many shards there are, how many entries the journal of each keeps, and what comes to them.
@@ -317,9 +320,9 @@ fn close_all<A: Ledger, C: Ledger>(
     out: &mut String,
 ) -> Result<(), AllocError> {
     match shards.close(alloc, seats) {
-        Ok(closed) => put_shards(&closed, out),
+        Ok(closed) => put_shards(alloc, closed, out),
         Err(kept) => match kept.shards.close(alloc, kept.seats) {
-            Ok(closed) => put_shards(&closed, out),
+            Ok(closed) => put_shards(alloc, closed, out),
             Err(kept) => put_fault(" fault", kept.fault, out),
         },
     }
@@ -337,14 +340,27 @@ fn put_seats<C: Ledger>(seats: &[Seat<C>], out: &mut String) -> Result<(), Alloc
 }
 
 /// Puts how many shards there are, and what each tells to which something came.
-fn put_shards(shards: &[Shard], out: &mut String) -> Result<(), AllocError> {
+fn put_shards(alloc: Global, shards: Vec<Shard>, out: &mut String) -> Result<(), AllocError> {
     write!(out, " closed:{}", shards.len())?;
-    for shard in shards {
+    for mut shard in shards {
         if (0..256).any(|seat| shard.count(seat) > 0) {
-            put_shard(shard, out)?;
+            put_shard(&shard, out)?;
+            put_step(alloc, &mut shard, out)?;
         }
     }
     Ok(())
+}
+
+/// Puts what a closed shard answers to one more tick, by which every session has ended, and how many entries of seat 0 it has then.
+fn put_step(alloc: Global, shard: &mut Shard, out: &mut String) -> Result<(), AllocError> {
+    let mut answer = tick(shard);
+    if answer.is_refused() {
+        // Memory may have been short.
+        answer = tick(shard);
+    }
+    out.push(' ')?;
+    put_answer(alloc, &answer, out)?;
+    write!(out, "*{}", shard.count(0))
 }
 
 fn put_shard(shard: &Shard, out: &mut String) -> Result<(), AllocError> {
@@ -361,4 +377,13 @@ fn put_shard(shard: &Shard, out: &mut String) -> Result<(), AllocError> {
         }
     }
     Ok(())
+}
+
+/// One more tick of a shard from seat 0, by which every session has ended.
+fn tick(shard: &mut Shard) -> Answer {
+    let event = Event::Tick {
+        shard: shard.number(),
+        moment: Moment::of_millis(90_000),
+    };
+    shard.step(0, event)
 }
