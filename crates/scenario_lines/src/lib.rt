@@ -22,3 +22,5 @@ mod shown;
 mod stamps;
 mod standings;
 mod verb;
+
+pub use scenario_text::service::Service;

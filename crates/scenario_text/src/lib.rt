@@ -24,3 +24,8 @@ pub mod report;
 pub mod service;
 pub mod topics;
 pub mod words;
+
+pub use clap::Command;
+pub use itoa::Integer;
+pub use kip_msgs::{Api, MsgFault};
+pub use topic_meta::{Image, ImageFault, TopicEntry};
