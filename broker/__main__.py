@@ -60,7 +60,11 @@ def raise_file_limit() -> None:
 async def until_signalled(options: Options) -> int:
     """Runs until SIGINT or SIGTERM, or until nobody reads what is printed: status 0. Whatever else ends it is raised."""
     loop = asyncio.get_running_loop()
-    printed = Output(to_file(1), failed=lambda _: loop.call_soon_threadsafe(working.cancel) and None, encoding=sys.stdout.encoding)
+
+    def nobody_reads(_: OSError) -> None:
+        loop.call_soon_threadsafe(working.cancel)
+
+    printed = Output(to_file(1), failed=nobody_reads, encoding=sys.stdout.encoding)
     working = asyncio.ensure_future(run(options, printed.line))
     for number in (signal.SIGINT, signal.SIGTERM):
         loop.add_signal_handler(number, working.cancel)

@@ -9,7 +9,7 @@ from __future__ import annotations
 import asyncio
 import contextlib
 import dataclasses
-from typing import AsyncIterator, List
+from typing import AsyncIterator, List, Optional
 
 from broker.link import Coordinator
 from broker.log import Log
@@ -48,7 +48,7 @@ class Cluster:
     # What waits for slow clients, and what passes, as it is recorded.
     room: Room = dataclasses.field(default_factory=lambda: Room(MOST_HELD))
     record: Record = dataclasses.field(default_factory=Record)
-    _long_reply: asyncio.Lock = dataclasses.field(default_factory=asyncio.Lock)
+    _long_reply: Optional[asyncio.Lock] = None
 
     @contextlib.asynccontextmanager
     async def making(self, entries: int) -> AsyncIterator[None]:
@@ -56,6 +56,8 @@ class Cluster:
         if entries < MANY:
             yield
             return
+        # (Before Python 3.10 a lock is of the event loop in which it is made.)
+        self._long_reply = self._long_reply or asyncio.Lock()
         async with self._long_reply:
             yield
 

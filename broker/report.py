@@ -50,7 +50,7 @@ class Report:
             "unwatched_heartbeats": self.watch.groups.unwatched,
             "unknown": UNKNOWN,
         }
-        used = self._topics_of(shown) if is_for_page else self.cluster.topics
+        used = self._topics_of(shown) if is_for_page else [*self.cluster.topics]
         topics = await pace.all(json.dumps({"name": it.name, "id": str(it.id), "partitions": it.count, "end_offset": end}) for it in used)
         return _object(known, {"topics": _array(topics), "groups": _array(groups)})
 

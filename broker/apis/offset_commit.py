@@ -25,7 +25,10 @@ async def answer(call: Call) -> Reply:
     reply = await call.link.ask(call.request.body)
     pace = call.request.pace
     results = await read_reply(reply, pace)
-    await pace.all(offsets.store(asked.group, *partition) for partition, result in zip(partitions, results) if result.code == codes.NONE)
+    for partition, result in zip(partitions, results):
+        if result.code == codes.NONE:
+            offsets.store(asked.group, *partition)
+        await pace.pause()
     call.watch.commit(asked, results)
     return [reply]
 

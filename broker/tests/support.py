@@ -7,7 +7,7 @@ import contextlib
 import re
 import struct
 import uuid
-from typing import AsyncIterator, Callable, List, Optional, Tuple
+from typing import Any, AsyncIterator, Callable, Coroutine, List, Optional, Tuple, TypeVar
 from unittest import mock
 
 from broker.acceptor import listen
@@ -19,8 +19,10 @@ from broker.offsets import Committed, Offsets
 from broker.output import STANDARD_ERROR
 from broker.relay import serve_node
 from broker.topics import Topic, Topics
+from broker.turns import Turns
 from broker.watch import Watch
 
+Result = TypeVar("Result")
 HOST = "127.0.0.1"
 # How long anything may take that comes at once.
 SECONDS = 20
@@ -40,6 +42,12 @@ def small_cluster(coordinators: int = 1, rate: float = 1.0, clock: Callable[[], 
     cluster = Cluster(nodes, Topics([Topic("orders", ORDERS, partitions)]), Log(rate, 0, clock, 1_000_000), Offsets())
     cluster.offsets.store("g", "orders", 1, Committed(7, 0, "m"))
     return cluster
+
+
+def run_alone(cluster: Cluster, work: Callable[[], Coroutine[Any, Any, Result]]) -> Result:
+    """What some work for a cluster gives, in an event loop of its own, as turns are."""
+    cluster.turns = Turns()
+    return asyncio.run(work())
 
 
 # ---- a coordinator

@@ -2,7 +2,6 @@
 
 from __future__ import annotations
 
-import asyncio
 import pathlib
 import unittest
 from typing import Any, Iterator, List, Tuple
@@ -10,10 +9,10 @@ from typing import Any, Iterator, List, Tuple
 from broker.apis import ANSWERS
 from broker.call import Call
 from broker.cluster import Cluster, group_number, java_hash
-from broker.frames import read_request
+from broker.frames import Reply, read_request
 from broker.turns import Pace
 from broker.watch import Watch
-from broker.tests.support import data, small_cluster
+from broker.tests.support import data, run_alone, small_cluster
 
 TABLE = pathlib.Path(__file__).with_name("apis.txt")
 # `String.hashCode` as Java's own documentation and its users know it; the last is the least number of 32 bits.
@@ -32,10 +31,13 @@ def rows() -> Iterator[Tuple[str, str, str]]:
 
 def answer(cluster: Cluster, text: str, node: int = 0) -> bytes:
     """The reply of a node to a request that doesn't go on to the coordinator."""
-    request = read_request(data(text), Pace(cluster.turns))
     nobody: Any = None
-    call = Call(request, cluster, cluster.nodes[node], nobody, Watch(cluster.topics, lambda _: None))
-    return b"".join(asyncio.run(ANSWERS[request.key](call)))  # type: ignore[arg-type]
+
+    async def pieces() -> Reply:
+        request = read_request(data(text), Pace(cluster.turns))
+        return await ANSWERS[request.key](Call(request, cluster, cluster.nodes[node], nobody, Watch(cluster.topics, lambda _: None)))
+
+    return b"".join(run_alone(cluster, pieces))
 
 
 def five_seconds_later() -> Cluster:

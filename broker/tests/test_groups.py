@@ -2,7 +2,6 @@
 
 from __future__ import annotations
 
-import asyncio
 import json
 import pathlib
 import re
@@ -20,7 +19,7 @@ from broker.partitions import Partitions
 from broker.report import Report
 from broker.watch import Watch
 from broker.words import in_words, plain
-from broker.tests.support import ORDERS, small_cluster
+from broker.tests.support import ORDERS, run_alone, small_cluster
 
 README = pathlib.Path(__file__).resolve().parents[2] / "README.md"
 A, B, C = (f"00000000-0000-0000-0000-00000000000{number}" for number in (1, 2, 3))
@@ -67,7 +66,7 @@ class Conversation:
         return found
 
     def known(self) -> Dict[str, Any]:
-        found: Dict[str, Any] = json.loads(asyncio.run(Report(self.cluster, self.watch).groups()))
+        found: Dict[str, Any] = json.loads(run_alone(self.cluster, Report(self.cluster, self.watch).groups))
         return found
 
     def metrics(self) -> str:

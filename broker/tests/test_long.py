@@ -22,8 +22,8 @@ from broker.tests.support import HOST, SECONDS, Client, accept_all, front, small
 from broker.tests.test_relay import HEARTBEAT
 from broker.tests.test_status import get
 
-PARTITIONS = 100_000
-ENTRIES = 30_000
+PARTITIONS = 50_000
+ENTRIES = 10_000
 # So many heartbeats are answered meanwhile at least. Where nobody gives others a turn it is none, or one that came before.
 BEATS = 5
 

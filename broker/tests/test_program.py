@@ -168,7 +168,7 @@ class Program(unittest.TestCase):
         with socket.create_server((HOST, 0), backlog=200) as silent:
             with broker("--coordinator", f"{HOST}:{silent.getsockname()[1]}", f"orders:{ORDERS}:2") as it:
                 assert it.process.stderr is not None
-                for pipe in (it.process.stdout, it.process.stderr):
+                for pipe in (it.stdout, it.process.stderr):
                     fcntl.fcntl(pipe, F_SETPIPE_SZ, PIPE_BYTES)
                 codes = {(ask(it.ports[0], WITH_REGEX) or b"")[9:11] for _ in range(100)}
                 closed = {ask(it.ports[0], "ffff ffff ffff ffff ffff ffff") for _ in range(60)}
