@@ -160,6 +160,7 @@ class Captured:
             self.unknown.add(person)
         if kind == "join" or asked.owned is not None:
             client.own = set(asked.owned or ())
+            client.shown = set(client.own) if person in self.unknown else client.shown
             self.unknown.discard(person)
         client.number = it.number - 1
         client.has_asked(kind)

@@ -217,7 +217,7 @@ def frames_of_packets(path: str) -> Iterator[Seen]:
         server = servers.setdefault(connection, lower if not marks & SYN else source if marks & ACK else target)
         flow = flows.setdefault((connection, target == server), Flow())
         if marks & SYN:
-            flow.next = int(place) + 1
+            flow.next = int(place) + 1 if flow.next is None else flow.next
         elif data:
             for frame in flow.add(int(place), binascii.unhexlify(data.replace(":", ""))):
                 yield Seen(float(moment), connection, "in" if target == server else "out", frame)
