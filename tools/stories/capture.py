@@ -18,7 +18,7 @@ from stories.names import Topics
 from stories.notation import heads
 from stories.reading import NoScript, Reported
 from stories.recording import Exchange, Recording
-from stories.story import OUT, Standing, Step, Story, person_of, place_of, standing_of
+from stories.story import MEMBER, OUT, UNKNOWN, Standing, Step, Story, person_of, place_of, standing_of
 
 # How often a coordinator looks for members to remove, and how much time makes a row of its own, in milliseconds.
 TICK, PAUSE = 500, 1_000
@@ -134,7 +134,8 @@ class Captured:
         """A row, and before it one for the time that has passed, or in which members were removed."""
         removed = [self.replay.is_removed(client) for client in self.clients]
         moment = self.replay.moment(seconds)
-        now = tuple(map(standing_of, self.clients, self.standings, removed))
+        now = tuple(standing_of(*it) for it in zip(self.clients, self.standings, removed))
+        now = tuple(dataclasses.replace(it, state=UNKNOWN) if at in self.unknown and it.state in MEMBER else it for at, it in enumerate(now))
         new = [at for at, it in enumerate(now) if it.is_removed and not self.standings[at].is_removed]
         if new:
             self.standings = tuple(dataclasses.replace(it, is_removed=it.is_removed or at in new) for at, it in enumerate(self.standings))

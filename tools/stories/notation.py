@@ -11,7 +11,7 @@ from rules.client import Client
 from rules.lines import BadLine, Lines, image_of, shown, topic_of
 from rules.world import ROUNDS, WRONG_STATE
 from stories.names import Topics, counted, fault_name, moment_text
-from stories.reading import NoScript, lines_of
+from stories.reading import NoScript
 
 WORD, TIME = "([^ ]+)", "([0-9]+) (ms|s|min)"
 MILLIS = {"ms": 1, "s": 1_000, "min": 60_000}

@@ -13,7 +13,7 @@ from stories.layout import BESIDE, GAP, LABEL_SIZE, LONGEST_NAME, MARGIN, NAME_S
 from stories.legend import Legend
 from stories.look import BAND, EDGE, GUIDE, HEAD, LANE, PALE, PILL, QUIET, RED, STYLE, color, pill_width
 from stories.names import printable, shortened
-from stories.story import Standing, Story
+from stories.story import MEMBER, UNKNOWN, Standing, Story
 from stories.svg import GROUND, SLATE, Canvas, number, text_width
 from stories.words import TOLD, Label, Words
 
@@ -82,7 +82,7 @@ class Picture:
 
     def draw_lane(self, client: int, look: str, top: float, bottom: float) -> None:
         ends = [(self.layout.lanes[client], top), (self.layout.lanes[client], bottom)]
-        if look in ("steady", "releasing"):
+        if look in (*MEMBER, UNKNOWN):
             self.canvas.line(ends, color(client), LANE, "4 3" if look == "releasing" else "")
         elif look == REMOVED:
             self.canvas.line(ends, color(client), LANE)

@@ -12,7 +12,7 @@ from rules.lines import BadLine, image_of
 from rules.messages import Commit, Heartbeat, read_commit_reply, read_heartbeat_reply, read_request
 from stories.events import Place
 from stories.names import Image, Partition
-from stories.reading import NoScript, lines_of, read
+from stories.reading import NoScript, read
 
 HEARTBEAT, COMMIT, METADATA = 68, 8, 3
 # The versions that are read: of heartbeats, of commits (8 and 9 have the same fields), and those of Metadata that give ids.
@@ -60,7 +60,7 @@ class Recording:
     def __init__(self, path: str):
         self.path, self.exchanges = path, []
         self.topics: Image = {}
-        # Heartbeats and commits that aren't read here, and lines that weren't written.
+        # Heartbeats and commits that aren't read here, and lines or packets that are missing or cut.
         self.unread = self.lost = 0
         waiting: dict[int, list[tuple[int, object]]] = {}
         for seen in self.seen():
@@ -74,11 +74,11 @@ class Recording:
                     self.ends(it, seen)
 
     def seen(self) -> Iterator[Seen]:
-        is_packets = self.path != "-" and read(self.path)[:4] in PCAP
-        return frames_of_packets(self.path) if is_packets else self.frames()
+        data = read(self.path)
+        return self.frames_of_packets(data) if data[:4] in PCAP else self.frames(data)
 
-    def frames(self) -> Iterator[Seen]:
-        head, *lines = lines_of(self.path) or [b""]
+    def frames(self, data: bytes) -> Iterator[Seen]:
+        head, *lines = data.splitlines() or [b""]
         words = head.decode(errors="replace").split(" ")
         if words[:2] != ["record", "1"]:
             raise NoScript(f'{self.path}, line 1: it is neither like "record 1 SECONDS TOPIC.." nor a packet capture')
@@ -93,6 +93,36 @@ class Recording:
                     yield Seen(float(found[1]), int(found[2]), found[3], frame)
                 else:
                     self.lost += 1
+
+    def frames_of_packets(self, data: bytes) -> Iterator[Seen]:
+        """By tshark, which cuts nothing here: Kafka's frames may lie across segments."""
+        words = ["tshark", "-r", "-", "-o", "tcp.relative_sequence_numbers:TRUE", "-Y", "tcp", "-T", "fields"]
+        words += [word for field in FIELDS for word in ("-e", field)]
+        try:
+            ran = subprocess.run(words, input=data, capture_output=True, check=False)
+        except OSError as error:
+            raise NoScript(f"{self.path} is a packet capture, which tshark reads: {error.strerror}") from None
+        # A capture that goes on may end within a packet.
+        self.lost += ran.returncode != 0
+        if ran.returncode and not ran.stdout:
+            raise NoScript(f"tshark can't read {self.path}: {(ran.stderr.decode(errors='replace').splitlines() or ['no reason'])[-1]}")
+        servers: dict[int, str] = {}
+        ends: dict[int, int] = {}
+        flows: dict[tuple[int, bool], Flow] = {}
+        for line in ran.stdout.decode().splitlines():
+            moment, stream, source, target, flags, place, data = line.split("\t")
+            connection, marks = int(stream) + 1, int(flags, 16)
+            lower = min(source, target, key=int)
+            server = servers.setdefault(connection, lower if not marks & SYN else source if marks & ACK else target)
+            flow = flows.setdefault((connection, target == server), Flow())
+            if marks & SYN:
+                flow.next = int(place) + 1 if flow.next is None else flow.next
+            elif data:
+                for frame in flow.add(int(place), binascii.unhexlify(data.replace(":", ""))):
+                    yield Seen(float(moment), connection, "in" if target == server else "out", frame)
+            ends[connection] = ends.get(connection, 0) + bool(marks & FIN) + 2 * bool(marks & RESET)
+            if marks & (FIN | RESET) and ends[connection] > 1:
+                yield Seen(float(moment), connection, "close")
 
     def add_topics(self, words: list[str]) -> None:
         try:
@@ -196,31 +226,3 @@ class Flow:
                 return
             yield self.bytes[: 4 + size]
             self.bytes = self.bytes[4 + size :]
-
-
-def frames_of_packets(path: str) -> Iterator[Seen]:
-    """By tshark, which cuts nothing here: Kafka's frames may lie across segments."""
-    words = ["tshark", "-r", path, "-o", "tcp.relative_sequence_numbers:TRUE", "-Y", "tcp", "-T", "fields"]
-    try:
-        ran = subprocess.run([*words, *(word for field in FIELDS for word in ("-e", field))], capture_output=True, text=True, check=False)
-    except OSError as error:
-        raise NoScript(f"{path} is a packet capture, which tshark reads: {error.strerror}") from None
-    if ran.returncode:
-        raise NoScript(f"tshark can't read {path}: {(ran.stderr.strip().splitlines() or ['no reason'])[-1]}")
-    servers: dict[int, str] = {}
-    ends: dict[int, int] = {}
-    flows: dict[tuple[int, bool], Flow] = {}
-    for line in ran.stdout.splitlines():
-        moment, stream, source, target, flags, place, data = line.split("\t")
-        connection, marks = int(stream) + 1, int(flags, 16)
-        lower = min(source, target, key=int)
-        server = servers.setdefault(connection, lower if not marks & SYN else source if marks & ACK else target)
-        flow = flows.setdefault((connection, target == server), Flow())
-        if marks & SYN:
-            flow.next = int(place) + 1 if flow.next is None else flow.next
-        elif data:
-            for frame in flow.add(int(place), binascii.unhexlify(data.replace(":", ""))):
-                yield Seen(float(moment), connection, "in" if target == server else "out", frame)
-        ends[connection] = ends.get(connection, 0) + bool(marks & FIN) + 2 * bool(marks & RESET)
-        if marks & (FIN | RESET) and ends[connection] > 1:
-            yield Seen(float(moment), connection, "close")

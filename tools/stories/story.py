@@ -18,6 +18,8 @@ from stories.reading import NoScript, Played, Reported, Script
 
 # A member's id, where its client has one, isn't in what lines print.
 SOME_ID = "id"
+# The states of a member, and what is said in place of one where nobody knows what it holds.
+MEMBER, UNKNOWN = ("steady", "releasing"), "unknown"
 SAID_ID = re.compile(", id [0-9a-f-]{36}")
 
 

@@ -7,7 +7,7 @@ from typing import Container, Iterator
 
 from stories import events
 from stories.names import shortened
-from stories.story import Step, Story
+from stories.story import MEMBER, Step, Story
 from stories.words import Words
 
 # The longest text of a cell, and of a list of partitions, in characters.
@@ -71,7 +71,7 @@ def part(story: Story, lines: Container[str] = ()) -> Iterator[str]:
 
 def holding(story: Story, step: Step, client: int) -> str:
     standing = step.standings[client]
-    if standing.state in ("outside", "gone"):
+    if standing.state not in MEMBER:
         return standing.state
     holds = story.topics.text(standing.holds, LONGEST_HOLDING)
     return f"{holds} (removed)" if standing.is_removed else holds
