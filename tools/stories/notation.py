@@ -13,7 +13,7 @@ from rules.world import ROUNDS, WRONG_STATE
 from stories.names import Topics, counted, fault_name, moment_text
 from stories.reading import NoScript
 
-WORD, TIME = "([^ ]+)", "([0-9]+) (ms|s|min)"
+WORD, TIME = "([^ ,:]+)", "([0-9]+) (ms|s|min)"
 MILLIS = {"ms": 1, "s": 1_000, "min": 60_000}
 # Acts by their first word, each with what it looks like.
 FORMS = {
@@ -46,6 +46,8 @@ ONLY = {
     "commit": "a member",
 }
 REBALANCE = 60_000
+# What is said of clients, and where it isn't said.
+SAID = {"group": "g", "static as": "-", "assignor": "-", "rebalance timeout": f"{REBALANCE} ms", "subscribes": "-"}
 CLIENT = '"group g", "static as i1", "assignor range", "rebalance timeout 60 s" or "subscribes orders"'
 TOPIC = re.compile(f"{WORD}: (?:([0-9]+) partitions?|deleted)")
 
@@ -160,7 +162,7 @@ class Notation:
     def image_line(self, act: str) -> str:
         """A line of topics changes those that it names. One that is new, or made anew, gets an id of its own."""
         image, name = {it: (uuid.UUID(bytes=topic), count) for it, (topic, count) in self.image().items()}, ""
-        for part in act.split(", "):
+        for part in re.split(" *, *", act):
             found = TOPIC.fullmatch(part)
             if name and part.startswith("id "):
                 image[name] = uuid.UUID(bytes=topic_of(part[3:])), image[name][1]
@@ -200,8 +202,9 @@ class Writer(Notation):
         for number, line in enumerate(lines, 1):
             text = " ".join(re.sub(r"(^|\s)#.*", "", self.decoded(number, line)).split())
             if text:
-                is_client = re.match("[^:]+:( |$)", text) and not re.search(": [^,]*partition|: deleted", text)
-                (heads if is_client else acts).append((number, text))
+                said = text.partition(":")[2].strip()
+                is_topic = said and not said.startswith(tuple(SAID)) and re.search("partition|deleted", said)
+                (heads if ":" in text and not is_topic and not text.startswith("run ") else acts).append((number, text))
         known = [found[1] for _, text in acts for found in TOPIC.finditer(text)]
         self.each(heads, lambda text: self.add_clients(text, [*dict.fromkeys(known)]))
         self.each(acts, self.act)
@@ -223,8 +226,7 @@ class Writer(Notation):
     def add_clients(self, text: str, known: list[str]) -> None:
         """Clients whose names are before the colon, with what is said behind it."""
         names, parts = text.split(":", 1)
-        said = {"group": "g", "static as": "-", "assignor": "-", "rebalance timeout": f"{REBALANCE} ms"}
-        said["subscribes"] = " ".join(known) or "-"
+        said = {**SAID, "subscribes": " ".join(known) or "-"}
         for part in filter(None, map(str.strip, parts.split(","))):
             word = next((it for it in said if part.startswith(f"{it} ")), None)
             if word is None:

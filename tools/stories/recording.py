@@ -110,6 +110,9 @@ class Recording:
         ends: dict[int, int] = {}
         flows: dict[tuple[int, bool], Flow] = {}
         for line in ran.stdout.decode().splitlines():
+            # A packet within a packet has two values in a field.
+            if "," in line:
+                continue
             moment, stream, source, target, flags, place, data = line.split("\t")
             connection, marks = int(stream) + 1, int(flags, 16)
             lower = min(source, target, key=int)
@@ -123,6 +126,7 @@ class Recording:
             ends[connection] = ends.get(connection, 0) + bool(marks & FIN) + 2 * bool(marks & RESET)
             if marks & (FIN | RESET) and ends[connection] > 1:
                 yield Seen(float(moment), connection, "close")
+        self.lost += sum(bool(flow.early) for flow in flows.values())
 
     def add_topics(self, words: list[str]) -> None:
         try:
