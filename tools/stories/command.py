@@ -5,7 +5,7 @@ from __future__ import annotations
 import argparse
 import os
 import sys
-from typing import Callable, Iterable
+from typing import Callable, Iterable, Optional
 
 from stories.notation import Writer
 from stories.reading import NoScript, Ruled, Script, lines_of, output_in, output_of
@@ -24,17 +24,22 @@ def add_script(made: argparse.ArgumentParser) -> None:
     outputs.add_argument("--program", metavar="PATH", help="runs PATH run over the script, and takes its output")
 
 
-def story(asked: argparse.Namespace) -> Story:
-    lines, numbers = lines_of(asked.script), None
-    if asked.script.endswith(".story"):
-        writer = Writer(asked.script)
+def read(path: str) -> tuple[list[bytes], Optional[Writer]]:
+    """The lines of a script, or those that a story stands for, with what has written them."""
+    lines, writer = lines_of(path), None
+    if path.endswith(".story"):
+        writer = Writer(path)
         lines = [line.encode() for line in writer.write(lines)]
-        numbers = writer.lines
+    return lines, writer
+
+
+def story(asked: argparse.Namespace) -> Story:
+    lines, writer = read(asked.script)
     if asked.output is not None:
         printed = output_in(asked.output)
     else:
         printed = Ruled() if asked.program is None else output_of(asked.program, lines)
-    return tell(Script(asked.script, lines, printed), numbers)
+    return tell(Script(asked.script, lines, printed), writer)
 
 
 def run(name: str, lines: Callable[[], Iterable[str]]) -> int:

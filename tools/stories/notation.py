@@ -302,8 +302,9 @@ class Writer(Notation):
 class Telling(Notation):
     """Says a script's lines as a story does. What a story can't say is said as the script does, behind `run`."""
 
-    def __init__(self, rules: Lines) -> None:
+    def __init__(self, rules: Lines, given: dict[str, tuple[str, int]]) -> None:
         super().__init__(rules)
+        self.given = {made: name for name, made in given.items()}
         self.texts: list[str] = []
         # Where each message was made.
         self.makers: dict[tuple[str, int], int] = {}
@@ -350,12 +351,13 @@ class Telling(Notation):
         return ", ".join(parts) if after else "no topics"
 
     def called(self, word: str, number: int) -> str:
-        """What a message is called: as its client, or where it isn't that one's latest, by a name that it gets where it is made."""
+        """What a message is called: as its client, or where it isn't that one's latest, by a name that it has from a story, or
+        gets where it is made."""
         pool = self.pool(word)
         sender = pool[number - 1][0] if 0 < number <= len(pool) else 0
         if sender and number == self.latest(word, sender):
             return self.rules.clients[sender - 1].name
-        name = f"{POOLS[word]}{number}"
+        name = self.given.get((word, number), f"{POOLS[word]}{number}")
         if (word, number) in self.makers and name not in self.messages and not self.client(name):
             self.texts[self.makers[word, number]] += f" as {name}"
             self.messages[name] = word, number

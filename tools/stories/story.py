@@ -13,7 +13,7 @@ from rules.messages import read_heartbeat_reply
 from rules.world import World
 from stories import events, names
 from stories.events import AGAIN, AT_ONCE, LATE, Event, Partitions
-from stories.notation import Telling, heads
+from stories.notation import Telling, Writer, heads
 from stories.reading import NoScript, Played, Reported, Script
 
 # A member's id, where its client has one, isn't in what lines print.
@@ -263,15 +263,15 @@ def person_of(client: Client) -> Person:
     return Person(printable(client.name), printable(client.group), instance, assignor)
 
 
-def tell(script: Script, numbers: Optional[list[int]] = None) -> Story:
-    """The story of a script, whose lines may have other numbers. NoScript says why there is none."""
-    telling = Telling(script.rules)
+def tell(script: Script, writer: Optional[Writer] = None) -> Story:
+    """The story of a script, with the numbers of lines and the names of messages of the one that it is made of. NoScript says why there is none."""
+    telling = Telling(script.rules, writer.messages if writer else {})
     teller, played = Teller(), []
     for it in script.acts(telling):
         teller.start(it)
         played.append((it, teller.event(it), teller.stand(it)))
     report = script.report()
     texts = [names.printable(SAID_ID.sub("", text)) for text in telling.texts]
-    numbers = numbers or [*range(1, len(script.lines) + 1)]
+    numbers = writer.lines if writer else [*range(1, len(script.lines) + 1)]
     steps = [Step(str(numbers[it.number - 1]), text, event, standings) for (it, event, standings), text in zip(played, texts)]
     return Story([*map(person_of, script.rules.clients)], telling.topics, steps, report, [*heads(script.rules.clients)], [*telling.acts()])
