@@ -21,6 +21,7 @@ import difflib
 import os
 import sys
 import tempfile
+from typing import Callable, Dict, Iterator, List, Optional, Tuple, Union
 
 from gate import commands, rows
 
@@ -51,7 +52,7 @@ class Case:
     status: int
 
 
-def cases_of(root):
+def cases_of(root: str) -> Iterator[Tuple[str, Union[Case, str]]]:
     """The cases of a tree, each with its label: a case, or why it can't be run."""
     for label in labels_in(root):
         if os.path.isfile(f"{root}/{label}{ROWS}"):
@@ -60,7 +61,7 @@ def cases_of(root):
             yield label, case_or_fault(root, label)
 
 
-def labels_in(root):
+def labels_in(root: str) -> List[str]:
     """The files of cases in a tree, as cases/FOLDER/NAME: one for each name that a file there has."""
     found = set()
     for folder, folders, names in os.walk(f"{root}/cases"):
@@ -70,7 +71,7 @@ def labels_in(root):
     return sorted(found)
 
 
-def row_cases(root, label):
+def row_cases(root: str, label: str) -> Iterator[Tuple[str, Union[Case, str]]]:
     """The cases of a file of rows."""
     text = content_of(f"{root}/{label}{ROWS}")
     try:
@@ -84,14 +85,14 @@ def row_cases(root, label):
         yield row_label, Case(row_label, row.words, row.given, row.output, row.errors, row.status)
 
 
-def case_or_fault(root, label):
+def case_or_fault(root: str, label: str) -> Union[Case, str]:
     try:
         return read_case(root, label)
     except (BadCase, OSError, UnicodeDecodeError) as why:
         return f"BAD CASE: {why}"
 
 
-def read_case(root, label):
+def read_case(root: str, label: str) -> Case:
     """Reads the files of one case."""
     parts = label.split("/")
     if len(parts) != 3:
@@ -108,7 +109,7 @@ def read_case(root, label):
     return Case(label, (parts[1], *words), files[".in"], files[".out"], files[".err"] or b"", int(status))
 
 
-def made_files(root, words):
+def made_files(root: str, words: List[str]) -> Dict[str, Optional[bytes]]:
     """The input and the output that a tool writes."""
     with tempfile.TemporaryDirectory(prefix="case-") as folder:
         command = [sys.executable, "-B", f"{os.path.abspath(root)}/tools/{words[0]}", *words[1:], f"{folder}/case"]
@@ -118,14 +119,14 @@ def made_files(root, words):
         return {it: content_of(f"{folder}/case{it}") for it in (".in", ".out")}
 
 
-def content_of(path):
+def content_of(path: str) -> Optional[bytes]:
     if not os.path.isfile(path):
         return None
     with open(path, "rb") as file:
         return file.read()
 
 
-def run_all(root, program, say):
+def run_all(root: str, program: str, say: Callable[[str], None]) -> Tuple[int, int]:
     """Runs every case of a tree with the program; says each that fails. Returns how many passed and failed."""
     all_cases = [*cases_of(root)]
     with concurrent.futures.ThreadPoolExecutor(os.cpu_count()) as pool:
@@ -137,7 +138,7 @@ def run_all(root, program, say):
     return len(all_cases) - failed, failed
 
 
-def fault_of(case, program):
+def fault_of(case: Union[Case, str], program: str) -> Optional[str]:
     """How the program's answer differs from what a case expects, or why it can't be run, or None."""
     if isinstance(case, str):
         return case
@@ -154,7 +155,7 @@ def fault_of(case, program):
     return "\n    ".join(["FAILED:", *differences]) if differences else None
 
 
-def difference(what, expected, found):
+def difference(what: str, expected: bytes, found: bytes) -> List[str]:
     """The lines that tell how two texts differ; none where they are the same."""
     if expected == found:
         return []

@@ -15,6 +15,7 @@ import sys
 import tempfile
 import threading
 import time
+from typing import IO, Iterable, Iterator, List, NoReturn, Optional, Sequence, Set, Tuple, Union
 
 # From <sys/prctl.h>: orphans below this process become its children.
 PR_SET_CHILD_SUBREAPER = 36
@@ -39,11 +40,11 @@ class Ran:
     processor: float
     was_cut: bool
 
-    def lines(self):
+    def lines(self) -> List[str]:
         return self.output.decode(errors="replace").rstrip("\n").split("\n")
 
 
-def run(words, folder=None, given=b"", limit=None, merged=True, nice=0):
+def run(words: Sequence[str], folder: Optional[str] = None, given: bytes = b"", limit: Optional[float] = None, merged: bool = True, nice: int = 0) -> Ran:
     """Runs a program to its end, or for at most `limit` seconds. Where `merged`, its errors go into `output`. `nice`: see `start`."""
     with contextlib.ExitStack() as files:
         given_file, output, errors = (files.enter_context(tempfile.TemporaryFile()) for _ in range(3))
@@ -63,7 +64,7 @@ def run(words, folder=None, given=b"", limit=None, merged=True, nice=0):
         return Ran(status, *texts, time.monotonic() - began, processor, was_cut.is_set())
 
 
-def start(words, folder, given, output, errors, nice=0):
+def start(words: Sequence[str], folder: Optional[str], given: Union[int, IO[bytes]], output: Union[int, IO[bytes]], errors: Union[int, IO[bytes]], nice: int = 0) -> subprocess.Popen:
     """Starts a program in a session of its own. The higher `nice` is, up to 19, the more it leaves the processors to others."""
     if stopping.is_set():
         raise Stopped
@@ -76,7 +77,7 @@ def start(words, folder, given, output, errors, nice=0):
     return child
 
 
-def set_nice_of_session(leader, nice):
+def set_nice_of_session(leader: int, nice: int) -> None:
     """Linux shares the processors out to sessions first, by a value of theirs (sched(7), "The autogroup feature")."""
     for _ in range(10):
         try:
@@ -91,14 +92,14 @@ def set_nice_of_session(leader, nice):
         return
 
 
-def wait_for(child):
+def wait_for(child: subprocess.Popen) -> Tuple[int, float]:
     """The exit status and the processor time of a program and of all that it waited for."""
     _, status, used = os.wait4(child.pid, 0)
     child.returncode = os.waitstatus_to_exitcode(status)
     return child.returncode, used.ru_utime + used.ru_stime
 
 
-def processes():
+def processes() -> Iterator[Tuple[int, int, int]]:
     """The processes of the machine that have not ended: number, parent and session."""
     for name in filter(str.isdigit, os.listdir("/proc")):
         with contextlib.suppress(OSError):
@@ -109,7 +110,7 @@ def processes():
                 yield int(name), int(parent), int(session)
 
 
-def below(number):
+def below(number: int) -> Set[int]:
     """The processes that descend from this one."""
     parents = {child: parent for child, parent, _ in processes()}
     found = {number}
@@ -118,29 +119,29 @@ def below(number):
     return found - {number}
 
 
-def kill(numbers):
+def kill(numbers: Iterable[int]) -> None:
     for number in numbers:
         with contextlib.suppress(ProcessLookupError):
             os.kill(number, signal.SIGKILL)
 
 
-def members_of(session):
+def members_of(session: int) -> List[int]:
     return [child for child, _, its_session in processes() if its_session == session]
 
 
-def end(child):
+def end(child: subprocess.Popen) -> None:
     """Ends a program that is running, and all that it has started."""
     kill({*members_of(child.pid), *below(child.pid)})
 
 
-def end_all():
+def end_all() -> None:
     """Ends every process below this one, also those that begin meanwhile."""
     while found := below(os.getpid()):
         kill(found)
         time.sleep(0.01)
 
 
-def stop(number, _frame):
+def stop(number: int, _frame: object) -> None:
     """Ends what was started; what waits for it then ends too, and removes its files."""
     for it in (signal.SIGINT, signal.SIGTERM, signal.SIGHUP):
         signal.signal(it, signal.SIG_IGN)
@@ -149,7 +150,7 @@ def stop(number, _frame):
     sys.exit(STOPPED_STATUS + number)
 
 
-def take_signals():
+def take_signals() -> None:
     """From here on a signal to stop ends all that was started.
 
     A shell without jobs starts what stands before `&` with SIGINT ignored, and nohup with SIGHUP: they stay so here. But a program that is
@@ -164,7 +165,7 @@ def take_signals():
 
 
 @contextlib.contextmanager
-def room(name, parent=None):
+def room(name: str, parent: Optional[str] = None) -> Iterator[str]:
     """A folder that others can read and that is removed at the end, whatever ends it but SIGKILL.
 
     What is written meanwhile to the folder for temporary files, also by the programs, lies in it. Signals: see `take_signals`.
@@ -185,7 +186,7 @@ def room(name, parent=None):
         shutil.rmtree(folder, ignore_errors=True)
 
 
-def usage(doc, words, known=()):
+def usage(doc: str, words: Sequence[str], known: Sequence[str] = ()) -> None:
     """Prints the help and ends where it is asked for; ends with the usage where a word is an option that isn't known."""
     if {"--help", "-h"} & {*words}:
         signal.signal(signal.SIGPIPE, signal.SIG_DFL)
@@ -197,7 +198,7 @@ def usage(doc, words, known=()):
         sys.exit(2)
 
 
-def file_of(word):
+def file_of(word: str) -> str:
     """The whole path of a file that a command line names. Ends this process where there is none."""
     if not os.path.isfile(word):
         print(f"{os.path.basename(sys.argv[0])}: there is no file {word}", file=sys.stderr)
@@ -205,12 +206,12 @@ def file_of(word):
     return os.path.realpath(word)
 
 
-def need(program):
+def need(program: str) -> None:
     """Ends this process where a program is not on PATH."""
     if shutil.which(program) is None:
         fail(f"{program}, the Rattle toolchain's command, is not on PATH")
 
 
-def fail(why):
+def fail(why: str) -> NoReturn:
     """Ends this process with one line that says why."""
     sys.exit(f"{os.path.basename(sys.argv[0])}: {why}")

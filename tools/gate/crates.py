@@ -3,6 +3,7 @@
 import contextlib
 import hashlib
 import os
+from typing import Dict, Iterable, List, Optional
 
 from gate import commands
 
@@ -16,41 +17,41 @@ class Tree:
     `is_proved` says that `rt ci` has just built the libraries of the tree's very files.
     """
 
-    def __init__(self, root, kit, is_proved=False):
+    def __init__(self, root: str, kit: str, is_proved: bool = False) -> None:
         self.root, self.kit, self.is_proved = root, kit, is_proved
         self.uses = listed(f"{root}/crates.txt")
 
-    def folder(self, crate):
+    def folder(self, crate: str) -> str:
         return f"{self.root}/crates/{crate}"
 
-    def library(self, crate):
+    def library(self, crate: str) -> str:
         return f"{self.folder(crate)}/out/rlib/{crate}.rlib"
 
-    def own(self, crate):
+    def own(self, crate: str) -> List[str]:
         """The crates of the tree that this one names."""
         return [it for it in self.uses[crate] if it in self.uses]
 
-    def below(self, crate):
+    def below(self, crate: str) -> List[str]:
         """The crates of the tree that this one rests on, each after those that it rests on itself."""
         found = []
         for it in self.own(crate):
             found += [low for low in [*self.below(it), it] if low not in found]
         return found
 
-    def above(self, crates):
+    def above(self, crates: Iterable[str]) -> List[str]:
         """These crates and those that rest on one of them, lowest first."""
         return self.lowest_first([it for it in self.uses if it in crates or {*crates} & {*self.below(it)}])
 
-    def lowest_first(self, crates):
+    def lowest_first(self, crates: Iterable[str]) -> List[str]:
         """These crates, each after those of them that it rests on."""
         order = dict.fromkeys(low for it in crates for low in [*self.below(it), it])
         return [it for it in order if it in crates]
 
-    def root_file(self, crate):
+    def root_file(self, crate: str) -> str:
         is_program = os.path.isfile(f"{self.folder(crate)}/src/main.rt")
         return "src/main.rt" if is_program else "src/lib.rt"
 
-    def sources(self, crate):
+    def sources(self, crate: str) -> List[str]:
         """The crate's own files, by their path in it."""
         folder, found = self.folder(crate), []
         for part in PARTS:
@@ -58,11 +59,11 @@ class Tree:
                 found += [os.path.relpath(f"{at}/{name}", folder) for name in names]
         return sorted(found)
 
-    def read(self, crate, path):
+    def read(self, crate: str, path: str) -> str:
         with open(f"{self.folder(crate)}/{path}", encoding="utf-8") as file:
             return file.read()
 
-    def check_words(self, crate, uses=None, root_file=None, verb="check"):
+    def check_words(self, crate: str, uses: Optional[List[str]] = None, root_file: Optional[str] = None, verb: str = "check") -> List[str]:
         """The words that check a crate, in a folder that has its files, over the tree's built libraries.
 
         `uses` and `root_file` are given for code that is no crate of the tree. The verb `build` wants more words behind these.
@@ -81,16 +82,16 @@ class Tree:
         words += ["--antt-project", f"{self.kit}/rattle/logic/antt-project.json"]
         return [*words, "--logic-built", f"{self.kit}/logic_built", "--links", f"{crate}="]
 
-    def is_made(self, name):
+    def is_made(self, name: str) -> bool:
         """Whether `rt ci` has just built the library: it leaves no stamp, as `rt lib` does."""
         folder = os.path.dirname(self.library(name))
         return self.is_proved and os.path.isdir(self.library(name)) and not os.path.isfile(f"{folder}/stamp")
 
-    def build_below(self, crates):
+    def build_below(self, crates: Iterable[str]) -> Optional[str]:
         """Builds the libraries that these crates rest on. Says why one does not build, or None."""
         return self.build(dict.fromkeys(low for it in crates for low in self.below(it)))
 
-    def build(self, names):
+    def build(self, names: Iterable[str]) -> Optional[str]:
         """Builds these libraries, where they have changed. Says why one does not build, or None."""
         for name in (it for it in names if not self.is_made(it)):
             ran = commands.run(["rt", "lib"], self.folder(name))
@@ -104,14 +105,14 @@ class Kept:
 
     FOLDER = os.path.join(os.environ.get("XDG_CACHE_HOME") or os.path.expanduser("~/.cache"), "migwelun-refused")
 
-    def __init__(self, tree, *words):
+    def __init__(self, tree: Tree, *words: object) -> None:
         self.tree, self.sums, self.words = tree, {}, [*words, content(f"{tree.kit}/KIT-ID")]
 
-    def place(self, names, *words):
+    def place(self, names: Iterable[str], *words: object) -> str:
         parts = [*self.words, *words, *map(self.crate, names)]
         return f"{self.FOLDER}/{hashlib.sha256(repr(parts).encode()).hexdigest()}"
 
-    def crate(self, name):
+    def crate(self, name: str) -> str:
         """The sum of a crate's sources and of those below it."""
         if name not in self.sums:
             texts = [(it, content(f"{self.tree.folder(name)}/{it}")) for it in self.tree.sources(name)]
@@ -119,24 +120,24 @@ class Kept:
             self.sums[name] = hashlib.sha256(repr(parts).encode()).hexdigest()
         return self.sums[name]
 
-    def has(self, names, *words):
+    def has(self, names: Iterable[str], *words: object) -> bool:
         return os.path.isfile(self.place(names, *words))
 
-    def keep(self, names, *words):
+    def keep(self, names: Iterable[str], *words: object) -> None:
         with contextlib.suppress(OSError):
             os.makedirs(self.FOLDER, 0o700, exist_ok=True)
             with open(self.place(names, *words), "w", encoding="utf-8"):
                 pass
 
 
-def content(path):
+def content(path: str) -> bytes:
     """A file's bytes; none where there is no such file."""
     with contextlib.suppress(OSError), open(path, "rb") as file:
         return file.read()
     return b""
 
 
-def listed(file):
+def listed(file: str) -> Dict[str, List[str]]:
     """What crates.txt says: each crate, and the libraries that it names."""
     found = {}
     with open(file, encoding="utf-8") as lines:
@@ -147,18 +148,18 @@ def listed(file):
     return found
 
 
-def kit_folder():
+def kit_folder() -> str:
     """The folder of the toolchain."""
     page = commands.run(["rt", "doc"]).lines()[-1]
     return os.path.dirname(page)
 
 
-def repository():
+def repository() -> str:
     """The repository that these tools stand in."""
     return os.path.dirname(os.path.dirname(os.path.dirname(os.path.realpath(__file__))))
 
 
-def work_tree():
+def work_tree() -> Tree:
     """The repository as it stands, with what earlier checks left in it."""
     commands.need("rt")
     return Tree(repository(), kit_folder(), is_proved=os.environ.get("GATE_PROVED") == "1")

@@ -6,6 +6,7 @@ brace at the head's indentation.
 
 import dataclasses
 import re
+from typing import Dict, Iterable, Iterator, List, Optional
 
 HEAD = re.compile(r'( *)(?:pub(?:\([^)]*\))? )?(?:const )?(?:unsafe )?(?:extern "C" )?fn (\w+)')
 OWNER = re.compile(r"( *)(?:pub(?:\([^)]*\))? )?(?:unsafe )?((?:impl|trait)\b.*)")
@@ -23,12 +24,12 @@ class Function:
     owner: str
     cycle: str
 
-    def has(self, path, line):
+    def has(self, path: str, line: int) -> bool:
         """Whether the line stands in the function."""
         return path == self.path and self.first <= line <= self.last
 
 
-def functions_in(path, text):
+def functions_in(path: str, text: str) -> List[Function]:
     """The functions of a file that stand in no other function."""
     lines, found, at = text.split("\n"), [], 0
     while at < len(lines):
@@ -41,7 +42,7 @@ def functions_in(path, text):
     return found
 
 
-def last_line(lines, first, indent):
+def last_line(lines: List[str], first: int, indent: str) -> Optional[int]:
     """The last line of the function whose head begins at `first`, or None where it has no body."""
     is_open = False
     for at in range(first, len(lines)):
@@ -54,7 +55,7 @@ def last_line(lines, first, indent):
     return None
 
 
-def owner_of(lines, first, indent):
+def owner_of(lines: List[str], first: int, indent: str) -> str:
     """The head of the impl or trait that the function stands in."""
     if not indent:
         return ""
@@ -65,7 +66,7 @@ def owner_of(lines, first, indent):
     return ""
 
 
-def cycle_of(lines, first):
+def cycle_of(lines: List[str], first: int) -> str:
     """The name of the cycle of calls that the attributes above the function name."""
     for line in reversed(lines[:first]):
         if not line.lstrip().startswith(("#[", "//")):
@@ -75,7 +76,7 @@ def cycle_of(lines, first):
     return ""
 
 
-def name_in(crate, function, known):
+def name_in(crate: str, function: Function, known: Iterable[str]) -> Optional[str]:
     """The one of the known names of a verdict that is this function's, or None where not exactly one fits."""
     module = "::".join([crate, *module_of(function.path)])
     if not function.owner:
@@ -86,7 +87,7 @@ def name_in(crate, function, known):
     return found[0] if len(found) == 1 else None
 
 
-def names_by_source(crate, sources):
+def names_by_source(crate: str, sources: Dict[str, str]) -> Iterator[str]:
     """The names of functions as their files have them, where no verdict has told them: those of free functions, and of methods by the
     module in which their type stands. `sources` are texts by path.
     """
@@ -106,13 +107,13 @@ def names_by_source(crate, sources):
                 yield f"{types.get(last_name(trait), module)}::{last_name(trait)}::{it.name}"
 
 
-def module_of(path):
+def module_of(path: str) -> List[str]:
     """The module of a file, as segments below the crate."""
     parts = path.removeprefix("src/").removesuffix(".rt").split("/")
     return [] if parts in (["lib"], ["main"]) else [it for it in parts if it != "mod"]
 
 
-def method_names(module, function, known):
+def method_names(module: str, function: Function, known: Iterable[str]) -> List[str]:
     """The names that a method's verdict can have: its type's, then for a trait's method the trait's name."""
     trait, of, type_name = without_parameters(function.owner).partition(" for ")
     if not of:
@@ -126,7 +127,7 @@ def method_names(module, function, known):
     return [exact] if exact in near else near
 
 
-def without_parameters(owner):
+def without_parameters(owner: str) -> str:
     """The head of an impl or trait without that word, its type parameters and where clauses."""
     text = re.sub(r"^(impl|trait)\s*", "", owner).partition(" where ")[0].rstrip("{ ")
     if not text.startswith("<"):
@@ -139,14 +140,14 @@ def without_parameters(owner):
     return text
 
 
-def arguments(text):
+def arguments(text: str) -> List[str]:
     """The type arguments of a trait, as written."""
     inside = text.partition("<")[2].rpartition(">")[0]
     found = (it.strip() for it in re.sub(r"<[^<>]*>", "", inside).split(","))
     return [it for it in found if it and not it.startswith("'")]
 
 
-def last_name(text):
+def last_name(text: str) -> str:
     """A type's name as a verdict spells it: the last of its path, with no arguments, `RefStr` for `&str`.
 
     Arguments that go on in the lines below are none either."""
@@ -159,7 +160,7 @@ def last_name(text):
     return "Ref" * reference + name[:1].upper() + name[1:]
 
 
-def owner_in(name, known):
+def owner_in(name: str, known: Iterable[str]) -> str:
     """The function that a closure or an inner function stands in: their names have a segment `fn`. Else the name."""
     if "::fn::" not in name:
         return name

@@ -14,16 +14,20 @@ bodies of different functions do not disturb each other, and one check tries one
 
 import os
 import signal
+from typing import Dict, Iterable, List, Optional, Set, Tuple
 
-from gate import commands, functions, verdicts, wrong
+from gate import commands, crates, functions, verdicts, wrong
 
 REFUSED, NAMED, PROVED, BAD_EDIT, NOT_PROVED = "refused", "NAMED", "PROVED", "BAD EDIT", "NOT PROVED"
+
+# A word of these, and why.
+Answer = Tuple[str, str]
 
 
 class Bench:
     """A copy of a crate that is checked with other texts, over what the crate's own checks have kept, by so many jobs."""
 
-    def __init__(self, tree, crate, folder, jobs, nice=0):
+    def __init__(self, tree: crates.Tree, crate: str, folder: str, jobs: int, nice: int = 0) -> None:
         self.tree, self.crate, self.folder, self.jobs, self.nice = tree, crate, folder, jobs, nice
         self.laid = set()
         os.makedirs(f"{folder}/src")
@@ -33,15 +37,15 @@ class Bench:
         if os.path.isdir(kept):
             commands.run(["cp", "-a", "--reflink=auto", kept, f"{folder}/kept"])
 
-    def write(self, path, text):
+    def write(self, path: str, text: str) -> None:
         os.makedirs(os.path.dirname(f"{self.folder}/{path}"), exist_ok=True)
         with open(f"{self.folder}/{path}", "w", encoding="utf-8") as file:
             file.write(text)
 
-    def read(self, path):
+    def read(self, path: str) -> str:
         return self.tree.read(self.crate, path)
 
-    def check(self, texts, only=()):
+    def check(self, texts: Dict[str, str], only: Iterable[str] = ()) -> verdicts.Verdict:
         """Checks the crate with these texts in place of its own; of `only` names, where given, just those functions."""
         for path in self.laid - {*texts}:
             self.write(path, self.read(path))
@@ -61,11 +65,11 @@ class Bench:
 class Rounds:
     """Tries wrong bodies of a crate. `answers` has for each that was tried what came of it, and why."""
 
-    def __init__(self, bench, known):
+    def __init__(self, bench: Bench, known: Set[str]) -> None:
         self.bench, self.known = bench, known
         self.answers, self.changes, self.turned = {}, {}, {}
 
-    def try_all(self, tried):
+    def try_all(self, tried: List[wrong.Wrong]) -> Dict[wrong.Wrong, Answer]:
         together, alone = [], []
         for it in tried:
             try:
@@ -82,7 +86,7 @@ class Rounds:
             self.try_alone(it)
         return self.answers
 
-    def functions_of(self, change):
+    def functions_of(self, change: wrong.Change) -> Optional[Dict[str, functions.Function]]:
         """The functions that a change turns, by their names in a verdict; None where a line is in no known one.
 
         A line of a function's own proof files is the function's.
@@ -99,7 +103,7 @@ class Rounds:
             found[name] = inside[0]
         return found if proofs <= {*found} else None
 
-    def picked(self, waiting):
+    def picked(self, waiting: List[wrong.Wrong]) -> Tuple[List[wrong.Wrong], List[wrong.Wrong]]:
         """As many wrong bodies as turn different functions, and the others."""
         chosen, later, used = [], [], set()
         for it in waiting:
@@ -108,7 +112,7 @@ class Rounds:
             used |= set() if used & turned else turned
         return chosen, later
 
-    def try_together(self, chosen):
+    def try_together(self, chosen: List[wrong.Wrong]) -> None:
         texts = wrong.merged([self.changes[it] for it in chosen], self.bench.read)
         turned = {name for it in chosen for name in self.turned[it]}
         verdict = self.bench.check(texts, turned)
@@ -125,14 +129,14 @@ class Rounds:
                 said = "; ".join(f"{name}: {verdict.lines.get(name, 'no line')[:160]}" for name in self.turned[it])
                 self.answers[it] = answer or (BAD_EDIT, f"its verdict is not understood: {said}")
 
-    def mates(self, chosen):
+    def mates(self, chosen: List[wrong.Wrong]) -> Set[str]:
         """The functions of a cycle of calls in which one of these turns a function: all of it has one proof."""
         cycles = {it.cycle for each in chosen for it in self.turned[each].values() if it.cycle}
         paths = [it for it in self.bench.tree.sources(self.bench.crate) if cycles and it.startswith("src/")]
         every = [it for path in paths for it in functions.functions_in(path, self.bench.read(path))]
         return {functions.name_in(self.bench.crate, it, self.known) for it in every if it.cycle in cycles}
 
-    def parts(self, chosen, verdict):
+    def parts(self, chosen: List[wrong.Wrong], verdict: verdicts.Verdict) -> Tuple[List[wrong.Wrong], List[wrong.Wrong]]:
         """Two parts of a void round: those at whose lines something is said and the others, or else halves."""
         named = verdict.lines_with_errors()
         suspects = [it for it in chosen if named & self.changes[it].lines]
@@ -140,7 +144,7 @@ class Rounds:
             suspects = chosen[: len(chosen) // 2]
         return [it for it in chosen if it not in suspects], suspects
 
-    def judged(self, it, verdict, is_shared):
+    def judged(self, it: wrong.Wrong, verdict: verdicts.Verdict, is_shared: bool) -> Optional[Answer]:
         """What a sound verdict says of a wrong body, or None where it does not say."""
         found = {name: verdict.of(name) for name in sorted(self.turned[it])}
         unsure = {verdicts.UNKNOWN, verdicts.WAITS, *[verdicts.RESTS] * is_shared}
@@ -156,7 +160,7 @@ class Rounds:
             return PROVED, f"{', '.join(proved)} is still proved with it"
         return (NAMED, by_name) if named else (REFUSED, "")
 
-    def try_alone(self, it):
+    def try_alone(self, it: wrong.Wrong) -> None:
         """Tries a wrong body of which no function can be told: any function that fails of its own refuses it."""
         texts = self.changes[it].texts
         verdict = self.bench.check(texts)

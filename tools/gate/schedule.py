@@ -2,6 +2,7 @@
 
 import os
 import re
+from typing import Dict, Optional
 
 # What a check takes of memory in bytes: in any crate, and for each line of the crate's source. Measured on crates
 # of 360 to 4,000 lines; the most that one took was 4 GB.
@@ -18,7 +19,7 @@ QUOTA_FILE = "/sys/fs/cgroup/cpu.max"
 MEMORY_FILES = ("/sys/fs/cgroup/memory.max", "/sys/fs/cgroup/memory.current")
 
 
-def proof_jobs():
+def proof_jobs() -> Dict[str, str]:
     """What `rt ci` is told by its environment: to prove one crate more at once than there are processors, by one job each.
 
     By itself it plans with one and a half to three times the memory that our crates take, which leaves processors idle. It is left to that
@@ -30,18 +31,18 @@ def proof_jobs():
     return {JOBS_NAME: str(proofs)} if is_enough and JOBS_NAME not in os.environ else {}
 
 
-def checks_at_once():
+def checks_at_once() -> int:
     """How many checks have room beside one another."""
     return max(1, min(processors(), int(USED_MEMORY * free_memory() / (CHECK_MEMORY + 4000 * LINE_MEMORY))))
 
 
-def need_of(tree, crate):
+def need_of(tree: object, crate: str) -> float:
     """The memory that a check of the crate is planned with."""
     texts = (tree.read(crate, it) for it in tree.sources(crate) if it.endswith(".rt"))
     return CHECK_MEMORY + LINE_MEMORY * sum(it.count("\n") for it in texts)
 
 
-def number_in(file, pattern):
+def number_in(file: str, pattern: str) -> Optional[int]:
     try:
         with open(file, encoding="utf-8") as text:
             found = re.search(pattern, text.read())
@@ -50,14 +51,14 @@ def number_in(file, pattern):
     return int(found[1]) if found else None
 
 
-def processors():
+def processors() -> int:
     """How many processors this process may use."""
     found = len(os.sched_getaffinity(0))
     quota, period = number_in(QUOTA_FILE, r"^(\d+)"), number_in(QUOTA_FILE, r" (\d+)")
     return min(found, max(quota // period, 1)) if quota and period else found
 
 
-def free_memory():
+def free_memory() -> int:
     """How many bytes of memory are free for this process."""
     free = 1024 * number_in("/proc/meminfo", r"MemAvailable:\s+(\d+)")
     limit, used = (number_in(it, r"(\d+)") for it in MEMORY_FILES)

@@ -9,8 +9,9 @@ import re
 import shutil
 import tempfile
 import threading
+from typing import Dict, List, Optional, Set
 
-from gate import cases, commands, crates, functions
+from gate import cases, commands, crates, functions, wrong
 
 # How long a build with its run may take, in seconds.
 LIMIT = 2400
@@ -23,7 +24,7 @@ class NotRun(Exception):
 class Trials:
     """Runs single tests and cases over a tree with changed texts."""
 
-    def __init__(self, tree, room, tried):
+    def __init__(self, tree: crates.Tree, room: str, tried: List[wrong.Wrong]) -> None:
         self.tree, self.room, self.lock, self.without = tree, room, threading.Lock(), {}
         self.tests = {}
         for it in tried:
@@ -31,7 +32,7 @@ class Trials:
             self.tests.setdefault(crate, set()).add(test)
         self.rt = f"{kit_without_hints(tree.kit, tempfile.mkdtemp(prefix='kit-', dir=room))}/bin/rt"
 
-    def passes(self, it, texts):
+    def passes(self, it: wrong.Wrong, texts: Dict[str, str]) -> bool:
         """Whether the test or case of a wrong body passes with these texts in its crate. Without them it has to."""
         crate, _, test = it.whom.partition("::")
         with self.lock:
@@ -44,7 +45,7 @@ class Trials:
             raise NotRun("its test did not run")
         return passes
 
-    def outcomes(self, it, crate, texts):
+    def outcomes(self, it: wrong.Wrong, crate: Optional[str], texts: Dict[str, str]) -> Dict[str, bool]:
         """Whether the tests of a crate, or the case, pass."""
         folder = tempfile.mkdtemp(prefix="try-", dir=self.room)
         try:
@@ -62,7 +63,7 @@ class Trials:
         finally:
             shutil.rmtree(folder, ignore_errors=True)
 
-    def lay(self, folder, crate, texts):
+    def lay(self, folder: str, crate: Optional[str], texts: Dict[str, str]) -> None:
         """A copy of the tree's sources, with these texts in the crate."""
         for name in ("crates.txt", "HANDLES"):
             shutil.copyfile(f"{self.tree.root}/{name}", f"{folder}/{name}")
@@ -72,7 +73,7 @@ class Trials:
         for path, text in texts.items():
             write(f"{folder}/crates/{crate}/{path}", text)
 
-    def case_passes(self, label, folder):
+    def case_passes(self, label: str, folder: str) -> bool:
         """By its standard output and its status; rt writes lines of its own to standard error."""
         case = cases.read_case(self.tree.root, label)
         ran = commands.run([self.rt, "try", "--", *case.words], folder, case.given, LIMIT, merged=False)
@@ -82,7 +83,7 @@ class Trials:
         return ran.output == case.output and int(ended[1]) == case.status
 
 
-def kit_without_hints(kit, folder, scripts=None):
+def kit_without_hints(kit: str, folder: str, scripts: Optional[Dict[str, str]] = None) -> str:
     """Fills a folder with links to the parts of the toolchain, and with scripts in place of those that are named. Returns the folder.
 
     The checker is an empty script: all that it does in a try is to look for hints, for about as long as the build takes.
@@ -103,18 +104,18 @@ def kit_without_hints(kit, folder, scripts=None):
     return folder
 
 
-def told(lines):
+def told(lines: List[str]) -> str:
     """The line that says best why nothing was run."""
     errors = [it for it in lines if re.search(r"error[\[:]", it)]
     return (errors or [it for it in lines if it.strip()] or ["nothing was said"])[0][:200]
 
 
-def write(path, text):
+def write(path: str, text: str) -> None:
     with open(path, "w", encoding="utf-8") as file:
         file.write(text)
 
 
-def leave_out_tests(folder, kept):
+def leave_out_tests(folder: str, kept: Set[str]) -> None:
     """Empties the lines of every test below the folder that has none of these names."""
     for at, _, names in os.walk(folder):
         for name in (it for it in names if it.endswith(".rt")):
@@ -123,7 +124,7 @@ def leave_out_tests(folder, kept):
             write(f"{at}/{name}", without_tests(text, kept))
 
 
-def without_tests(text, kept):
+def without_tests(text: str, kept: Set[str]) -> str:
     """The text with empty lines in place of the tests that have none of these names."""
     lines = text.split("\n")
     for it in functions.functions_in("", text):

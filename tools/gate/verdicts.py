@@ -5,8 +5,9 @@ that a function calls another one that is not proved is no failure of its own.
 """
 
 import re
+from typing import Iterable, Optional, Set, Tuple
 
-from gate import functions
+from gate import commands, functions
 
 # RESTS: the function's own proof stands, and it calls one that is not proved. WAITS: it is not judged for such a call.
 PROVED, RESTS, WAITS, UNKNOWN, FAILED = "proved", "rests", "waits", "unknown", "failed"
@@ -34,16 +35,16 @@ STALE = re.compile(r"module .Rattle-\w+-.*Run the lower steps again")
 class Verdict:
     """What one check said: whether it came to a verdict, and how it judged each function."""
 
-    def __init__(self, ran):
+    def __init__(self, ran: commands.Ran) -> None:
         self.status, self.said = ran.status, ran.lines()
         self.lines = {it[1]: it[2] for it in map(LINE.fullmatch, self.said) if it}
         self.last = next((it for it in reversed(self.said) if it.startswith(("logic=", "only="))), "")
 
-    def proves_all(self):
+    def proves_all(self) -> bool:
         is_last = self.last.startswith("logic=proved ")
         return self.status == 0 and is_last and bool(self.lines) and all(map(IS_PROVED.fullmatch, self.lines.values()))
 
-    def why_void(self, edited):
+    def why_void(self, edited: Iterable[str]) -> Optional[str]:
         """Why this is no verdict on code that was read as it was meant, or None. `edited` are the changed files."""
         unread = next((it for it in self.said if is_unread(it, edited)), None)
         if unread:
@@ -54,31 +55,31 @@ class Verdict:
             return f"it did not reach the prover: {self.first_error()}"
         return None
 
-    def lines_with_errors(self):
+    def lines_with_errors(self) -> Set[Tuple[str, int]]:
         """The lines of source, from 0, at which an error is said to be."""
         found = (re.match(r"(?:\./)?(\S+?):(\d+):\d+: error", it) for it in self.said)
         return {(it[1], int(it[2]) - 1) for it in found if it}
 
-    def first_error(self):
+    def first_error(self) -> str:
         errors = [it for it in self.said if re.search(r"error[\[:]", it)]
         return (errors or self.said[-1:] or [""])[0][:200]
 
-    def of(self, name):
+    def of(self, name: str) -> str:
         """How a function is judged, its closures and inner functions with it."""
         found = [judged(said) for it, said in self.lines.items() if functions.owner_in(it, self.lines) == name]
         return next((it for it in (FAILED, UNKNOWN, WAITS, RESTS, PROVED) if it in found), UNKNOWN)
 
-    def failing(self):
+    def failing(self) -> Set[str]:
         """The functions that fail of their own, or of which an unknown thing is said."""
         bad = (it for it, said in self.lines.items() if judged(said) in (FAILED, UNKNOWN))
         return {functions.owner_in(it, self.lines) for it in bad}
 
-    def why_stray(self, turned):
+    def why_stray(self, turned: Set[str]) -> Optional[str]:
         """Why a verdict tells nothing of the functions that edits turn: another one fails. Else None."""
         strays = sorted(self.failing() - turned)
         return f"{strays[0]} fails, which no edit turns: {self.lines[strays[0]][:120]}" if strays else None
 
-    def is_only_by_name(self, name, function):
+    def is_only_by_name(self, name: str, function: functions.Function) -> bool:
         """Whether a function that fails does so only since its proof files use a name that is gone."""
         *path, last = name.split("::")[1:]
         folder = "".join(f"{re.escape(it)}/" for it in path)
@@ -87,20 +88,20 @@ class Verdict:
         by_name = bool(told) and all(map(NAMES_WHAT_IS_GONE.search, told))
         return by_name and self.lines[name].startswith("not proved") and not self.has_open_goal(function)
 
-    def is_all_by_name(self):
+    def is_all_by_name(self) -> bool:
         """Whether nothing is said to be wrong but that proof files use names that are gone."""
         told = [it for it in self.said if TOLD.match(it)]
         by_name = (it.startswith(("proofs/", "./proofs/")) and NAMES_WHAT_IS_GONE.search(it) for it in told)
         return bool(told) and all(by_name)
 
-    def has_open_goal(self, function):
+    def has_open_goal(self, function: functions.Function) -> bool:
         """Whether a goal of the function's own code is said to be not proved."""
         note = re.compile(rf"(?:note: )?(?:\./)?{re.escape(function.path)}:(\d+):\d+: (?:error: )?it is not proved")
         rows = (int(it[1]) - 1 for it in map(note.match, self.said) if it)
         return any(function.first <= row <= function.last for row in rows)
 
 
-def judged(said):
+def judged(said: str) -> str:
     """What the text behind `fn NAME: ` says of the function's own proof."""
     if IS_PROVED.fullmatch(said):
         return PROVED
@@ -114,7 +115,7 @@ def judged(said):
     return UNKNOWN
 
 
-def is_unread(line, edited):
+def is_unread(line: str, edited: Iterable[str]) -> bool:
     """Whether a line says that a text of src/, specs/ or an edited file cannot be read."""
     found = MESSAGE.match(line)
     if not found or found[1] not in edited and not found[1].startswith(("src/", "specs/")):
