@@ -15,10 +15,13 @@ from gate import cases, commands, crates, schedule
 ROOT = crates.repository()
 # The program as the two compilers have built it, and a fresh seed, in the words of a check.
 PROGRAM, BY_RATTLE, SEED = "PROGRAM", "BY_RATTLE", "SEED"
-# When a check runs: beside `rt ci`; then those that serve or take times, one after the other; and beside these all others.
-AHEAD, IN_TURN, BESIDE = "ahead", "in turn", "beside"
+# When a check runs: beside `rt ci`; then those that serve or take times, one after the other; and beside these all others, of which some build
+# over the proved libraries.
+AHEAD, IN_TURN, BESIDE, PROVED = "ahead", "in turn", "beside", "beside, where all is proved"
 # What runs beside others leaves the processors to them.
-NICE = {AHEAD: 10, IN_TURN: 0, BESIDE: 10}
+NICE = {AHEAD: 10, IN_TURN: 0, BESIDE: 10, PROVED: 10}
+# How many run at once behind `rt ci`.
+AT_ONCE = 4
 # How long a check may take, in seconds.
 LIMIT = 7_200
 
@@ -42,25 +45,25 @@ class Check:
 
 CHECKS = (
     Check(("edits", "--tests"), AHEAD),
-    Check(("cases", PROGRAM), IN_TURN),
-    Check(("cases", BY_RATTLE), IN_TURN),
     Check(("check-launcher",), IN_TURN),
-    Check(("check-model",), IN_TURN),
-    Check(("check-pictures", PROGRAM), IN_TURN),
     Check(("check-server", PROGRAM), IN_TURN),
     Check(("check-broker", PROGRAM), IN_TURN),
     Check(("check-conversations", PROGRAM), IN_TURN),
     Check(("check-conformance", PROGRAM), IN_TURN),
-    Check(("reply-lines", "check", PROGRAM, "reply"), IN_TURN),
-    Check(("reply-lines", "check", "--seed", SEED, PROGRAM, "reply"), IN_TURN),
-    Check(("run-lines", "check", PROGRAM, "run"), IN_TURN),
-    Check(("run-lines", "check", "--seed", SEED, PROGRAM, "run"), IN_TURN),
+    Check(("cases", PROGRAM), BESIDE),
+    Check(("cases", BY_RATTLE), BESIDE),
     Check(("check-readme", PROGRAM), BESIDE),
     Check(("check-library",), BESIDE),
     Check(("check-package", PROGRAM), BESIDE),
-    Check(("must-not-compile",), BESIDE),
-    Check(("edits", "--accepted"), BESIDE),
-    Check(("turned-definitions", "--changed"), BESIDE),
+    Check(("check-model",), BESIDE),
+    Check(("check-pictures", PROGRAM), BESIDE),
+    Check(("reply-lines", "check", PROGRAM, "reply"), BESIDE),
+    Check(("reply-lines", "check", "--seed", SEED, PROGRAM, "reply"), BESIDE),
+    Check(("run-lines", "check", PROGRAM, "run"), BESIDE),
+    Check(("run-lines", "check", "--seed", SEED, PROGRAM, "run"), BESIDE),
+    Check(("must-not-compile",), PROVED),
+    Check(("edits", "--accepted"), PROVED),
+    Check(("turned-definitions", "--changed"), PROVED),
 )
 
 # What `rt ci` says where all is well; everything else that it writes is shown as it comes.
@@ -132,10 +135,10 @@ def ended(it: Check, status: int, began: float, more: str = "") -> None:
 
 def run_behind(proved: bool, seed: str) -> None:
     """Runs what comes behind `rt ci`. What isn't proved has no libraries for the checks that build over them."""
-    in_turn, beside = ([it for it in CHECKS if it.when == when] for when in (IN_TURN, BESIDE))
-    with concurrent.futures.ThreadPoolExecutor(4) as pool:
+    in_turn, beside = ([it for it in CHECKS if it.when in whens] for whens in ([IN_TURN], [BESIDE, PROVED]))
+    with concurrent.futures.ThreadPoolExecutor(AT_ONCE) as pool:
         parts = [pool.submit(lambda: [run(it, seed) for it in in_turn])]
-        parts += [pool.submit(run, it, seed) for it in beside if proved]
+        parts += [pool.submit(run, it, seed) for it in beside if proved or it.when == BESIDE]
         for part in parts:
             part.result()
 
