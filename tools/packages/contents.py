@@ -37,13 +37,14 @@ class NotMade(Exception):
     """Why there is no package."""
 
 
-def make_program(module: pathlib.Path, program: pathlib.Path) -> None:
-    """Links the proved module with the C library inside, so that it runs on every Linux."""
-    kit = crates.kit_folder()
+def linked(module: pathlib.Path, folder: pathlib.Path) -> pathlib.Path:
+    """The proved module as a program that has its C library inside, so that it runs on every Linux."""
+    kit, program = crates.kit_folder(), folder / "coord"
     words = ["cc", "-static-pie", "-Wl,-s,--gc-sections,-z,relro,-z,now,-z,noexecstack", "-o", str(program), str(module)]
     ran = commands.run([*words, f"{kit}/c/libos_c.a", f"{kit}/c/liblibc_c.a"])
     if ran.status:
         raise NotMade("\n".join(ran.lines()[-20:]))
+    return program
 
 
 def glibc_of(file: pathlib.Path) -> Tuple[int, ...]:
@@ -52,11 +53,14 @@ def glibc_of(file: pathlib.Path) -> Tuple[int, ...]:
     return max((tuple(map(int, it.split("."))) for it in re.findall(r"GLIBC_([\d.]+)", listed)), default=(0,))
 
 
-def files_of(program: pathlib.Path, library: pathlib.Path, version: str, seconds: int) -> Files:
-    """All files below /usr, with the program and the two libraries of these folders."""
-    for it in (program, library / "libmigwelun.so"):
+def want_old_glibc(*files: pathlib.Path) -> None:
+    for it in files:
         if glibc_of(it) > NEWEST_GLIBC:
             raise NotMade(f"{it.name} needs glibc {'.'.join(map(str, glibc_of(it)))}, newer than {'.'.join(map(str, NEWEST_GLIBC))}")
+
+
+def files_of(program: pathlib.Path, library: pathlib.Path, version: str, seconds: int) -> Files:
+    """All files below /usr, with the program and the two libraries of a folder."""
     files = {
         "bin/coord": Entry(program.read_bytes(), 0o755),
         "lib/libmigwelun.so": Entry((library / "libmigwelun.so").read_bytes()),
