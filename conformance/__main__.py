@@ -27,15 +27,28 @@ class Parser(argparse.ArgumentParser):
 
 
 def parser() -> Parser:
-    words = Parser(prog="python3 -m conformance", description="Plays members of KIP-848 consumer groups against a broker, and judges its replies by the protocol.")
+    words = Parser(
+        prog="python3 -m conformance",
+        description="Plays members of KIP-848 consumer groups against a broker, and judges its replies by the protocol.",
+    )
     words.add_argument("address", nargs="?", type=address_of, metavar="HOST:PORT", help="the broker, or one of its cluster")
-    words.add_argument("--start", metavar="COMMAND", help="starts the broker, and again where it ended; without HOST:PORT the command prints that in its first line")
+    words.add_argument(
+        "--start",
+        metavar="COMMAND",
+        help="starts the broker, and again where it ended; without HOST:PORT the command prints that in its first line",
+    )
     words.add_argument("--slow", action="store_true", help="also the cases that wait for sessions and timeouts to end (some minutes)")
     words.add_argument("--only", nargs="+", metavar="NAME", help="these cases alone, with all that happens in them")
     words.add_argument("--list", action="store_true", help="lists the cases, and plays none")
     words.add_argument("--heartbeat", type=int, choices=(0, 1), help="the version of the heartbeat (the highest that the broker offers)")
     words.add_argument("--topic", action="append", dest="topics", metavar="NAME", help="a topic to play with; may be repeated (all that are there)")
-    words.add_argument("--patience", type=seconds_of, default=10.0, metavar="S", help="how long members wait for what they should have (%(default)g s)")
+    words.add_argument(
+        "--patience",
+        type=seconds_of,
+        default=10.0,
+        metavar="S",
+        help="how long members wait for what they should have (%(default)g s)",
+    )
     words.add_argument("--timeout", type=seconds_of, default=10.0, metavar="S", help="how long a reply may take (%(default)g s)")
     words.add_argument("--session", type=seconds_of, default=45.0, metavar="S", help="the broker's session timeout (%(default)g s)")
     words.add_argument("--late", type=seconds_of, default=10.0, metavar="S", help="how much later it may notice that a time is over (%(default)g s)")

@@ -150,7 +150,10 @@ class Commit(NamedTuple):
 
     def _topic(self, name: str, version: int, flexible: bool) -> bytes:
         leader_epoch = int32(-1) if version >= 6 else b""
-        parts = (int32(index) + int64(offset) + leader_epoch + text(metadata, flexible) + tags(flexible) for index, offset, metadata in self.topics[name])
+        parts = (
+            int32(index) + int64(offset) + leader_epoch + text(metadata, flexible) + tags(flexible)
+            for index, offset, metadata in self.topics[name]
+        )
         return text(name, flexible) + array(parts, flexible) + tags(flexible)
 
 

@@ -6,7 +6,7 @@ import contextlib
 import dataclasses
 import time
 import uuid
-from typing import Any, Callable, Dict, List, NoReturn, Optional, Sequence, Set
+from typing import Any, Callable, Dict, List, NoReturn, Optional, Sequence, Set, Tuple
 
 from conformance.broker import Broker
 from conformance.connection import Address, Connection, Lost
@@ -21,6 +21,7 @@ from conformance.messages import (
     Commit,
     Fetched,
     Heartbeat,
+    Partition,
     Partitions,
     Told,
     Topic,
@@ -179,8 +180,11 @@ class Play:
         missing, more = wanted - frozenset(owned), frozenset(owned) - wanted
         twice = frozenset(each for each in owned if owned.count(each) > 1)
         words = [f"{member.name} is no member" for member in members if not member.is_in]
-        words += [f"{self.story.partitions(some)} is {what}" for some, what in ((missing, "nobody's"), (twice, "two members'"), (more, "assigned, and nobody subscribes it")) if some]
-        words += [] if self.are_steady(members) else [f"not all that is to be given up is reported, or the epochs differ: {', '.join(f'{member.name} is at {member.epoch}' for member in members)}"]
+        rows = ((missing, "nobody's"), (twice, "two members'"), (more, "assigned, and nobody subscribes it"))
+        words += [f"{self.story.partitions(some)} is {what}" for some, what in rows if some]
+        if not self.are_steady(members):
+            epochs = ", ".join(f"{member.name} is at {member.epoch}" for member in members)
+            words.append(f"the epochs differ, or something isn't given up and reported: {epochs}")
         return "; ".join(words)
 
     @staticmethod
@@ -191,16 +195,24 @@ class Play:
 
     # -- offsets
 
-    def commit(self, member: Member, offsets: Dict[Any, int], epoch: Optional[int] = None, member_id: Optional[str] = None, version: Optional[int] = None) -> List[int]:
+    def commit(
+        self,
+        member: Member,
+        offsets: Dict[Partition, int],
+        epoch: Optional[int] = None,
+        member_id: Optional[str] = None,
+        version: Optional[int] = None,
+    ) -> List[int]:
         """A member commits offsets by partition; the code of each."""
-        by_name: Dict[str, List[Any]] = {}
+        by_name: Dict[str, List[Tuple[int, int, Optional[str]]]] = {}
         names = {topic.id: topic.name for topic in self.broker.topics}
         for (topic, index), offset in offsets.items():
-            by_name.setdefault(names.get(topic, topic if isinstance(topic, str) else ""), []).append((index, offset, None))
+            by_name.setdefault(names[topic], []).append((index, offset, None))
         commit = Commit(member.group, member.id if member_id is None else member_id, member.epoch if epoch is None else epoch, by_name)
         return [code for _, _, code in self.send_commit(member, commit, version)]
 
-    def send_commit(self, member: Member, commit: Commit, version: Optional[int] = None) -> List[Any]:
+    def send_commit(self, member: Member, commit: Commit, version: Optional[int] = None) -> List[Tuple[str, int, int]]:
+        """Topic, index and code of each partition."""
         version = self.broker.version(OFFSET_COMMIT) if version is None else version
         if version is None:
             raise NotRun("the broker offers no OffsetCommit that the suite speaks")

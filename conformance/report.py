@@ -34,8 +34,9 @@ def by_topic(results: Sequence[Result]) -> Dict[str, List[Result]]:
 def story(result: Result) -> str:
     """A failed case as a story."""
     case = result.case
-    lines = [f"FAILED {case.name}  ({result.level}; {case.section})", f"  what it sends:   {case.sends}", f"  what must hold:  {case.holds}", f"  what came:       {result.says}"]
-    return "\n".join([*lines, "  what happened:", *(f"    {line}" for line in result.story)])
+    lines = [f"FAILED {case.name}  ({result.level}; {case.section})"]
+    lines += [f"  what it sends:   {case.sends}", f"  what must hold:  {case.holds}", f"  what came:       {result.says}", "  what happened:"]
+    return "\n".join([*lines, *(f"    {line}" for line in result.story)])
 
 
 def text(broker: Broker, results: Sequence[Result], seconds: float, tells_all: bool) -> str:
@@ -80,7 +81,13 @@ def as_junit(results: Sequence[Result]) -> str:
     top = ElementTree.Element("testsuites", name="conformance")
     for topic, some in by_topic(results).items():
         tally = {"tests": len(some), "failures": sum(it.status == FAILED for it in some), "skipped": sum(it.status == NOT_RUN for it in some)}
-        suite = ElementTree.SubElement(top, "testsuite", name=topic, time=f"{sum(it.seconds for it in some):.3f}", **{key: str(value) for key, value in tally.items()})
+        suite = ElementTree.SubElement(
+            top,
+            "testsuite",
+            name=topic,
+            time=f"{sum(it.seconds for it in some):.3f}",
+            **{key: str(value) for key, value in tally.items()},
+        )
         for result in some:
             add_junit(suite, topic, result)
     ElementTree.indent(top)

@@ -55,7 +55,13 @@ class Starter:
     def _start(self, command: str) -> Address:
         try:
             # In a session of its own, so that whatever the command starts is ended with it.
-            self.process = subprocess.Popen(shlex.split(command), stdin=subprocess.DEVNULL, stdout=subprocess.PIPE, stderr=subprocess.DEVNULL, start_new_session=True)
+            self.process = subprocess.Popen(
+                shlex.split(command),
+                stdin=subprocess.DEVNULL,
+                stdout=subprocess.PIPE,
+                stderr=subprocess.DEVNULL,
+                start_new_session=True,
+            )
         except (OSError, ValueError) as why:
             raise NoBroker(f"--start: {command}: {why}") from None
         assert self.process.stdout is not None

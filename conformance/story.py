@@ -65,7 +65,8 @@ class Story:
             size, times = self._block(at)
             out += [f"{seconds:7.3f} s  {line}" for seconds, line in self.lines[at : at + size]]
             if times > 1:
-                out.append(f"           (the same{'' if size == 1 else f' {size} lines'} {times - 1} times more, until {self.lines[at + size * times - 1][0]:.3f} s)")
+                until = self.lines[at + size * times - 1][0]
+                out.append(f"           (the same{'' if size == 1 else f' {size} lines'} {times - 1} times more, until {until:.3f} s)")
             at += size * times
         return out
 

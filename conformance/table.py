@@ -34,7 +34,11 @@ class Kept(NamedTuple):
 
 def main(words: Sequence[str]) -> int:
     if list(words[:1]) == ["--take"] and len(words) > 2 and words[1] in COLUMNS:
-        take(words[1], words[2:])
+        try:
+            take(words[1], words[2:])
+        except (OSError, ValueError, KeyError) as why:
+            print(f"conformance.table: no results can be taken: {why}", file=sys.stderr)
+            return 2
     elif words not in ([], ["--check"]):
         print(__doc__.split("\n\n")[1], file=sys.stderr)
         return 2
@@ -62,7 +66,8 @@ def take(peer: str, files: Sequence[str]) -> None:
 
 
 def kept_of(peer: str) -> Dict[str, Kept]:
-    rows = json.loads((PEERS / f"{peer}.json").read_text(encoding="utf-8"))
+    path = PEERS / f"{peer}.json"
+    rows = json.loads(path.read_text(encoding="utf-8")) if path.is_file() else {}
     return {name: Kept(*row) for name, row in rows.items()}
 
 
@@ -86,7 +91,8 @@ def tally(kept: Dict[str, Kept], cases: Sequence[Case]) -> str:
     found = [kept[case.name] for case in cases if case.name in kept]
     failed = {level: sum(it.status == FAILED and it.level == level for it in found) for level in (MUST, SHOULD)}
     counts = {status: sum(it.status == status for it in found) for status in (PASSED, FAILED, NOTED, NOT_RUN)}
-    return f"{counts[PASSED]} passed, {counts[FAILED]} failed ({failed[MUST]} must, {failed[SHOULD]} should), {counts[NOTED]} noted, {counts[NOT_RUN]} not run"
+    of_failed = f"{counts[FAILED]} failed ({failed[MUST]} must, {failed[SHOULD]} should)"
+    return f"{counts[PASSED]} passed, {of_failed}, {counts[NOTED]} noted, {counts[NOT_RUN]} not run"
 
 
 def document() -> str:

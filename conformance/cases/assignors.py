@@ -37,7 +37,11 @@ def assign_uniform(play: Play) -> None:
     want_even(play, settled(play, 3, UNIFORM, topics), topics, "both topics")
 
 
-@case("assign-range", ASSIGNORS, SHOULD, "three members of `range` share two topics", "of each topic no two differ by more than one partition, and each has a run without gaps")
+@case(
+    "assign-range", ASSIGNORS, SHOULD,
+    "three members of `range` share two topics",
+    "of each topic no two differ by more than one partition, and each has a run without gaps",
+)
 def assign_range(play: Play) -> None:
     topics = [play.topic(0, partitions=2), play.topic(1)]
     members = settled(play, 3, RANGE, topics)
@@ -48,7 +52,11 @@ def assign_range(play: Play) -> None:
             play.want(not indexes or indexes[-1] - indexes[0] < len(indexes), f"`range` gives {member.name} {play.story.partitions(member.owned)}")
 
 
-@case("assign-range-together", ASSIGNORS, SHOULD, "two members of `range` share two topics with as many partitions", "partitions with the same index go to the same member")
+@case(
+    "assign-range-together", ASSIGNORS, SHOULD,
+    "two members of `range` share two topics with as many partitions",
+    "partitions with the same index go to the same member",
+)
 def assign_range_together(play: Play) -> None:
     first = play.topic(0, partitions=2)
     others = [topic for topic in play.broker.topics if topic.count == first.count and topic != first]
@@ -60,7 +68,11 @@ def assign_range_together(play: Play) -> None:
         play.want(indexes[0] == indexes[1], f"`range` gives {member.name} {play.story.partitions(member.owned)}")
 
 
-@case("assign-more-members", ASSIGNORS, MUST, "more members than partitions", "each partition has one owner, and the rest have nothing and go on as members")
+@case(
+    "assign-more-members", ASSIGNORS, MUST,
+    "more members than partitions",
+    "each partition has one owner, and the rest have nothing and go on as members",
+)
 def assign_more_members(play: Play) -> None:
     topic = min(play.broker.topics, key=lambda each: each.count)
     count = min(topic.count, 12) + 2
@@ -69,7 +81,11 @@ def assign_more_members(play: Play) -> None:
         play.want(any(not member.owned for member in members), "each of more members than partitions has one")
 
 
-@case("assign-change", GROUP_EPOCH, SHOULD, "a settled member names another assignor", "the group epoch rises, and each partition has one owner again")
+@case(
+    "assign-change", GROUP_EPOCH, SHOULD,
+    "a settled member names another assignor",
+    "the group epoch rises, and each partition has one owner again",
+)
 def assign_change(play: Play) -> None:
     topic = play.topic(0, partitions=2)
     a, b = settled(play, 2, UNIFORM, [topic])
@@ -91,7 +107,11 @@ def assign_mixed(play: Play) -> None:
     play.settle(a, b)
 
 
-@case("assign-sticky", ASSIGNORS, FREE, "of three settled members of `uniform` one leaves", "how many of the partitions that stay owned change their owner is the broker's choice")
+@case(
+    "assign-sticky", ASSIGNORS, FREE,
+    "of three settled members of `uniform` one leaves",
+    "how many of the partitions that stay owned change their owner is the broker's choice",
+)
 def assign_sticky(play: Play) -> None:
     topic = play.topic(0, partitions=3)
     members = settled(play, 3, UNIFORM, [topic])

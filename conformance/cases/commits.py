@@ -67,7 +67,11 @@ def commit_again(play: Play) -> None:
     play.want(found in (None, 5), f"5 was committed last, and OffsetFetch gives {found}")
 
 
-@case("commit-all", GUIDE + ", OffsetCommit", MUST, "a member commits all its partitions, two topics where there are two", "the reply names each partition once, with its code")
+@case(
+    "commit-all", GUIDE + ", OffsetCommit", MUST,
+    "a member commits all its partitions, two topics where there are two",
+    "the reply names each partition once, with its code",
+)
 def commit_all(play: Play) -> None:
     play.wants_commits()
     topics = play.broker.topics[:2]
@@ -77,12 +81,19 @@ def commit_all(play: Play) -> None:
     wanted = {topic.name: [(index, 3, None) for index in range(topic.count)] for topic in topics}
     results = play.send_commit(a, Commit(a.group, a.id, a.epoch, wanted))
     asked = sorted((name, index) for name, parts in wanted.items() for index, _, _ in parts)
-    play.want(sorted((name, index) for name, index, _ in results) == asked, f"{len(asked)} partitions are committed, and {len(results)} are answered, or others")
+    play.want(
+        sorted((name, index) for name, index, _ in results) == asked,
+        f"{len(asked)} partitions are committed, and {len(results)} are answered, or others",
+    )
     for name, index, code in results:
         play.want_code(f"the commit of {name}[{index}]", code, 0)
 
 
-@case("commit-moved-on", OFFSET_COMMITS, MUST, "a member commits a partition that was another's, at its epoch", "accepted, and OffsetFetch gives the new offset")
+@case(
+    "commit-moved-on", OFFSET_COMMITS, MUST,
+    "a member commits a partition that was another's, at its epoch",
+    "accepted, and OffsetFetch gives the new offset",
+)
 def commit_moved_on(play: Play) -> None:
     a, b, partition, _ = moved(play)
     play.want_code("the commit of b", play.commit(b, {partition: 9})[0], 0)
@@ -90,7 +101,11 @@ def commit_moved_on(play: Play) -> None:
     play.want(found in (None, 9), f"9 was committed, and OffsetFetch gives {found}")
 
 
-@case("commit-before-report", OFFSET_COMMITS, MUST, "a member that is told to revoke commits first, at the epoch that it has", "accepted: it has the partition until it reports")
+@case(
+    "commit-before-report", OFFSET_COMMITS, MUST,
+    "a member that is told to revoke commits first, at the epoch that it has",
+    "accepted: it has the partition until it reports",
+)
 def commit_before_report(play: Play) -> None:
     play.wants_commits()
     play.topic(0, partitions=2)
@@ -125,21 +140,33 @@ def commit_later_epoch(play: Play) -> None:
     refused(play, "a commit at a later epoch", a, partition, a.epoch + 1, STALE_MEMBER_EPOCH)
 
 
-@case("commit-stale-moved", OFFSET_COMMITS, MUST, "a late commit: at the epoch before the rebalance, of a partition that another member has by now", "refused, and the offset stays")
+@case(
+    "commit-stale-moved", OFFSET_COMMITS, MUST,
+    "a late commit: at the epoch before the rebalance, of a partition that another member has by now",
+    "refused, and the offset stays",
+)
 def commit_stale_moved(play: Play) -> None:
     a, b, partition, former = moved(play)
     play.want_code("the commit of b", play.commit(b, {partition: 100})[0], 0)
     refused(play, "a commit from before the rebalance", a, partition, former, STALE_MEMBER_EPOCH)
 
 
-@case("commit-stale-held", OFFSET_COMMITS, FREE, "a commit at the previous epoch, of a partition that the member has had all the time", "KIP-848 refuses it (113), KIP-1251 accepts it")
+@case(
+    "commit-stale-held", OFFSET_COMMITS, FREE,
+    "a commit at the previous epoch, of a partition that the member has had all the time",
+    "KIP-848 refuses it (113), KIP-1251 accepts it",
+)
 def commit_stale_held(play: Play) -> None:
     a, _, _, former = moved(play)
     found = play.commit(a, {min(a.owned): 3}, former)
     play.note(f"a commit at the previous epoch of a partition that is still held is answered with {code_text(found[0])}")
 
 
-@case("commit-without-epoch", OFFSET_COMMITS, MUST, "a commit without member id and at epoch -1, to a group with members", "refused: only an empty group takes commits of who is no member")
+@case(
+    "commit-without-epoch", OFFSET_COMMITS, MUST,
+    "a commit without member id and at epoch -1, to a group with members",
+    "refused: only an empty group takes commits of who is no member",
+)
 def commit_without_epoch(play: Play) -> None:
     a, partition = committer(play)
     play.want_code("the commit", play.commit(a, {partition: 17})[0], 0)
@@ -152,7 +179,11 @@ def commit_member_without_epoch(play: Play) -> None:
     refused(play, "a commit at epoch -1", a, partition, -1)
 
 
-@case("commit-empty-group", OFFSET_COMMITS, SHOULD, "a commit at epoch -1 to a group whose last member has left", "accepted, as an administrator sets offsets")
+@case(
+    "commit-empty-group", OFFSET_COMMITS, SHOULD,
+    "a commit at epoch -1 to a group whose last member has left",
+    "accepted, as an administrator sets offsets",
+)
 def commit_empty_group(play: Play) -> None:
     a, partition = committer(play)
     a.leave()
@@ -172,7 +203,11 @@ def commit_after_leave(play: Play) -> None:
     refused(play, "a commit after the leave", b, partition, epoch, UNKNOWN_MEMBER_ID, member_id=member)
 
 
-@case("commit-after-rejoin", OFFSET_COMMITS, MUST, "a member leaves and joins again under its id; a commit of before comes late", "refused: at the epoch of before it is another member")
+@case(
+    "commit-after-rejoin", OFFSET_COMMITS, MUST,
+    "a member leaves and joins again under its id; a commit of before comes late",
+    "refused: at the epoch of before it is another member",
+)
 def commit_after_rejoin(play: Play) -> None:
     play.wants_commits()
     play.topic(0, partitions=2)
@@ -189,7 +224,11 @@ def commit_after_rejoin(play: Play) -> None:
     play.settle(a, b)
 
 
-@case("commit-while-away", OFFSET_COMMITS, SHOULD, "a static member left for a while; a commit of before comes late", "refused: it is at no epoch until it is back")
+@case(
+    "commit-while-away", OFFSET_COMMITS, SHOULD,
+    "a static member left for a while; a commit of before comes late",
+    "refused: it is at no epoch until it is back",
+)
 def commit_while_away(play: Play) -> None:
     play.wants_commits()
     s, _ = static_pair(play)
@@ -198,7 +237,11 @@ def commit_while_away(play: Play) -> None:
     refused(play, "a commit of a member that is away", s, partition, epoch, STALE_MEMBER_EPOCH, UNKNOWN_MEMBER_ID, member_id=member)
 
 
-@case("commit-old-static-id", OFFSET_COMMITS, MUST, "a static member came back under a new id; a commit under the old one comes late", "UNKNOWN_MEMBER_ID: the old id is no member's any more")
+@case(
+    "commit-old-static-id", OFFSET_COMMITS, MUST,
+    "a static member came back under a new id; a commit under the old one comes late",
+    "UNKNOWN_MEMBER_ID: the old id is no member's any more",
+)
 def commit_old_static_id(play: Play) -> None:
     play.wants_commits()
     s, _ = static_pair(play)
@@ -208,7 +251,11 @@ def commit_old_static_id(play: Play) -> None:
     refused(play, "a commit under the old id", s, partition, epoch, UNKNOWN_MEMBER_ID, member_id=member)
 
 
-@case("commit-unknown-topic", GUIDE + ", OffsetCommit", SHOULD, "a member commits a topic that isn't there beside one that is", "UNKNOWN_TOPIC_OR_PARTITION for the one, and the other is accepted")
+@case(
+    "commit-unknown-topic", GUIDE + ", OffsetCommit", SHOULD,
+    "a member commits a topic that isn't there beside one that is",
+    "UNKNOWN_TOPIC_OR_PARTITION for the one, and the other is accepted",
+)
 def commit_unknown_topic(play: Play) -> None:
     a, partition = committer(play)
     topic = play.topic()
@@ -225,7 +272,11 @@ def commit_unknown_index(play: Play) -> None:
     play.want_code("the commit of an index that isn't there", play.commit(a, {(topic.id, topic.count + 7): 1})[0], UNKNOWN_TOPIC_OR_PARTITION)
 
 
-@case("commit-keeps-membership", OFFSET_COMMITS, MUST, "a member's commit is refused, and it beats on", "a refused commit changes nothing in the group")
+@case(
+    "commit-keeps-membership", OFFSET_COMMITS, MUST,
+    "a member's commit is refused, and it beats on",
+    "a refused commit changes nothing in the group",
+)
 def commit_keeps_membership(play: Play) -> None:
     play.wants_commits()
     a, b = settled_pair(play)
@@ -261,7 +312,11 @@ def commit_older_versions(play: Play) -> None:
         play.want_refused(f"a commit of version {version} of nobody", play.commit(a, {partition: 1}, member_id=new_id(), version=version)[0])
 
 
-@case("commit-older-version-current", OFFSET_COMMITS, FREE, "a member commits at its epoch in an older version", "KIP-848 has member epochs from version 9 on")
+@case(
+    "commit-older-version-current", OFFSET_COMMITS, FREE,
+    "a member commits at its epoch in an older version",
+    "KIP-848 has member epochs from version 9 on",
+)
 def commit_older_version_current(play: Play) -> None:
     versions = [version for version in play.broker.versions(OFFSET_COMMIT) if version < LATEST]
     if not versions:

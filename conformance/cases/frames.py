@@ -63,7 +63,11 @@ def joiner(play: Play) -> Member:
     return play.member("a", id=new_id())
 
 
-@case("frame-correlation", GUIDE + ", request header", MUST, "requests with correlation ids 0, -1, and the least and greatest number", "each reply has its request's")
+@case(
+    "frame-correlation", GUIDE + ", request header", MUST,
+    "requests with correlation ids 0, -1, and the least and greatest number",
+    "each reply has its request's",
+)
 def frame_correlation(play: Play) -> None:
     a = joiner(play)
     a.join()
@@ -84,7 +88,11 @@ def frame_order(play: Play) -> None:
         play.want_code("a heartbeat of ten", receive(play, a.connection, number).code, 0)
 
 
-@case("frame-order-apis", GUIDE + ", network", MUST, "requests of three APIs are sent before a reply is read", "they are answered in their order, over all APIs")
+@case(
+    "frame-order-apis", GUIDE + ", network", MUST,
+    "requests of three APIs are sent before a reply is read",
+    "they are answered in their order, over all APIs",
+)
 def frame_order_apis(play: Play) -> None:
     a = joiner(play)
     a.join()
@@ -116,7 +124,11 @@ def frame_client_id(play: Play) -> None:
         sends(play, a, frame, f"a join with client id {client and client[:8]!r}")
 
 
-@case("frame-group-characters", GUIDE + ", primitive types", SHOULD, "a group id with letters of other scripts, spaces and an emoji", "texts are UTF-8: it is a group id as any other")
+@case(
+    "frame-group-characters", GUIDE + ", primitive types", SHOULD,
+    "a group id with letters of other scripts, spaces and an emoji",
+    "texts are UTF-8: it is a group id as any other",
+)
 def frame_group_characters(play: Play) -> None:
     a = play.member("a", group=play.new_group() + " \u00e9\u65e5\u672c \U0001f600")
     a.join()
@@ -126,7 +138,12 @@ def frame_group_characters(play: Play) -> None:
 @case("tags-in-header", TAGGED_FIELDS, MUST, "a join with a tagged field in its header that nobody knows", "it is stepped over")
 def tags_in_header(play: Play) -> None:
     a = joiner(play)
-    sends(play, a, framed(head(play, extra={NO_SUCH_TAG: b"value"}) + a.request("join").fields(play.version)), "a join with a tagged field in the header")
+    sends(
+        play,
+        a,
+        framed(head(play, extra={NO_SUCH_TAG: b"value"}) + a.request("join").fields(play.version)),
+        "a join with a tagged field in the header",
+    )
 
 
 @case("tags-in-body", TAGGED_FIELDS, MUST, "a join with two tagged fields at its end that nobody knows", "they are stepped over")
@@ -136,17 +153,28 @@ def tags_in_body(play: Play) -> None:
     sends(play, a, framed(head(play) + a.request("join").fields(play.version, extra)), "a join with tagged fields")
 
 
-@case("tags-in-partitions", TAGGED_FIELDS, MUST, "a report with a tagged field in an entry of TopicPartitions", "it is stepped over, and the report counts")
+@case(
+    "tags-in-partitions", TAGGED_FIELDS, MUST,
+    "a report with a tagged field in an entry of TopicPartitions",
+    "it is stepped over, and the report counts",
+)
 def tags_in_partitions(play: Play) -> None:
     a = joiner(play)
     a.join()
     play.settle(a)
     frame = framed(head(play) + a.request("full").fields(play.version, None, tags(True, {NO_SUCH_TAG: b"value"})))
     reply = sends(play, a, frame, "a full heartbeat with a tagged field in TopicPartitions")
-    play.want(reply.epoch == a.epoch and reply.assignment in (None, a.owned), f"it is answered with epoch {reply.epoch} and assignment {play.story.partitions(reply.assignment or NOTHING)}")
+    play.want(
+        reply.epoch == a.epoch and reply.assignment in (None, a.owned),
+        f"it is answered with epoch {reply.epoch} and assignment {play.story.partitions(reply.assignment or NOTHING)}",
+    )
 
 
-@case("partitions-in-any-order", GUIDE + ", ConsumerGroupHeartbeat", SHOULD, "a report that lists each partition in an entry of its own, the last one first", "a list is a set: it is answered as any report of these")
+@case(
+    "partitions-in-any-order", GUIDE + ", ConsumerGroupHeartbeat", SHOULD,
+    "a report that lists each partition in an entry of its own, the last one first",
+    "a list is a set: it is answered as any report of these",
+)
 def partitions_in_any_order(play: Play) -> None:
     a = joiner(play)
     a.join()
@@ -161,7 +189,11 @@ def partitions_in_any_order(play: Play) -> None:
     play.want(reply.epoch == epoch and reply.assignment in (None, a.owned), f"it is answered with epoch {reply.epoch}")
 
 
-@case("api-versions-later", "KIP-511", MUST, "ApiVersions in a version that no broker has yet", "answered in the layout of version 0, with UNSUPPORTED_VERSION")
+@case(
+    "api-versions-later", "KIP-511", MUST,
+    "ApiVersions in a version that no broker has yet",
+    "answered in the layout of version 0, with UNSUPPORTED_VERSION",
+)
 def api_versions_later(play: Play) -> None:
     connection = play.connect()
     connection.send(framed(int16(API_VERSIONS) + int16(32_000) + int32(CORRELATION) + text(CLIENT, False) + NO_TAGS + api_versions_fields(3)))
@@ -172,14 +204,21 @@ def api_versions_later(play: Play) -> None:
     play.want(not offered or API_VERSIONS in offered, "the reply lists APIs, and not ApiVersions")
 
 
-@case("api-versions-3", "KIP-511", MUST, "ApiVersions in version 3, where it is offered", "the reply's header has no tagged fields, and the list is that of version 0")
+@case(
+    "api-versions-3", "KIP-511", MUST,
+    "ApiVersions in version 3, where it is offered",
+    "the reply's header has no tagged fields, and the list is that of version 0",
+)
 def api_versions_3(play: Play) -> None:
     if 3 not in play.broker.versions(API_VERSIONS):
         raise NotRun("the broker offers no ApiVersions of version 3")
     fields = play.connect().ask(API_VERSIONS, 3, api_versions_fields(3))
     code, offered = read_api_versions_reply(fields, 3)
     play.want_code("ApiVersions in version 3", code, 0)
-    play.want(offered.get(HEARTBEAT) == play.broker.offered[HEARTBEAT], f"version 3 offers {offered.get(HEARTBEAT)} of the heartbeat, and version 0 {play.broker.offered[HEARTBEAT]}")
+    play.want(
+        offered.get(HEARTBEAT) == play.broker.offered[HEARTBEAT],
+        f"version 3 offers {offered.get(HEARTBEAT)} of the heartbeat, and version 0 {play.broker.offered[HEARTBEAT]}",
+    )
 
 
 @case("topic-ids", "KIP-516", MUST, "Metadata, and then an assignment", "assignments name topics by the ids that Metadata gives")
@@ -226,21 +265,75 @@ def with_version(play: Play, body: bytes, version: int) -> bytes:
 
 NOT_ACCEPTED = "it is not accepted: an error, or the connection is closed; other connections go on"
 WRONG = (
-    Wrong("frame-cut-short", GUIDE + ", primitive types", MUST, "a join whose body ends in the middle", NOT_ACCEPTED, lambda _, body: framed(body[: len(body) // 2])),
+    Wrong(
+        "frame-cut-short", GUIDE + ", primitive types", MUST,
+        "a join whose body ends in the middle",
+        NOT_ACCEPTED,
+        lambda _, body: framed(body[: len(body) // 2]),
+    ),
     Wrong("frame-without-end", GUIDE + ", primitive types", SHOULD, "a join without its last byte", NOT_ACCEPTED, lambda _, body: framed(body[:-1])),
     Wrong("frame-null-group", COMPACT, MUST, "a join whose group id is null", NOT_ACCEPTED, without_group),
-    Wrong("frame-long-group", COMPACT, MUST, "a join whose group id is said to be longer than the frame", NOT_ACCEPTED, lambda play, body: instead_of_group(play, body, varint(30_000))),
-    Wrong("frame-long-varint", COMPACT, MUST, "a join whose first length is a varint of eleven bytes", NOT_ACCEPTED, lambda play, body: instead_of_group(play, body, b"\x80" * 10 + b"\1")),
-    Wrong("frame-many-names", COMPACT, MUST, "a join that is said to subscribe two thousand million topics", NOT_ACCEPTED, lambda play, body: many_names(play)),
-    Wrong("frame-many-tags", TAGGED_FIELDS, SHOULD, "a join that is said to have two thousand million tagged fields", NOT_ACCEPTED, lambda _, body: framed(body[:-1] + varint(2_000_000_000))),
-    Wrong("frame-long-tag", TAGGED_FIELDS, SHOULD, "a join with a tagged field that is longer than the frame", NOT_ACCEPTED, lambda _, body: framed(body[:-1] + varint(1) + varint(3) + varint(1_000_000))),
+    Wrong(
+        "frame-long-group", COMPACT, MUST,
+        "a join whose group id is said to be longer than the frame",
+        NOT_ACCEPTED,
+        lambda play, body: instead_of_group(play, body, varint(30_000)),
+    ),
+    Wrong(
+        "frame-long-varint", COMPACT, MUST,
+        "a join whose first length is a varint of eleven bytes",
+        NOT_ACCEPTED,
+        lambda play, body: instead_of_group(play, body, b"\x80" * 10 + b"\1"),
+    ),
+    Wrong(
+        "frame-many-names", COMPACT, MUST,
+        "a join that is said to subscribe two thousand million topics",
+        NOT_ACCEPTED,
+        lambda play, body: many_names(play),
+    ),
+    Wrong(
+        "frame-many-tags", TAGGED_FIELDS, SHOULD,
+        "a join that is said to have two thousand million tagged fields",
+        NOT_ACCEPTED,
+        lambda _, body: framed(body[:-1] + varint(2_000_000_000)),
+    ),
+    Wrong(
+        "frame-long-tag", TAGGED_FIELDS, SHOULD,
+        "a join with a tagged field that is longer than the frame",
+        NOT_ACCEPTED,
+        lambda _, body: framed(body[:-1] + varint(1) + varint(3) + varint(1_000_000)),
+    ),
     Wrong("frame-negative-size", GUIDE + ", network", MUST, "a frame whose size is -1", NOT_ACCEPTED, lambda _, body: int32(-1) + body),
-    Wrong("frame-unknown-api", GUIDE + ", network", MUST, "a request of an API that there isn't", NOT_ACCEPTED, lambda _, body: framed(int16(NO_SUCH_KEY) + body[2:])),
-    Wrong("frame-unknown-version", GUIDE + ", network", MUST, "a heartbeat in a version that isn't offered", NOT_ACCEPTED, lambda play, body: with_version(play, body, 32_000)),
-    Wrong("frame-no-utf-8", GUIDE + ", primitive types", FREE, "a join whose group id isn't UTF-8", "texts are UTF-8; what becomes of others is open", lambda play, body: instead_of_group(play, body, varint(5) + b"ab\xff\xfe")),
-    Wrong("frame-bytes-left", GUIDE + ", network", FREE, "a join with three bytes behind its last field", "left open: Kafka's broker steps over them", lambda _, body: framed(body + b"abc")),
-    Wrong("tags-out-of-order", TAGGED_FIELDS, FREE, "a join with two tagged fields in the wrong order", "writers sort them; what readers do is open",
-          lambda _, body: framed(body[:-1] + varint(2) + (varint(9) + varint(0)) + (varint(8) + varint(0)))),
+    Wrong(
+        "frame-unknown-api", GUIDE + ", network", MUST,
+        "a request of an API that there isn't",
+        NOT_ACCEPTED,
+        lambda _, body: framed(int16(NO_SUCH_KEY) + body[2:]),
+    ),
+    Wrong(
+        "frame-unknown-version", GUIDE + ", network", MUST,
+        "a heartbeat in a version that isn't offered",
+        NOT_ACCEPTED,
+        lambda play, body: with_version(play, body, 32_000),
+    ),
+    Wrong(
+        "frame-no-utf-8", GUIDE + ", primitive types", FREE,
+        "a join whose group id isn't UTF-8",
+        "texts are UTF-8; what becomes of others is open",
+        lambda play, body: instead_of_group(play, body, varint(5) + b"ab\xff\xfe"),
+    ),
+    Wrong(
+        "frame-bytes-left", GUIDE + ", network", FREE,
+        "a join with three bytes behind its last field",
+        "left open: Kafka's broker steps over them",
+        lambda _, body: framed(body + b"abc"),
+    ),
+    Wrong(
+        "tags-out-of-order", TAGGED_FIELDS, FREE,
+        "a join with two tagged fields in the wrong order",
+        "writers sort them; what readers do is open",
+        lambda _, body: framed(body[:-1] + varint(2) + (varint(9) + varint(0)) + (varint(8) + varint(0))),
+    ),
 )
 
 
@@ -289,7 +382,11 @@ for each in WRONG:
     add(each)
 
 
-@case("frame-huge", GUIDE + ", network", SHOULD, "a frame whose size is two thousand million bytes", "the connection is closed: nobody waits for so much")
+@case(
+    "frame-huge", GUIDE + ", network", SHOULD,
+    "a frame whose size is two thousand million bytes",
+    "the connection is closed: nobody waits for so much",
+)
 def frame_huge(play: Play) -> None:
     a = joiner(play)
     a.join()
@@ -305,7 +402,11 @@ def frame_huge(play: Play) -> None:
     a.turn()
 
 
-@case("frame-abandoned", GUIDE + ", network", MUST, "a connection that ends in the middle of a frame, and one that never sends anything", "other connections go on, and the group is as it was")
+@case(
+    "frame-abandoned", GUIDE + ", network", MUST,
+    "a connection that ends in the middle of a frame, and one that never sends anything",
+    "other connections go on, and the group is as it was",
+)
 def frame_abandoned(play: Play) -> None:
     a = joiner(play)
     a.join()
@@ -320,7 +421,11 @@ def frame_abandoned(play: Play) -> None:
     play.want(a.epoch == epoch, f"it gets from epoch {epoch} to {a.epoch}")
 
 
-@case("connection-change", GUIDE + ", network", MUST, "a member's connection ends, and it beats on over a new one", "members aren't tied to connections: it goes on as it was")
+@case(
+    "connection-change", GUIDE + ", network", MUST,
+    "a member's connection ends, and it beats on over a new one",
+    "members aren't tied to connections: it goes on as it was",
+)
 def connection_change(play: Play) -> None:
     a = joiner(play)
     a.join()
@@ -333,7 +438,11 @@ def connection_change(play: Play) -> None:
     play.want((a.epoch, a.owned) == (epoch, owned), f"over a new connection it is at epoch {a.epoch} with {play.story.partitions(a.owned)}")
 
 
-@case("late-request", "none", FREE, "a report that was held up on a former connection comes after newer heartbeats of its member, at the same epoch", "KIP-848 has nothing against it: it may be taken for a new one")
+@case(
+    "late-request", "none", FREE,
+    "a report that was held up on a former connection comes after newer heartbeats of its member, at the same epoch",
+    "KIP-848 has nothing against it: it may be taken for a new one",
+)
 def late_request(play: Play) -> None:
     play.topic(0, partitions=2)
     a = joiner(play)

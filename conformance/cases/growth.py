@@ -1,4 +1,7 @@
-"""New partitions of a topic, where the broker can be told of them (`--grow COMMAND`, which has the topic's name in TOPIC). They are the last cases: the topic isn't as it was."""
+"""New partitions of a topic, where the broker can be told of them: `--grow COMMAND`, which has the topic's name in TOPIC.
+
+This comes last: the topic isn't as it was.
+"""
 
 from __future__ import annotations
 
@@ -20,12 +23,26 @@ def grow(play: Play) -> None:
     play.story.say(f"-- {command}")
     try:
         topic = {**os.environ, "TOPIC": play.topic().name}
-        subprocess.run(command, shell=True, check=True, env=topic, stdin=subprocess.DEVNULL, stdout=subprocess.DEVNULL, stderr=subprocess.DEVNULL, timeout=GROW_SECONDS)
+        subprocess.run(
+            command,
+            shell=True,
+            check=True,
+            env=topic,
+            stdin=subprocess.DEVNULL,
+            stdout=subprocess.DEVNULL,
+            stderr=subprocess.DEVNULL,
+            timeout=GROW_SECONDS,
+        )
     except (OSError, subprocess.SubprocessError) as why:
         raise NotRun(f"--grow: {why}") from None
 
 
-@case("grow", GROUP_EPOCH, MUST, "a topic that two members share gets new partitions", "the group epoch rises, and the new partitions are assigned", is_slow=True)
+@case(
+    "grow", GROUP_EPOCH, MUST,
+    "a topic that two members share gets new partitions",
+    "the group epoch rises, and the new partitions are assigned",
+    is_slow=True,
+)
 def grow_topic(play: Play) -> None:
     if play.settings.grow is None:
         raise NotRun("it needs --grow COMMAND, which adds partitions to the first topic")

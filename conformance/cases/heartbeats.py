@@ -31,10 +31,17 @@ def beat_short(play: Play) -> None:
     epoch, owned = a.epoch, a.owned
     for _ in range(5):
         a.turn()
-    play.want((a.epoch, a.owned) == (epoch, owned), f"short heartbeats take it from epoch {epoch} to {a.epoch}, with {play.story.partitions(a.owned)}")
+    play.want(
+        (a.epoch, a.owned) == (epoch, owned),
+        f"short heartbeats take it from epoch {epoch} to {a.epoch}, with {play.story.partitions(a.owned)}",
+    )
 
 
-@case("beat-null-names", REQUEST, MUST, "heartbeats with null for the topics, and then another member's join", "null isn't empty: the member's subscription stays, and counts in the next assignment")
+@case(
+    "beat-null-names", REQUEST, MUST,
+    "heartbeats with null for the topics, and then another member's join",
+    "null isn't empty: the member's subscription stays, and counts in the next assignment",
+)
 def beat_null_names(play: Play) -> None:
     a, b = settled_pair(play)
     for _ in range(3):
@@ -45,7 +52,11 @@ def beat_null_names(play: Play) -> None:
     play.want(bool(a.owned), "the member that sent null for its topics has nothing after the next rebalance")
 
 
-@case("beat-full", RESPONSE, SHOULD, "a settled member sends a full heartbeat", "the reply has its whole assignment: who says everything is told everything")
+@case(
+    "beat-full", RESPONSE, SHOULD,
+    "a settled member sends a full heartbeat",
+    "the reply has its whole assignment: who says everything is told everything",
+)
 def beat_full(play: Play) -> None:
     a, b = settled_pair(play)
     for member in (a, b):
@@ -54,7 +65,11 @@ def beat_full(play: Play) -> None:
     play.want(a.assigned == a.owned and b.assigned == b.owned, "full heartbeats show another assignment than before")
 
 
-@case("beat-full-keeps-epoch", GROUP_EPOCH, MUST, "a settled member repeats what it subscribes in full heartbeats", "what is the same is no change: the group epoch stays")
+@case(
+    "beat-full-keeps-epoch", GROUP_EPOCH, MUST,
+    "a settled member repeats what it subscribes in full heartbeats",
+    "what is the same is no change: the group epoch stays",
+)
 def beat_full_keeps_epoch(play: Play) -> None:
     a, b = settled_pair(play)
     epoch = a.epoch
@@ -64,7 +79,11 @@ def beat_full_keeps_epoch(play: Play) -> None:
     play.want(a.epoch == b.epoch == epoch, f"full heartbeats take the members from epoch {epoch} to {a.epoch} and {b.epoch}")
 
 
-@case("beat-owned-keeps-epoch", GROUP_EPOCH, MUST, "settled members report what they own, again and again", "a report is no change: the group epoch stays")
+@case(
+    "beat-owned-keeps-epoch", GROUP_EPOCH, MUST,
+    "settled members report what they own, again and again",
+    "a report is no change: the group epoch stays",
+)
 def beat_owned_keeps_epoch(play: Play) -> None:
     a, b = settled_pair(play)
     epoch = a.epoch
@@ -82,7 +101,11 @@ def beat_unknown_member(play: Play) -> None:
     play.want_code("a heartbeat of nobody", reply.code, UNKNOWN_MEMBER_ID)
 
 
-@case("beat-unknown-group", HANDLING, MUST, "a heartbeat at epoch 1 to a group that isn't there", "only a join makes a group: UNKNOWN_MEMBER_ID or GROUP_ID_NOT_FOUND")
+@case(
+    "beat-unknown-group", HANDLING, MUST,
+    "a heartbeat at epoch 1 to a group that isn't there",
+    "only a join makes a group: UNKNOWN_MEMBER_ID or GROUP_ID_NOT_FOUND",
+)
 def beat_unknown_group(play: Play) -> None:
     nobody = play.member("nobody", id=new_id(), epoch=1)
     reply = nobody.ask(nobody.request("full"))
@@ -126,7 +149,11 @@ def fence_previous_epoch(play: Play) -> None:
     play.want_code("a heartbeat of before the rebalance, with all that it had then,", reply.code, FENCED_MEMBER_EPOCH)
 
 
-@case("fence-previous-epoch-no-report", HANDLING, SHOULD, "a heartbeat at the previous epoch that doesn't report", "FENCED_MEMBER_EPOCH: without a report nothing shows that it is safe")
+@case(
+    "fence-previous-epoch-no-report", HANDLING, SHOULD,
+    "a heartbeat at the previous epoch that doesn't report",
+    "FENCED_MEMBER_EPOCH: without a report nothing shows that it is safe",
+)
 def fence_previous_epoch_no_report(play: Play) -> None:
     play.topic(0, partitions=2)
     a, b = play.member("a"), play.member("b")
@@ -140,7 +167,8 @@ def fence_previous_epoch_no_report(play: Play) -> None:
 
 
 @case(
-    "previous-epoch-accepted", HANDLING, SHOULD, "the reply that raises a member's epoch is lost; it sends its report again, at the epoch that it knows",
+    "previous-epoch-accepted", HANDLING, SHOULD,
+    "the reply that raises a member's epoch is lost; it sends its report again, at the epoch that it knows",
     "accepted, since it reports a subset of its partitions; the reply has the new epoch",
 )
 def previous_epoch_accepted(play: Play) -> None:
@@ -152,7 +180,8 @@ def previous_epoch_accepted(play: Play) -> None:
 
 
 @case(
-    "previous-epoch-recovers", HANDLING, MUST, "the reply that raises a member's epoch is lost; it sends its report again, and joins anew if it is fenced",
+    "previous-epoch-recovers", HANDLING, MUST,
+    "the reply that raises a member's epoch is lost; it sends its report again, and joins anew if it is fenced",
     "either way everybody has its partitions in the end",
 )
 def previous_epoch_recovers(play: Play) -> None:
@@ -189,7 +218,11 @@ def lost_acknowledgement(play: Play) -> Tuple[Member, int]:
     return a, former
 
 
-@case("lost-assignment", RESPONSE, MUST, "the reply that assigns partitions is lost; the member sends a full heartbeat", "the full heartbeat is answered with the assignment: it isn't lost")
+@case(
+    "lost-assignment", RESPONSE, MUST,
+    "the reply that assigns partitions is lost; the member sends a full heartbeat",
+    "the full heartbeat is answered with the assignment: it isn't lost",
+)
 def lost_assignment(play: Play) -> None:
     play.topic(0, partitions=2)
     a, b = play.member("a"), play.member("b", id=new_id())
@@ -209,11 +242,20 @@ def lost_assignment(play: Play) -> None:
 
     play.until("the second member is assigned something", lambda: bool(lost), a, b, act=act)
     wanted = lost[0].assignment or NOTHING
-    play.until(f"b is assigned {play.story.partitions(wanted)}, as in the reply that was lost", lambda: b.assigned >= wanted, b, act=lambda _: b.beat("full"))
+    play.until(
+        f"b is assigned {play.story.partitions(wanted)}, as in the reply that was lost",
+        lambda: b.assigned >= wanted,
+        b,
+        act=lambda _: b.beat("full"),
+    )
     play.settle(a, b)
 
 
-@case("lost-revocation", MEMBER_EPOCH, MUST, "the reply that tells a member to revoke is lost; it beats again", "a full heartbeat is told it again; nothing goes to others before the report")
+@case(
+    "lost-revocation", MEMBER_EPOCH, MUST,
+    "the reply that tells a member to revoke is lost; it beats again",
+    "a full heartbeat is told it again; nothing goes to others before the report",
+)
 def lost_revocation(play: Play) -> None:
     play.topic(0, partitions=2)
     a, b = play.member("a"), play.member("b")
@@ -228,7 +270,11 @@ def lost_revocation(play: Play) -> None:
     play.settle(a, b)
 
 
-@case("rejoin-after-fence", HANDLING, MUST, "a member is fenced, drops its partitions, and joins again under its id", "it is accepted, and everybody has its partitions in the end")
+@case(
+    "rejoin-after-fence", HANDLING, MUST,
+    "a member is fenced, drops its partitions, and joins again under its id",
+    "it is accepted, and everybody has its partitions in the end",
+)
 def rejoin_after_fence(play: Play) -> None:
     a, b = settled_pair(play)
     reply = a.tries("owned", epoch=a.epoch + 7)
@@ -237,7 +283,11 @@ def rejoin_after_fence(play: Play) -> None:
     play.settle(a, b)
 
 
-@case("fence-harms-nobody", HANDLING, MUST, "somebody beats under a member's id at a wrong epoch, and is fenced", "the other members go on with what they have")
+@case(
+    "fence-harms-nobody", HANDLING, MUST,
+    "somebody beats under a member's id at a wrong epoch, and is fenced",
+    "the other members go on with what they have",
+)
 def fence_harms_nobody(play: Play) -> None:
     a, b = settled_pair(play)
     had = b.owned

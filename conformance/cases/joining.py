@@ -32,7 +32,11 @@ def join_first_epoch(play: Play) -> None:
     play.want(reply.epoch > 0, f"the reply to the join has member epoch {reply.epoch}")
 
 
-@case("join-second-epoch", MEMBER_EPOCH, SHOULD, "a second member joins", "it has nothing to revoke either, so the reply has an epoch above the first one's")
+@case(
+    "join-second-epoch", MEMBER_EPOCH, SHOULD,
+    "a second member joins",
+    "it has nothing to revoke either, so the reply has an epoch above the first one's",
+)
 def join_second_epoch(play: Play) -> None:
     a, b = play.member("a"), play.member("b")
     a.join()
@@ -42,7 +46,11 @@ def join_second_epoch(play: Play) -> None:
     play.want(reply.epoch > before, f"the reply to the second join has member epoch {reply.epoch}, and the first member is at {before}")
 
 
-@case("join-raises-epoch", GROUP_EPOCH, MUST, "a second member joins, and both beat until all is settled", "a join raises the group epoch: both get to a higher one")
+@case(
+    "join-raises-epoch", GROUP_EPOCH, MUST,
+    "a second member joins, and both beat until all is settled",
+    "a join raises the group epoch: both get to a higher one",
+)
 def join_raises_epoch(play: Play) -> None:
     a, b = play.member("a"), play.member("b")
     a.join()
@@ -53,7 +61,11 @@ def join_raises_epoch(play: Play) -> None:
     play.want(a.epoch > before, f"after the second join the first member is at epoch {a.epoch}, and was at {before} before")
 
 
-@case("join-own-id", MEMBER_ID, MUST, "a member joins under an id of its own", "it is a member under that id: no reply has another one, and it beats under it")
+@case(
+    "join-own-id", MEMBER_ID, MUST,
+    "a member joins under an id of its own",
+    "it is a member under that id: no reply has another one, and it beats under it",
+)
 def join_own_id(play: Play) -> None:
     own = new_id()
     a = play.member("a", id=own)
@@ -74,7 +86,11 @@ def join_without_id(play: Play) -> None:
     play.settle(a, b)
 
 
-@case("join-without-id-version-1", "KIP-1082", FREE, "a member joins without an id in version 1", "KIP-1082 has the members make their ids; a broker may refuse")
+@case(
+    "join-without-id-version-1", "KIP-1082", FREE,
+    "a member joins without an id in version 1",
+    "KIP-1082 has the members make their ids; a broker may refuse",
+)
 def join_without_id_version_1(play: Play) -> None:
     if play.version != 1:
         raise NotRun("it is about version 1")
@@ -84,7 +100,11 @@ def join_without_id_version_1(play: Play) -> None:
     play.note(f"a join without a member id is answered with {code_text(reply.code)}")
 
 
-@case("join-repeated", HANDLING, MUST, "the reply to a join is lost, and the member joins again under its id", "it is one member, not two: it gets all partitions")
+@case(
+    "join-repeated", HANDLING, MUST,
+    "the reply to a join is lost, and the member joins again under its id",
+    "it is one member, not two: it gets all partitions",
+)
 def join_repeated(play: Play) -> None:
     a = play.member("a", id=new_id())
     a.ask(a.request("join"), lost=True)
@@ -101,7 +121,11 @@ def rejoin(play: Play) -> None:
     play.settle(a)
 
 
-@case("rejoin-shows-assignment", RESPONSE, MUST, "a settled member joins again: it owns nothing", "the reply shows its whole assignment, or a later one does: nothing counts as known to it")
+@case(
+    "rejoin-shows-assignment", RESPONSE, MUST,
+    "a settled member joins again: it owns nothing",
+    "the reply shows its whole assignment, or a later one does: nothing counts as known to it",
+)
 def rejoin_shows_assignment(play: Play) -> None:
     a, b = play.member("a", id=new_id()), play.member("b")
     a.join()
@@ -113,7 +137,11 @@ def rejoin_shows_assignment(play: Play) -> None:
     play.want(bool(a.owned) or not had, "the member that joined again is left without partitions")
 
 
-@case("join-shows-nothing-held", MEMBER_EPOCH, MUST, "a second member joins while the first has everything", "the second is shown nothing that the first may still hold")
+@case(
+    "join-shows-nothing-held", MEMBER_EPOCH, MUST,
+    "a second member joins while the first has everything",
+    "the second is shown nothing that the first may still hold",
+)
 def join_shows_nothing_held(play: Play) -> None:
     a, b = play.member("a"), play.member("b")
     a.join()
@@ -131,20 +159,32 @@ def join_unknown_topic(play: Play) -> None:
     play.want(not a.owned, f"it is assigned {play.story.partitions(a.owned)}")
 
 
-@case("join-empty-subscription", REQUEST, SHOULD, "a member subscribes no topics: the list is empty, not null", "it is a member with nothing assigned")
+@case(
+    "join-empty-subscription", REQUEST, SHOULD,
+    "a member subscribes no topics: the list is empty, not null",
+    "it is a member with nothing assigned",
+)
 def join_empty_subscription(play: Play) -> None:
     a = play.member("a", names=[])
     a.join()
     play.want(not a.owned, f"it is assigned {play.story.partitions(a.owned)}")
 
 
-@case("join-null-owned", REQUEST, FREE, "a join whose TopicPartitions are null, not empty", "KIP-848 asks for an empty list; null says the same, and a broker may refuse it")
+@case(
+    "join-null-owned", REQUEST, FREE,
+    "a join whose TopicPartitions are null, not empty",
+    "KIP-848 asks for an empty list; null says the same, and a broker may refuse it",
+)
 def join_null_owned(play: Play) -> None:
     reply = play.member("a").tries_to_join(owned=None)
     play.note(f"a join with null in TopicPartitions is answered with {code_text(reply.code)}")
 
 
-@case("join-null-expression", REQUEST, MUST, "a join that names topics, with null for the regular expression (version 1)", "null means that there is none: the member joins")
+@case(
+    "join-null-expression", REQUEST, MUST,
+    "a join that names topics, with null for the regular expression (version 1)",
+    "null means that there is none: the member joins",
+)
 def join_null_expression(play: Play) -> None:
     if play.version != 1:
         raise NotRun("version 0 has no regular expressions")
@@ -172,7 +212,11 @@ def join_expression(play: Play) -> None:
     play.note("a regular expression is followed")
 
 
-@case("join-many", GROUP_EPOCH, MUST, "six members join one after the other, none beating in between", "all become members, and share the partitions in the end")
+@case(
+    "join-many", GROUP_EPOCH, MUST,
+    "six members join one after the other, none beating in between",
+    "all become members, and share the partitions in the end",
+)
 def join_many(play: Play) -> None:
     members = [play.member(name) for name in "abcdef"]
     for member in members:
@@ -189,7 +233,11 @@ def join_two_groups(play: Play) -> None:
     play.settle(b)
 
 
-@case("join-same-id-two-groups", HANDLING, MUST, "members of two groups have one id", "ids are apart by groups: a leave in one group changes nothing in the other")
+@case(
+    "join-same-id-two-groups", HANDLING, MUST,
+    "members of two groups have one id",
+    "ids are apart by groups: a leave in one group changes nothing in the other",
+)
 def join_same_id_two_groups(play: Play) -> None:
     own = new_id()
     a, b = play.member("a", id=own), play.member("b", id=own, group=play.new_group())

@@ -21,7 +21,11 @@ def asked_to_revoke(play: Play) -> Tuple[Member, Member]:
     return a, b
 
 
-@case("revoke-before-assign", MEMBER_EPOCH, MUST, "a second member beats while the first hasn't reported yet", "the second gets nothing until the first has reported that it gave it up")
+@case(
+    "revoke-before-assign", MEMBER_EPOCH, MUST,
+    "a second member beats while the first hasn't reported yet",
+    "the second gets nothing until the first has reported that it gave it up",
+)
 def revoke_before_assign(play: Play) -> None:
     a, b = asked_to_revoke(play)
     for _ in range(5):
@@ -31,7 +35,11 @@ def revoke_before_assign(play: Play) -> None:
     play.settle(a, b)
 
 
-@case("revoke-shows-intersection", MEMBER_EPOCH, MUST, "the first member beats after a second one's join", "it is shown a part of what it has, and nothing else, at the epoch that it has")
+@case(
+    "revoke-shows-intersection", MEMBER_EPOCH, MUST,
+    "the first member beats after a second one's join",
+    "it is shown a part of what it has, and nothing else, at the epoch that it has",
+)
 def revoke_shows_intersection(play: Play) -> None:
     play.topic(0, partitions=2)
     a, b = play.member("a"), play.member("b")
@@ -44,7 +52,11 @@ def revoke_shows_intersection(play: Play) -> None:
     play.want(a.epoch == epoch, f"its epoch rises from {epoch} to {a.epoch} with the order to revoke")
 
 
-@case("revoke-keeps-epoch", MEMBER_EPOCH, MUST, "the first member beats on without giving anything up: short, and with reports of all that it has", "its epoch stays until it has reported")
+@case(
+    "revoke-keeps-epoch", MEMBER_EPOCH, MUST,
+    "the first member beats on without giving anything up: short, and with reports of all that it has",
+    "its epoch stays until it has reported",
+)
 def revoke_keeps_epoch(play: Play) -> None:
     a, b = asked_to_revoke(play)
     epoch, other = a.epoch, b.epoch
@@ -55,7 +67,11 @@ def revoke_keeps_epoch(play: Play) -> None:
     play.want(not b.owned & a.owned and b.epoch >= other, "the other member is assigned what wasn't given up")
 
 
-@case("null-is-no-report", MEMBER_EPOCH, MUST, "the first member, told to revoke, sends short heartbeats: its partitions are null", "null reports nothing: it has given up nothing")
+@case(
+    "null-is-no-report", MEMBER_EPOCH, MUST,
+    "the first member, told to revoke, sends short heartbeats: its partitions are null",
+    "null reports nothing: it has given up nothing",
+)
 def null_is_no_report(play: Play) -> None:
     a, b = asked_to_revoke(play)
     epoch = a.epoch
@@ -66,7 +82,11 @@ def null_is_no_report(play: Play) -> None:
     play.want(not b.owned & a.owned, "null for its partitions counts as having given them up")
 
 
-@case("report-in-part", MEMBER_EPOCH, MUST, "the first member reports that it has given up a part of what it has to", "its epoch stays, and what it still has goes to nobody")
+@case(
+    "report-in-part", MEMBER_EPOCH, MUST,
+    "the first member reports that it has given up a part of what it has to",
+    "its epoch stays, and what it still has goes to nobody",
+)
 def report_in_part(play: Play) -> None:
     play.topic(0, partitions=4)
     a, b = asked_to_revoke(play)
@@ -83,7 +103,11 @@ def report_in_part(play: Play) -> None:
     play.settle(a, b)
 
 
-@case("report-raises-epoch", MEMBER_EPOCH, MUST, "the first member reports that it has given everything up", "it gets to the new epoch, by this reply or a later one")
+@case(
+    "report-raises-epoch", MEMBER_EPOCH, MUST,
+    "the first member reports that it has given everything up",
+    "it gets to the new epoch, by this reply or a later one",
+)
 def report_raises_epoch(play: Play) -> None:
     a, _ = asked_to_revoke(play)
     epoch = a.epoch
@@ -100,21 +124,29 @@ def freed_goes_on(play: Play) -> None:
     play.until(f"b is assigned {play.story.partitions(freed)}", lambda: freed <= b.owned, b)
 
 
-@case("claim-changes-nothing", MEMBER_EPOCH, MUST, "a settled member reports partitions that are another member's", "what it claims isn't its own: the other one keeps it")
+@case(
+    "claim-changes-nothing", MEMBER_EPOCH, MUST,
+    "a settled member reports partitions that are another member's",
+    "what it claims isn't its own: the other one keeps it",
+)
 def claim_changes_nothing(play: Play) -> None:
     a, b = settled_pair(play)
     had = b.owned
     reply = a.ask(a.request("owned", owned=play.topic().partitions()))
     # What it may hold by its own words isn't what it holds.
     play.watch(a.group).members[a.id].holds = a.owned
-    play.want(not (reply.assignment or NOTHING) & had, f"it is assigned {play.story.partitions((reply.assignment or NOTHING) & had)} since it claimed it")
+    play.want(
+        not (reply.assignment or NOTHING) & had,
+        f"it is assigned {play.story.partitions((reply.assignment or NOTHING) & had)} since it claimed it",
+    )
     for kind in ("short", "full"):
         b.beat(kind)
         play.want(had <= b.assigned, f"the other member is told to give up {play.story.partitions(had - b.assigned)}")
 
 
 @case(
-    "revoke-or-assign", RESPONSE, SHOULD, "a member is to give up one topic; before its report is answered it changes to that topic, and away from the other one",
+    "revoke-or-assign", RESPONSE, SHOULD,
+    "a member is to give up one topic; before its report is answered it changes to that topic, and away from the other one",
     "no reply both revokes partitions and assigns others: first it gives up the second topic, and then it gets the first again",
 )
 def revoke_or_assign(play: Play) -> None:
@@ -128,7 +160,10 @@ def revoke_or_assign(play: Play) -> None:
     a.names = [second.name]
     reply = a.beat("full")
     revoked, given = first.partitions() - a.assigned, a.assigned & second.partitions()
-    play.want(not (reply.assignment and revoked and given), f"one reply takes {play.story.partitions(revoked)} and gives {play.story.partitions(given)}")
+    play.want(
+        not (reply.assignment and revoked and given),
+        f"one reply takes {play.story.partitions(revoked)} and gives {play.story.partitions(given)}",
+    )
     a.release()
     play.settle(a)
 
@@ -141,7 +176,11 @@ def newcomer_leaves(play: Play) -> None:
     play.settle(a)
 
 
-@case("newcomer-leaves-unnoticed", MEMBER_EPOCH, MUST, "the second member joins and leaves before the first beats again", "the first keeps what it has")
+@case(
+    "newcomer-leaves-unnoticed", MEMBER_EPOCH, MUST,
+    "the second member joins and leaves before the first beats again",
+    "the first keeps what it has",
+)
 def newcomer_leaves_unnoticed(play: Play) -> None:
     a, b = play.member("a"), play.member("b")
     a.join()
@@ -151,7 +190,11 @@ def newcomer_leaves_unnoticed(play: Play) -> None:
     play.settle(a)
 
 
-@case("third-joins-meanwhile", ASSIGNMENT_EPOCH, MUST, "while the first member revokes, a third one joins", "each goes from what it has to the latest target; everybody has its partitions in the end")
+@case(
+    "third-joins-meanwhile", ASSIGNMENT_EPOCH, MUST,
+    "while the first member revokes, a third one joins",
+    "each goes from what it has to the latest target; everybody has its partitions in the end",
+)
 def third_joins_meanwhile(play: Play) -> None:
     a, b = asked_to_revoke(play)
     c = play.member("c")
@@ -176,7 +219,11 @@ def three_then_one(play: Play) -> None:
     play.settle(a)
 
 
-@case("slow-member-holds-alone", MEMBER_EPOCH, MUST, "one of three members doesn't beat while the others rebalance", "the others settle all that it doesn't hold; what it holds stays its own")
+@case(
+    "slow-member-holds-alone", MEMBER_EPOCH, MUST,
+    "one of three members doesn't beat while the others rebalance",
+    "the others settle all that it doesn't hold; what it holds stays its own",
+)
 def slow_member_holds_alone(play: Play) -> None:
     play.topic(0, partitions=3)
     a, b = settled_pair(play)
@@ -190,7 +237,11 @@ def slow_member_holds_alone(play: Play) -> None:
     play.settle(a, b, c)
 
 
-@case("epoch-of-all", ASSIGNMENT_EPOCH, MUST, "four members join one after the other, and beat until all is settled", "all get to one epoch, and it is the same in the next heartbeats")
+@case(
+    "epoch-of-all", ASSIGNMENT_EPOCH, MUST,
+    "four members join one after the other, and beat until all is settled",
+    "all get to one epoch, and it is the same in the next heartbeats",
+)
 def epoch_of_all(play: Play) -> None:
     members = [play.member(name) for name in "abcd"]
     for member in members:

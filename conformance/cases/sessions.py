@@ -36,26 +36,47 @@ def is_over(play: Play) -> float:
     return play.settings.session + play.settings.late
 
 
-@case("session-ends", SESSIONS, MUST, "one of two members falls silent for a session timeout", "it is removed, and the other one gets its partitions", is_slow=True)
+@case(
+    "session-ends", SESSIONS, MUST,
+    "one of two members falls silent for a session timeout",
+    "it is removed, and the other one gets its partitions",
+    is_slow=True,
+)
 def session_ends(play: Play) -> None:
     a, b = settled_pair(play)
     falls_silent(play, b)
     b.is_in = False
-    play.want(wait(play, is_over(play), a, until=lambda: play.is_settled([a])), f"{is_over(play):g} s after the last heartbeat the other member has {play.story.partitions(a.owned)}")
+    play.want(
+        wait(play, is_over(play), a, until=lambda: play.is_settled([a])),
+        f"{is_over(play):g} s after the last heartbeat the other member has {play.story.partitions(a.owned)}",
+    )
     reply = b.tries("full")
     play.want_code("a heartbeat of the member that was removed", reply.code, UNKNOWN_MEMBER_ID)
 
 
-@case("session-holds", SESSIONS, MUST, "one of two members falls silent for three quarters of its session", "it is a member still: nothing of it goes to the other one", is_slow=True)
+@case(
+    "session-holds", SESSIONS, MUST,
+    "one of two members falls silent for three quarters of its session",
+    "it is a member still: nothing of it goes to the other one",
+    is_slow=True,
+)
 def session_holds(play: Play) -> None:
     a, b = settled_pair(play)
     had, epoch = a.owned, a.epoch
     wait(play, play.settings.session * 0.75, a)
-    play.want((a.owned, a.epoch) == (had, epoch), f"the other member is at epoch {a.epoch} with {play.story.partitions(a.owned)} before the session is over")
+    play.want(
+        (a.owned, a.epoch) == (had, epoch),
+        f"the other member is at epoch {a.epoch} with {play.story.partitions(a.owned)} before the session is over",
+    )
     b.beat("full")
 
 
-@case("session-goes-on", SESSIONS, MUST, "a member beats short heartbeats for longer than a session", "each heartbeat begins the session anew", is_slow=True)
+@case(
+    "session-goes-on", SESSIONS, MUST,
+    "a member beats short heartbeats for longer than a session",
+    "each heartbeat begins the session anew",
+    is_slow=True,
+)
 def session_goes_on(play: Play) -> None:
     a = play.member("a")
     a.join()
@@ -67,7 +88,12 @@ def session_goes_on(play: Play) -> None:
     play.want(a.epoch == epoch, f"it is at epoch {a.epoch} and was at {epoch}")
 
 
-@case("session-rejoin", SESSIONS, MUST, "a member that was removed joins again under its id", "it is accepted, at a higher epoch than it had", is_slow=True)
+@case(
+    "session-rejoin", SESSIONS, MUST,
+    "a member that was removed joins again under its id",
+    "it is accepted, at a higher epoch than it had",
+    is_slow=True,
+)
 def session_rejoin(play: Play) -> None:
     a, b = settled_pair(play)
     epoch = b.epoch
@@ -79,7 +105,12 @@ def session_rejoin(play: Play) -> None:
     play.want(b.epoch > epoch, f"it joins again at epoch {b.epoch}, and was at {epoch}")
 
 
-@case("session-all-end", SESSIONS, MUST, "all members fall silent for a session timeout, and then a new one joins", "it gets everything: nothing of the old ones is left", is_slow=True)
+@case(
+    "session-all-end", SESSIONS, MUST,
+    "all members fall silent for a session timeout, and then a new one joins",
+    "it gets everything: nothing of the old ones is left",
+    is_slow=True,
+)
 def session_all_end(play: Play) -> None:
     for member in settled_pair(play):
         falls_silent(play, member)
@@ -101,7 +132,12 @@ def session_of_commits(play: Play) -> None:
     play.want_code("a commit of the member that was removed", play.commit(b, {partition: 1})[0], UNKNOWN_MEMBER_ID)
 
 
-@case("rebalance-timeout-ends", REBALANCE_TIMEOUT, MUST, "a member with a rebalance timeout of 2 s is told to revoke, and beats on without a report", "it is removed, and the others get its partitions", is_slow=True)
+@case(
+    "rebalance-timeout-ends", REBALANCE_TIMEOUT, MUST,
+    "a member with a rebalance timeout of 2 s is told to revoke, and beats on without a report",
+    "it is removed, and the others get its partitions",
+    is_slow=True,
+)
 def rebalance_timeout_ends(play: Play) -> None:
     play.topic(0, partitions=2)
     a, b = play.member("a", timeout=SOON_MS), play.member("b")
@@ -122,7 +158,12 @@ def rebalance_timeout_ends(play: Play) -> None:
     play.settle(b)
 
 
-@case("rebalance-timeout-met", REBALANCE_TIMEOUT, MUST, "a member with a rebalance timeout of 2 s reports in time, and beats on", "it stays a member, also when the timeout is over", is_slow=True)
+@case(
+    "rebalance-timeout-met", REBALANCE_TIMEOUT, MUST,
+    "a member with a rebalance timeout of 2 s reports in time, and beats on",
+    "it stays a member, also when the timeout is over",
+    is_slow=True,
+)
 def rebalance_timeout_met(play: Play) -> None:
     play.topic(0, partitions=2)
     a, b = play.member("a", timeout=SOON_MS), play.member("b")
@@ -138,7 +179,12 @@ def rebalance_timeout_met(play: Play) -> None:
     play.want(a.epoch == epoch, f"it is at epoch {a.epoch} and was at {epoch}")
 
 
-@case("rebalance-timeout-of-settled", REBALANCE_TIMEOUT, SHOULD, "a settled member with a rebalance timeout of 2 s beats for longer", "there is nothing to revoke, so the timeout doesn't run", is_slow=True)
+@case(
+    "rebalance-timeout-of-settled", REBALANCE_TIMEOUT, SHOULD,
+    "a settled member with a rebalance timeout of 2 s beats for longer",
+    "there is nothing to revoke, so the timeout doesn't run",
+    is_slow=True,
+)
 def rebalance_timeout_of_settled(play: Play) -> None:
     a = play.member("a", timeout=SOON_MS)
     a.join()
@@ -148,16 +194,29 @@ def rebalance_timeout_of_settled(play: Play) -> None:
     play.want(a.epoch == epoch, f"it is at epoch {a.epoch} and was at {epoch}")
 
 
-@case("static-away-ends", STATIC, MUST, "a static member leaves for a while, and doesn't come back for a session timeout", "it is removed, and the other one gets its partitions", is_slow=True)
+@case(
+    "static-away-ends", STATIC, MUST,
+    "a static member leaves for a while, and doesn't come back for a session timeout",
+    "it is removed, and the other one gets its partitions",
+    is_slow=True,
+)
 def static_away_ends(play: Play) -> None:
     s, d = static_pair(play)
     member = s.id
     s.leave("away")
     play.watch(s.group).gone(member)
-    play.want(wait(play, is_over(play), d, until=lambda: play.is_settled([d])), f"{is_over(play):g} s after it left the other member has {play.story.partitions(d.owned)}")
+    play.want(
+        wait(play, is_over(play), d, until=lambda: play.is_settled([d])),
+        f"{is_over(play):g} s after it left the other member has {play.story.partitions(d.owned)}",
+    )
 
 
-@case("static-killed-ends", STATIC, MUST, "a static member is killed: it falls silent without leaving; after its session another one joins with its instance", "the instance is free", is_slow=True)
+@case(
+    "static-killed-ends", STATIC, MUST,
+    "a static member is killed: it falls silent without leaving; after its session another one joins with its instance",
+    "the instance is free",
+    is_slow=True,
+)
 def static_killed_ends(play: Play) -> None:
     s, d = static_pair(play)
     falls_silent(play, s)
@@ -168,7 +227,12 @@ def static_killed_ends(play: Play) -> None:
     play.settle(back, d)
 
 
-@case("static-away-back-late", STATIC, MUST, "a static member is away for three quarters of its session, comes back, and beats", "its partitions were kept, and it is a member beyond the session in which it left", is_slow=True)
+@case(
+    "static-away-back-late", STATIC, MUST,
+    "a static member is away for three quarters of its session, comes back, and beats",
+    "its partitions were kept, and it is a member beyond the session in which it left",
+    is_slow=True,
+)
 def static_away_back_late(play: Play) -> None:
     s, d = static_pair(play)
     kept = s.owned
@@ -191,4 +255,7 @@ def late_join(play: Play) -> None:
     falls_silent(play, b)
     b.is_in = False
     epoch = a.epoch
-    play.want(wait(play, is_over(play), a, until=lambda: play.is_settled([a]) and a.epoch > epoch + 1), f"after its session the first member has {play.story.partitions(a.owned)} at epoch {a.epoch}")
+    play.want(
+        wait(play, is_over(play), a, until=lambda: play.is_settled([a]) and a.epoch > epoch + 1),
+        f"after its session the first member has {play.story.partitions(a.owned)} at epoch {a.epoch}",
+    )

@@ -41,7 +41,11 @@ def static_away_reply(play: Play) -> None:
     play.want(reply.epoch == AWAY, f"the reply has member epoch {reply.epoch}")
 
 
-@case("static-away-keeps", STATIC, MUST, "a static member leaves for a while, and the other member beats", "what the one had is kept for it: the other doesn't get it")
+@case(
+    "static-away-keeps", STATIC, MUST,
+    "a static member leaves for a while, and the other member beats",
+    "what the one had is kept for it: the other doesn't get it",
+)
 def static_away_keeps(play: Play) -> None:
     s, d = static_pair(play)
     kept, had = s.owned, d.owned
@@ -74,7 +78,11 @@ def static_return(play: Play) -> None:
     play.want(back.owned == kept, f"it comes back to {play.story.partitions(back.owned)}, and had {play.story.partitions(kept)}")
 
 
-@case("static-return-same-id", STATIC, MUST, "a static member leaves for a while, and comes back under its member id", "it gets the partitions that it had")
+@case(
+    "static-return-same-id", STATIC, MUST,
+    "a static member leaves for a while, and comes back under its member id",
+    "it gets the partitions that it had",
+)
 def static_return_same_id(play: Play) -> None:
     s, d = static_pair(play)
     kept = s.owned
@@ -84,7 +92,11 @@ def static_return_same_id(play: Play) -> None:
     play.want(s.owned == kept, f"it comes back to {play.story.partitions(s.owned)}, and had {play.story.partitions(kept)}")
 
 
-@case("static-return-once", STATIC, MUST, "a static member has come back under a new id; then another one joins with the instance", "the instance is in use again: UNRELEASED_INSTANCE_ID")
+@case(
+    "static-return-once", STATIC, MUST,
+    "a static member has come back under a new id; then another one joins with the instance",
+    "the instance is in use again: UNRELEASED_INSTANCE_ID",
+)
 def static_return_once(play: Play) -> None:
     s, d = static_pair(play)
     s.leave("away")
@@ -95,7 +107,11 @@ def static_return_once(play: Play) -> None:
     play.settle(back, d)
 
 
-@case("static-instance-taken", STATIC, MUST, "a member joins with the instance of a member that is there", "UNRELEASED_INSTANCE_ID, and the one that is there goes on")
+@case(
+    "static-instance-taken", STATIC, MUST,
+    "a member joins with the instance of a member that is there",
+    "UNRELEASED_INSTANCE_ID, and the one that is there goes on",
+)
 def static_instance_taken(play: Play) -> None:
     s, d = static_pair(play)
     owned = s.owned
@@ -105,7 +121,11 @@ def static_instance_taken(play: Play) -> None:
     play.want(s.owned == owned, f"the member that is there is left with {play.story.partitions(s.owned)}")
 
 
-@case("static-old-id", STATIC, MUST, "a static member came back under a new id; somebody beats under the old one", "refused: the old id is no member's any more")
+@case(
+    "static-old-id", STATIC, MUST,
+    "a static member came back under a new id; somebody beats under the old one",
+    "refused: the old id is no member's any more",
+)
 def static_old_id(play: Play) -> None:
     s, d = static_pair(play)
     epoch, owned = s.epoch, s.owned
@@ -117,7 +137,11 @@ def static_old_id(play: Play) -> None:
     play.settle(back, d)
 
 
-@case("static-away-beat", STATIC, SHOULD, "a static member that left for a while beats at its former epoch", "it is away: fenced until it joins again")
+@case(
+    "static-away-beat", STATIC, SHOULD,
+    "a static member that left for a while beats at its former epoch",
+    "it is away: fenced until it joins again",
+)
 def static_away_beat(play: Play) -> None:
     s, _ = static_pair(play)
     epoch, owned = s.epoch, s.owned
@@ -133,7 +157,11 @@ def static_leave_for_good(play: Play) -> None:
     play.settle(d)
 
 
-@case("static-instance-after-leave", STATIC, MUST, "a static member left for good, and another one joins with its instance", "the instance is free: it joins as any other member")
+@case(
+    "static-instance-after-leave", STATIC, MUST,
+    "a static member left for good, and another one joins with its instance",
+    "the instance is free: it joins as any other member",
+)
 def static_instance_after_leave(play: Play) -> None:
     s, d = static_pair(play)
     s.leave()
@@ -143,7 +171,11 @@ def static_instance_after_leave(play: Play) -> None:
     play.settle(back, d)
 
 
-@case("static-away-foreign-instance", STATIC, SHOULD, "epoch -2 under a member's id, with an instance that isn't its own", "refused, and the member goes on")
+@case(
+    "static-away-foreign-instance", STATIC, SHOULD,
+    "epoch -2 under a member's id, with an instance that isn't its own",
+    "refused, and the member goes on",
+)
 def static_away_foreign_instance(play: Play) -> None:
     s, _ = static_pair(play)
     reply = s.ask(s.request("away", instance="another-instance"))
@@ -160,7 +192,11 @@ def static_away_dynamic(play: Play) -> None:
     s.turn()
 
 
-@case("static-away-newcomer", STATIC, MUST, "while a static member is away another member joins", "what the static member had is still kept; both have their part once it is back")
+@case(
+    "static-away-newcomer", STATIC, MUST,
+    "while a static member is away another member joins",
+    "what the static member had is still kept; both have their part once it is back",
+)
 def static_away_newcomer(play: Play) -> None:
     s, d = static_pair(play)
     kept = s.owned
@@ -176,7 +212,11 @@ def static_away_newcomer(play: Play) -> None:
     play.settle(back, c, d)
 
 
-@case("static-return-other-subscription", STATIC, MUST, "a static member comes back and subscribes another topic", "it is as a change of its subscription: it gets the new topic's partitions, and gives up the old one's")
+@case(
+    "static-return-other-subscription", STATIC, MUST,
+    "a static member comes back and subscribes another topic",
+    "it is as a change of its subscription: it gets the new topic's partitions, and gives up the old one's",
+)
 def static_return_other_subscription(play: Play) -> None:
     other = play.topic(1)
     s, d = static_pair(play)
@@ -187,7 +227,11 @@ def static_return_other_subscription(play: Play) -> None:
     play.settle(back, d)
 
 
-@case("static-killed", STATIC, FREE, "a static member is killed, and started again at once: the old one hasn't left", "KIP-848 has it refused (111) until the session is over")
+@case(
+    "static-killed", STATIC, FREE,
+    "a static member is killed, and started again at once: the old one hasn't left",
+    "KIP-848 has it refused (111) until the session is over",
+)
 def static_killed(play: Play) -> None:
     s, _ = static_pair(play)
     reply = heir(play, s).tries_to_join()

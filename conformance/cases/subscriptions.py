@@ -33,7 +33,11 @@ def subscribe_more(play: Play) -> None:
     play.want(a.epoch > epoch, f"it subscribes another topic and stays at epoch {epoch}")
 
 
-@case("subscribe-less", GROUP_EPOCH, MUST, "a member with two topics subscribes one of them only", "the group epoch rises, and it is left with that topic's partitions")
+@case(
+    "subscribe-less", GROUP_EPOCH, MUST,
+    "a member with two topics subscribes one of them only",
+    "the group epoch rises, and it is left with that topic's partitions",
+)
 def subscribe_less(play: Play) -> None:
     first, second = play.topic(0), play.topic(1)
     a = alone(play, first, second)
@@ -43,7 +47,11 @@ def subscribe_less(play: Play) -> None:
     play.want(a.epoch > epoch, f"it subscribes less and stays at epoch {epoch}")
 
 
-@case("subscribe-other", GROUP_EPOCH, MUST, "a member changes from one topic to another", "it gives up the old topic's partitions, and gets the new one's")
+@case(
+    "subscribe-other", GROUP_EPOCH, MUST,
+    "a member changes from one topic to another",
+    "it gives up the old topic's partitions, and gets the new one's",
+)
 def subscribe_other(play: Play) -> None:
     first, second = play.topic(0), play.topic(1)
     a = alone(play, first)
@@ -51,7 +59,11 @@ def subscribe_other(play: Play) -> None:
     play.settle(a)
 
 
-@case("subscribe-nothing", REQUEST, SHOULD, "one of two members subscribes nothing: an empty list", "it stays a member, with nothing; the other one gets its partitions")
+@case(
+    "subscribe-nothing", REQUEST, SHOULD,
+    "one of two members subscribes nothing: an empty list",
+    "it stays a member, with nothing; the other one gets its partitions",
+)
 def subscribe_nothing(play: Play) -> None:
     a, b = settled_pair(play)
     subscribes(a)
@@ -79,7 +91,11 @@ def subscribe_reordered(play: Play) -> None:
     play.want(a.epoch == epoch, f"the same topics in another order take it from epoch {epoch} to {a.epoch}")
 
 
-@case("subscribe-unknown-too", GROUP_EPOCH, MUST, "a member subscribes a topic that isn't there beside one that is", "it keeps the partitions of the one that is")
+@case(
+    "subscribe-unknown-too", GROUP_EPOCH, MUST,
+    "a member subscribes a topic that isn't there beside one that is",
+    "it keeps the partitions of the one that is",
+)
 def subscribe_unknown_too(play: Play) -> None:
     first = play.topic()
     a = alone(play, first)
@@ -98,7 +114,11 @@ def apart(play: Play) -> Tuple[Member, Member]:
     return a, b
 
 
-@case("subscribe-apart", GROUP_EPOCH, MUST, "one member subscribes a topic, and two others of its group another topic", "each gets partitions of its own topic alone, however unequal that is")
+@case(
+    "subscribe-apart", GROUP_EPOCH, MUST,
+    "one member subscribes a topic, and two others of its group another topic",
+    "each gets partitions of its own topic alone, however unequal that is",
+)
 def subscribe_apart(play: Play) -> None:
     a, b = apart(play)
     c = play.member("c", names=b.names)
@@ -116,7 +136,11 @@ def subscribe_swap(play: Play) -> None:
     play.settle(a, b)
 
 
-@case("subscribe-overlap", GROUP_EPOCH, MUST, "one member subscribes two topics and the other one of these", "each partition has one owner, and the owner subscribes its topic")
+@case(
+    "subscribe-overlap", GROUP_EPOCH, MUST,
+    "one member subscribes two topics and the other one of these",
+    "each partition has one owner, and the owner subscribes its topic",
+)
 def subscribe_overlap(play: Play) -> None:
     first, second = play.topic(0), play.topic(1)
     a, b = play.member("a", names=[first.name, second.name]), play.member("b", names=[second.name])
@@ -127,7 +151,11 @@ def subscribe_overlap(play: Play) -> None:
     play.want(first.partitions() <= a.owned, f"a alone subscribes {first.name}, and has {play.story.partitions(a.owned)}")
 
 
-@case("subscribe-last-subscriber-leaves", GROUP_EPOCH, MUST, "of two members with different topics one leaves", "its topic goes to nobody; the other keeps its own")
+@case(
+    "subscribe-last-subscriber-leaves", GROUP_EPOCH, MUST,
+    "of two members with different topics one leaves",
+    "its topic goes to nobody; the other keeps its own",
+)
 def subscribe_last_subscriber_leaves(play: Play) -> None:
     a, b = apart(play)
     b.leave()

@@ -25,21 +25,81 @@ class Row(NamedTuple):
 
 
 JOINS = (
-    Row("refuse-empty-group", MUST, "a join with an empty group id", "a group id has a character at least", "join", {"group": ""}, (INVALID_REQUEST, INVALID_GROUP_ID)),
-    Row("refuse-epoch-below", MUST, "a heartbeat at member epoch -3", "no member epoch is below -2", "join", {"epoch": -3}, (INVALID_REQUEST,)),
-    Row("refuse-empty-instance", MUST, "a join with an empty instance id", "an instance id that is given has a character at least", "join", {"instance": ""}, (INVALID_REQUEST,)),
     Row(
-        "refuse-join-without-names", MUST, "a join with null for its topics (and no regular expression)", "a join says what it subscribes",
-        "join", {"names": None, "regex": None}, (INVALID_REQUEST,),
+        "refuse-empty-group", MUST,
+        "a join with an empty group id",
+        "a group id has a character at least",
+        "join",
+        {"group": ""},
+        (INVALID_REQUEST, INVALID_GROUP_ID),
     ),
-    Row("refuse-join-without-timeout", MUST, "a join with rebalance timeout -1", "a join says its rebalance timeout", "join", {"timeout": -1}, (INVALID_REQUEST,)),
-    Row("refuse-assignor", MUST, "a join with an assignor that there isn't", "UNSUPPORTED_ASSIGNOR", "join", {"assignor": NO_SUCH_ASSIGNOR}, (UNSUPPORTED_ASSIGNOR,)),
+    Row("refuse-epoch-below", MUST, "a heartbeat at member epoch -3", "no member epoch is below -2", "join", {"epoch": -3}, (INVALID_REQUEST,)),
+    Row(
+        "refuse-empty-instance", MUST,
+        "a join with an empty instance id",
+        "an instance id that is given has a character at least",
+        "join",
+        {"instance": ""},
+        (INVALID_REQUEST,),
+    ),
+    Row(
+        "refuse-join-without-names", MUST,
+        "a join with null for its topics (and no regular expression)",
+        "a join says what it subscribes",
+        "join",
+        {"names": None, "regex": None},
+        (INVALID_REQUEST,),
+    ),
+    Row(
+        "refuse-join-without-timeout", MUST,
+        "a join with rebalance timeout -1",
+        "a join says its rebalance timeout",
+        "join",
+        {"timeout": -1},
+        (INVALID_REQUEST,),
+    ),
+    Row(
+        "refuse-assignor", MUST,
+        "a join with an assignor that there isn't",
+        "UNSUPPORTED_ASSIGNOR",
+        "join",
+        {"assignor": NO_SUCH_ASSIGNOR},
+        (UNSUPPORTED_ASSIGNOR,),
+    ),
 )
 BEATS = (
-    Row("refuse-beat-without-id", MUST, "a heartbeat at epoch 1 without a member id", "only a join may lack the member id", "short", {"member": ""}, (INVALID_REQUEST, UNKNOWN_MEMBER_ID)),
-    Row("refuse-leave-without-id", MUST, "a leave without a member id", "only a join may lack the member id", "leave", {"member": ""}, (INVALID_REQUEST, UNKNOWN_MEMBER_ID)),
-    Row("refuse-away-without-instance", SHOULD, "epoch -2 without an instance id", "epoch -2 is for static members", "away", {"instance": None}, (INVALID_REQUEST, UNKNOWN_MEMBER_ID)),
-    Row("refuse-beat-assignor", MUST, "a heartbeat with an assignor that there isn't", "UNSUPPORTED_ASSIGNOR", "full", {"assignor": NO_SUCH_ASSIGNOR}, (UNSUPPORTED_ASSIGNOR,)),
+    Row(
+        "refuse-beat-without-id", MUST,
+        "a heartbeat at epoch 1 without a member id",
+        "only a join may lack the member id",
+        "short",
+        {"member": ""},
+        (INVALID_REQUEST, UNKNOWN_MEMBER_ID),
+    ),
+    Row(
+        "refuse-leave-without-id", MUST,
+        "a leave without a member id",
+        "only a join may lack the member id",
+        "leave",
+        {"member": ""},
+        (INVALID_REQUEST, UNKNOWN_MEMBER_ID),
+    ),
+    Row(
+        "refuse-away-without-instance", SHOULD,
+        "epoch -2 without an instance id",
+        "epoch -2 is for static members",
+        "away",
+        {"instance": None},
+        (INVALID_REQUEST, UNKNOWN_MEMBER_ID),
+    ),
+    Row(
+        "refuse-beat-assignor", MUST,
+        "a heartbeat with an assignor that there isn't",
+        "UNSUPPORTED_ASSIGNOR",
+        "full",
+        {"assignor": NO_SUCH_ASSIGNOR},
+        (UNSUPPORTED_ASSIGNOR,),
+    ),
 )
 
 
@@ -48,7 +108,10 @@ def changes_nothing(play: Play, member: Member) -> None:
     member.beat("full")
     member.release()
     play.want(member.epoch == epoch, f"a refused heartbeat took the group's member from epoch {epoch} to {member.epoch}")
-    play.want(member.owned == owned, f"after a refused heartbeat the group's member has {play.story.partitions(member.owned)}, and had {play.story.partitions(owned)}")
+    play.want(
+        member.owned == owned,
+        f"after a refused heartbeat the group's member has {play.story.partitions(member.owned)}, and had {play.story.partitions(owned)}",
+    )
 
 
 def add(row: Row, is_join: bool) -> None:
@@ -81,7 +144,11 @@ def refuse_join_owning(play: Play) -> None:
     changes_nothing(play, a)
 
 
-@case("refuse-again", VALIDATION, SHOULD, "a member is refused for its assignor, and joins again without it", "a refusal leaves nothing behind: the join is accepted, and there is one member")
+@case(
+    "refuse-again", VALIDATION, SHOULD,
+    "a member is refused for its assignor, and joins again without it",
+    "a refusal leaves nothing behind: the join is accepted, and there is one member",
+)
 def refuse_again(play: Play) -> None:
     a = play.member("a", id=new_id())
     reply = a.tries_to_join(assignor=NO_SUCH_ASSIGNOR)
@@ -90,7 +157,11 @@ def refuse_again(play: Play) -> None:
     play.settle(a)
 
 
-@case("odd-timeout", VALIDATION, FREE, "joins with rebalance timeouts 0 and -2", "KIP-848 asks for a positive one, and leaves open what a broker does")
+@case(
+    "odd-timeout", VALIDATION, FREE,
+    "joins with rebalance timeouts 0 and -2",
+    "KIP-848 asks for a positive one, and leaves open what a broker does",
+)
 def odd_timeout(play: Play) -> None:
     for timeout in (0, -2):
         reply = play.member(f"timeout {timeout}", id=new_id(), group=play.new_group()).tries_to_join(timeout=timeout)

@@ -167,7 +167,10 @@ def walk_static(play: Play) -> None:
             for other in it.members:
                 if other is not member and other.is_in and other not in it.behind and it.dice.random() < 0.5:
                     it.beats(other)
-                    play.want(not kept & other.owned, f"{play.story.partitions(kept & other.owned)} goes to {other.name} while {member.name} is away for a while")
+                    play.want(
+                        not kept & other.owned,
+                        f"{play.story.partitions(kept & other.owned)} goes to {other.name} while {member.name} is away for a while",
+                    )
             member.id = new_id()
 
         it.walks.append((0.15, away))
@@ -175,7 +178,11 @@ def walk_static(play: Play) -> None:
     walks(play, is_static=True, change=stays_away)
 
 
-@case("walk-commits", OFFSET_COMMITS, MUST, "the same, and members commit: at their epoch what they have, and late what they had", HOLDS + "; right commits are accepted, and late ones refused")
+@case(
+    "walk-commits", OFFSET_COMMITS, MUST,
+    "the same, and members commit: at their epoch what they have, and late what they had",
+    HOLDS + "; right commits are accepted, and late ones refused",
+)
 def walk_commits(play: Play) -> None:
     play.wants_commits()
 

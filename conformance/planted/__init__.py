@@ -3,6 +3,7 @@
     faults.txt  the faults, each an edit of the rules in Python (tools/rules) and the case that has to find it
     faults      reads them, and makes copies of the rules with one
     serve       answers frames by the rules in Python
+    known       the cases that fail without a planted fault
     stand       that, with the front end before it: a broker
     __main__    the command
 """

@@ -6,15 +6,17 @@ import argparse
 import concurrent.futures
 import contextlib
 import pathlib
+import random
 import signal
 import sys
 import tempfile
-from typing import List, NamedTuple, Sequence
+from typing import List, NamedTuple, Sequence, Set
 
 from conformance.broker import NoBroker
-from conformance.case import Case
+from conformance.case import FREE, Case
 from conformance.cases import load
 from conformance.planted.faults import RULES, BadFault, Fault, plant, read
+from conformance.planted.known import KNOWN
 from conformance.planted.stand import SESSION_SECONDS, Broken, end_all, over_rules
 from conformance.play import Settings
 from conformance.runner import FAILED, Runner
@@ -23,6 +25,8 @@ from conformance.starter import Starter
 TIMEOUT, PATIENCE = 5.0, 1.5
 # The session timeout where slow cases are played, and how much later its end may be noticed.
 SHORT_SESSION, LATE = 3.0, 3.0
+# After so many cases that failed no more are played against a fault.
+MOST_FAILED = 12
 
 
 class Found(NamedTuple):
@@ -38,7 +42,13 @@ def main(words: Sequence[str]) -> int:
     parser.add_argument("--only", nargs="+", metavar="FAULT", help="these faults alone")
     parser.add_argument("--named", action="store_true", help="plays only the case that has to find the fault")
     parser.add_argument("--jobs", type=int, default=2, metavar="N", help="so many at once (%(default)d)")
-    parser.add_argument("--serve", nargs="?", const="", metavar="FAULT", help="serves a broker with this fault, or with none, until a signal; prints HOST:PORT")
+    parser.add_argument(
+        "--serve",
+        nargs="?",
+        const="",
+        metavar="FAULT",
+        help="serves a broker with this fault, or with none, until a signal; prints HOST:PORT",
+    )
     options = parser.parse_args(words)
     faults = {fault.name: fault for fault in read()}
     missing = [name for name in [*(options.only or ()), *([options.serve] if options.serve else ())] if name not in faults]
@@ -62,25 +72,28 @@ def serve(faults: Sequence[Fault]) -> int:
 
 def show(faults: Sequence[Fault], cases: Sequence[Case], named: bool, jobs: int) -> int:
     """Status 0 where each fault is found by the case that names it."""
-    finders = {fault.case for fault in faults}
+    finders: Set[str] = set()
     unfound = 0
     with concurrent.futures.ThreadPoolExecutor(max(1, jobs)) as pool:
         for found in pool.map(lambda fault: try_fault(fault, cases, named), faults):
             is_found = found.fault.case in found.cases
             unfound += not is_found
+            finders |= {*found.cases}
             others = [name for name in found.cases if name != found.fault.case]
             print(f"{'found' if is_found else 'NOT FOUND'}  {found.fault.name}: {found.fault.words['is']}")
-            print(f"    by {found.fault.case}; {len(found.cases)} of {found.played} cases fail{': ' if others else ''}{' '.join(others[:8])}{' ..' if len(others) > 8 else ''}", flush=True)
+            print(f"    by {found.fault.case}; {len(found.cases)} of {found.played} cases fail{': ' if others else ''}{' '.join(others)}", flush=True)
     if not named:
-        print(f"cases that no planted fault names: {sum(case.name not in finders for case in cases)} of {len(cases)}")
+        print("cases that found none of these: " + " ".join(case.name for case in cases if case.name not in finders))
     print(f"{len(faults) - unfound} of {len(faults)} planted faults are found by the case that names them")
     return int(unfound > 0)
 
 
 def try_fault(fault: Fault, cases: Sequence[Case], named: bool) -> Found:
-    """Plays the fast cases, and the slow ones too where one of them has to find the fault."""
+    """Plays the case that has to find the fault, and then the others in any order; the slow ones too where one of them has to find it."""
     is_slow = next(case.is_slow for case in cases if case.name == fault.case)
-    chosen = [case for case in cases if case.name == fault.case or not named and (is_slow or not case.is_slow)]
+    first = [case for case in cases if case.name == fault.case]
+    others = [case for case in cases if case.name != fault.case and not named and (is_slow or not case.is_slow) and case.level != FREE]
+    random.Random(fault.name).shuffle(others)
     session = SHORT_SESSION if is_slow else SESSION_SECONDS
     with tempfile.TemporaryDirectory() as folder:
         plant(fault, pathlib.Path(folder))
@@ -88,8 +101,12 @@ def try_fault(fault: Fault, cases: Sequence[Case], named: bool) -> Found:
             settings = Settings(PATIENCE, session, LATE, f"kill -USR1 {stand.coordinators[0]}")
             host, _, port = stand.addresses[0].rpartition(":")
             runner = Runner(Starter((host, int(port)), None, TIMEOUT), settings, TIMEOUT, None, None)
-            results = runner.run(chosen, lambda _: None)
-    return Found(fault, [result.case.name for result in results if result.status == FAILED], len(chosen))
+            results = runner.run(first, lambda _: None)
+            results += runner.run_side_by_side([case for case in others if case.is_slow])
+            for case in others:
+                if not case.is_slow and sum(result.status == FAILED for result in results) < MOST_FAILED:
+                    results.append(runner.run_one(case))
+    return Found(fault, [result.case.name for result in results if result.status == FAILED and result.case.name not in KNOWN], len(results))
 
 
 if __name__ == "__main__":

@@ -43,9 +43,9 @@ class Stand(NamedTuple):
 def begin(stack: contextlib.ExitStack, words: Sequence[str], folder: pathlib.Path, lines: int = 1) -> Tuple[int, List[str]]:
     """Starts a program that ends with the stack. Gives its process id and its first lines."""
     # (The rules' server ends with its standard input.)
-    process = subprocess.Popen(
-        words, cwd=folder, stdin=subprocess.PIPE, stdout=subprocess.PIPE, stderr=subprocess.DEVNULL, env={**os.environ, "PYTHONDONTWRITEBYTECODE": "1"}
-    )
+    environment = {**os.environ, "PYTHONDONTWRITEBYTECODE": "1"}
+    pipe = subprocess.PIPE
+    process = subprocess.Popen(words, cwd=folder, stdin=pipe, stdout=pipe, stderr=subprocess.DEVNULL, env=environment)
     LIVE.add(process)
     stack.callback(end, process)
     assert process.stdout is not None

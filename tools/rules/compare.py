@@ -20,7 +20,7 @@ Lines = List[str]
 
 
 class Difference(NamedTuple):
-    """Where a program's run is not as it has to be: the input line's number (0: the report behind the last), both printed lines, and what else is wrong."""
+    """Where a program's run isn't as it has to be: the input line's number (0: behind the last), both printed lines, what else is wrong."""
 
     number: int
     wanted: Optional[str]
@@ -101,8 +101,9 @@ def gist(value: str) -> str:
 def ended(ran: "subprocess.CompletedProcess[bytes]") -> str:
     """What is wrong about how a program ended, or nothing."""
     said = ran.stderr.decode(errors="replace").strip()
-    how = f"it was ended by {signal.Signals(-ran.returncode).name}" if ran.returncode < 0 else f"it ended with status {ran.returncode}" if ran.returncode else ""
-    return "\n".join(each for each in (how, f"it printed on standard error: {cut(said)}" if said else "") if each)
+    words = [f"it was ended by {signal.Signals(-ran.returncode).name}"] if ran.returncode < 0 else []
+    words += [f"it ended with status {ran.returncode}"] if ran.returncode > 0 else []
+    return "\n".join(words + ([f"it printed on standard error: {cut(said)}"] if said else []))
 
 
 def cut(text: str) -> str:
@@ -173,7 +174,8 @@ def report(tool: Tool, lines: Lines) -> Iterable[str]:
         if wanted is None or found is None:
             yield f"    {'field':16}  wanted {cut(wanted or 'no line')}, found {cut(found or 'no line')}"
         else:
-            yield from (f"    {name:16}  wanted {cut(want)}, found {cut(have)}" for name, want, have in differing(tool.fields(line, wanted), tool.fields(line, found)))
+            rows = differing(tool.fields(line, wanted), tool.fields(line, found))
+            yield from (f"    {name:16}  wanted {cut(want)}, found {cut(have)}" for name, want, have in rows)
     yield from (f"  {each}" for each in what.splitlines())
 
 
