@@ -40,6 +40,8 @@ class Broker:
     seconds: float
     offered: Dict[int, Tuple[int, int]]
     topics: List[Topic]
+    # Where the brokers of its cluster listen.
+    nodes: List[Address] = dataclasses.field(default_factory=list)
     # Which version of the heartbeat is asked; None: the highest that both sides speak.
     wanted: Optional[int] = None
 
@@ -78,7 +80,7 @@ class Broker:
 
 def look(address: Address, seconds: float, wanted: Optional[int], names: Optional[Sequence[str]]) -> Broker:
     """Asks a broker for its versions and its topics. Raises NoBroker."""
-    broker = Broker(address, seconds, {}, [], wanted)
+    broker = Broker(address, seconds, {}, [], wanted=wanted)
     try:
         connection = broker.connect()
         try:
@@ -86,12 +88,12 @@ def look(address: Address, seconds: float, wanted: Optional[int], names: Optiona
             want_apis(broker)
             version = broker.version(METADATA)
             assert version is not None
-            found = read_metadata_reply(connection.ask(METADATA, version, metadata_fields(version, names)), version).topics
+            found = read_metadata_reply(connection.ask(METADATA, version, metadata_fields(version, names)), version)
         finally:
             connection.close()
     except (Lost, Unreadable) as why:
         raise NoBroker(str(why)) from None
-    broker.topics = chosen(found, names)
+    broker.topics, broker.nodes = chosen(found.topics, names), list(found.brokers.values())
     return broker
 
 

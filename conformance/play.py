@@ -302,6 +302,10 @@ class Member:
             self._connection = self.play.connect(self.play.broker.coordinator_of(self.group))
         return self._connection
 
+    def connects(self, address: Address) -> None:
+        """From now on it sends to a broker of the case's choice."""
+        self._connection = self.play.connect(address)
+
     def reconnect(self) -> None:
         if self._connection is not None:
             self._connection.close()

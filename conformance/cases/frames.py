@@ -449,7 +449,8 @@ def late_request(play: Play) -> None:
     a.join()
     play.settle(a)
     late = framed(head(play) + a.request("owned", owned=NOTHING).fields(play.version))
-    former, a._connection = a.connection, None
+    former = a.connection
+    a.connects(play.broker.coordinator_of(a.group))
     a.turn()
     former.send(late)
     code = fate(play, former)

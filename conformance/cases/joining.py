@@ -4,10 +4,11 @@ from __future__ import annotations
 
 from conformance.case import FREE, GROUP_EPOCH, HANDLING, MEMBER_EPOCH, MEMBER_ID, MUST, REQUEST, RESPONSE, SHOULD, case
 from conformance.cases.heartbeats import NO_SUCH_TOPIC
-from conformance.messages import NOTHING
+from conformance.messages import NOTHING, OFFSET_COMMIT
 from conformance.play import NotRun, Play, new_id
 from conformance.story import code_text
 
+NOT_COORDINATOR = 16
 
 
 @case("join-alone", HANDLING, MUST, "a member joins a group that isn't there", "it becomes a member, and gets all partitions of its topic")
@@ -160,14 +161,34 @@ def join_unknown_topic(play: Play) -> None:
 
 
 @case(
-    "join-empty-subscription", REQUEST, SHOULD,
+    "join-empty-subscription", REQUEST, FREE,
     "a member subscribes no topics: the list is empty, not null",
-    "it is a member with nothing assigned",
+    "a join says what it subscribes; whether that may be nothing is left open",
 )
 def join_empty_subscription(play: Play) -> None:
     a = play.member("a", names=[])
+    reply = a.tries_to_join()
+    play.note(f"a join that subscribes an empty list is answered with {code_text(reply.code)}, and {play.story.partitions(a.owned)} is assigned")
+
+
+@case(
+    "join-elsewhere", RESPONSE, MUST,
+    "a join, and a commit, to a broker that doesn't coordinate the group",
+    "NOT_COORDINATOR: the group is one broker's",
+)
+def join_elsewhere(play: Play) -> None:
+    others = [address for address in play.broker.nodes if address != play.broker.coordinator_of(play.group)]
+    if not others:
+        raise NotRun("it needs a cluster of two brokers or more")
+    a, lost = play.member("a"), play.member("lost", id=new_id())
     a.join()
-    play.want(not a.owned, f"it is assigned {play.story.partitions(a.owned)}")
+    play.settle(a)
+    lost.connects(others[0])
+    play.want_code("a join at another broker", lost.tries_to_join().code, NOT_COORDINATOR)
+    if play.broker.version(OFFSET_COMMIT) is not None:
+        found = play.commit(lost, {min(a.owned): 1}, a.epoch, a.id)
+        play.want_code("a commit at another broker", found[0], NOT_COORDINATOR)
+    a.turn()
 
 
 @case(
