@@ -117,8 +117,9 @@ class Play:
         return member
 
     def watch(self, group: str) -> Watch:
-        names = {topic.id: topic.name for topic in self.broker.topics}
-        return self._watches.setdefault(group, Watch(self.story, names))
+        if group not in self._watches:
+            self._watches[group] = Watch(self.story, self.broker.topics, self.settings.grow is not None)
+        return self._watches[group]
 
     def connect(self, address: Optional[Address] = None) -> Connection:
         connection = self.broker.connect(address)

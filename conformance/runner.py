@@ -17,6 +17,8 @@ from conformance.wire import Unreadable
 PASSED, FAILED, NOTED, NOT_RUN = "passed", "failed", "noted", "not run"
 # How long a broker that ends may still seem to be there.
 ENDING_SECONDS = 0.1
+# A broker that doesn't answer before so many cases isn't waited for any more.
+MOST_UNANSWERED = 5
 
 
 @dataclasses.dataclass
@@ -35,6 +37,8 @@ class Runner:
     def __init__(self, starter: Starter, settings: Settings, seconds: float, version: Optional[int], topics: Optional[Sequence[str]]) -> None:
         self.starter, self.settings = starter, settings
         self.seconds, self.version, self.topics = seconds, version, topics
+        # Before how many cases, one after the other, the broker couldn't be asked.
+        self.unanswered = 0
 
     def look(self) -> Broker:
         """The broker as it is now. Raises NoBroker."""
@@ -68,8 +72,12 @@ class Runner:
 
     def run_one(self, case: Case, restarts: bool = True) -> Result:
         try:
+            if self.unanswered >= MOST_UNANSWERED:
+                raise NoBroker(f"it hasn't answered before {MOST_UNANSWERED} cases one after the other, and isn't asked any more")
             broker = self.look()
+            self.unanswered = 0
         except NoBroker as why:
+            self.unanswered += 1
             return Result(case, FAILED, f"the broker can't be asked: {why}", MUST)
         began = time.monotonic()
         play = Play(case.name, broker, self.settings, case.is_slow)

@@ -28,16 +28,19 @@ class Starter:
         self.given, self.command, self.seconds = address, command, seconds
         self.process: Optional[subprocess.Popen[bytes]] = None
         self.found: Optional[Address] = None
+        # (Slow cases are played at once.)
+        self.starting = threading.Lock()
 
     def address(self) -> Address:
         """Where the broker listens. It is started where it isn't there. Raises NoBroker."""
         if self.command is None:
             assert self.given is not None
             return self.given
-        if self.found is None or self.has_ended():
-            self.end()
-            self.found = self._start(self.command)
-        return self.found
+        with self.starting:
+            if self.found is None or self.has_ended():
+                self.end()
+                self.found = self._start(self.command)
+            return self.found
 
     def has_ended(self) -> bool:
         """Whether the broker isn't there any more. (One that ends may still be there for a moment.)"""

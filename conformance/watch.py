@@ -7,9 +7,9 @@ until the member reports without it, joins anew, leaves, or is told that it is n
 from __future__ import annotations
 
 import dataclasses
-from typing import Dict, List, Optional, Set
+from typing import Dict, List, Optional, Sequence, Set
 
-from conformance.messages import AWAY, JOIN, LEAVE, NOTHING, Heartbeat, Partitions, Told
+from conformance.messages import AWAY, JOIN, LEAVE, NOTHING, Heartbeat, Partitions, Told, Topic
 from conformance.story import Story
 
 UNKNOWN_MEMBER_ID, FENCED_MEMBER_EPOCH = 25, 110
@@ -29,8 +29,9 @@ class Seen:
 
 
 class Watch:
-    def __init__(self, story: Story, topic_names: Dict[bytes, str]) -> None:
-        self.story, self.topic_names = story, topic_names
+    def __init__(self, story: Story, topics: Sequence[Topic], may_grow: bool) -> None:
+        """Topics that may grow can have more partitions than is known here."""
+        self.story, self.topics, self.may_grow = story, {topic.id: topic for topic in topics}, may_grow
         self.members: Dict[str, Seen] = {}
         # What was found, in words.
         self.faults: List[str] = []
@@ -96,6 +97,10 @@ class Watch:
                 self.fault(f"{self.story.partitions(both)} is assigned to {seen.name} while {it.name} may hold it: no partition has two members")
         if reply.is_listed_twice:
             self.fault(f"the assignment of {seen.name} lists a partition twice")
-        never = frozenset(each for each in shown if self.topic_names.get(each[0]) not in seen.topics)
+        known = {each: self.topics[each[0]] for each in shown if each[0] in self.topics}
+        never = frozenset(each for each in shown if each not in known or known[each].name not in seen.topics)
         if never:
             self.fault(f"{seen.name} is assigned {self.story.partitions(never)}, a topic that it never subscribed")
+        beyond = frozenset(each for each, topic in known.items() if not 0 <= each[1] < topic.count)
+        if beyond and not self.may_grow:
+            self.fault(f"{seen.name} is assigned {self.story.partitions(beyond)}, which its topic hasn't")

@@ -273,6 +273,18 @@ def commit_unknown_index(play: Play) -> None:
 
 
 @case(
+    "commit-metadata", GUIDE + ", OffsetCommit", FREE,
+    "commits with 4,096 and with 20,000 bytes of metadata",
+    "a broker may refuse what is long (OFFSET_METADATA_TOO_LARGE); Kafka's takes 4,096 bytes by default",
+)
+def commit_metadata(play: Play) -> None:
+    a, partition = committer(play)
+    for size in (4_096, 20_000):
+        results = play.send_commit(a, Commit(a.group, a.id, a.epoch, {play.topic().name: [(partition[1], 1, "m" * size)]}))
+        play.note(f"a commit with {size} bytes of metadata is answered with {code_text(results[0][2])}")
+
+
+@case(
     "commit-keeps-membership", OFFSET_COMMITS, MUST,
     "a member's commit is refused, and it beats on",
     "a refused commit changes nothing in the group",

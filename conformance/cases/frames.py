@@ -7,6 +7,7 @@ import time
 from typing import Callable, NamedTuple, Optional
 
 from conformance.case import COMPACT, FREE, GUIDE, MUST, SHOULD, TAGGED_FIELDS, case
+from conformance.cases.heartbeats import NO_SUCH_TOPIC
 from conformance.connection import Closed, Connection, Lost
 from conformance.messages import (
     API_VERSIONS,
@@ -229,6 +230,29 @@ def topic_ids(play: Play) -> None:
     found = read_metadata_reply(play.connect().ask(METADATA, version, metadata_fields(version, [topic.name])), version).topics
     play.want([each.id for each in found] == [topic.id], f"Metadata gives {topic.name} other ids from one time to the next")
     a = joiner(play)
+    a.join()
+    play.settle(a)
+
+
+@case(
+    "frame-long-names", GUIDE + ", primitive types", SHOULD,
+    "a member whose group id, member id, instance and rack have 240 characters each",
+    "the guide has texts of up to 32,767 bytes: it is a member as any other",
+)
+def frame_long_names(play: Play) -> None:
+    a = play.member("a", group=play.new_group().ljust(240, "g"), id=new_id().ljust(240, "m"), instance="i" * 240)
+    a.join(rack="r" * 240)
+    play.settle(a)
+
+
+@case(
+    "frame-many-subscriptions", GUIDE + ", primitive types", SHOULD,
+    "a member that subscribes a topic and 2,000 others that aren't there",
+    "an array may have so many: it is a member, and gets the one topic's partitions",
+)
+def frame_many_subscriptions(play: Play) -> None:
+    names = [f"{NO_SUCH_TOPIC}-{number}" for number in range(2_000)]
+    a = play.member("a", names=[play.topic().name, *names])
     a.join()
     play.settle(a)
 

@@ -245,6 +245,14 @@ def join_many(play: Play) -> None:
     play.settle(*members)
 
 
+@case("join-thirty", GROUP_EPOCH, MUST, "thirty members join, and beat until all is settled", "all are members, and each partition has one of them")
+def join_thirty(play: Play) -> None:
+    members = [play.member(f"m{number}") for number in range(1, 31)]
+    for member in members:
+        member.join()
+    play.settle(*members)
+
+
 @case("join-two-groups", HANDLING, MUST, "one member each joins two groups", "groups are apart: each member gets all partitions")
 def join_two_groups(play: Play) -> None:
     a, b = play.member("a"), play.member("b", group=play.new_group())
