@@ -26,7 +26,6 @@ from conformance.wire import Unreadable
 
 # COORDINATOR_LOAD_IN_PROGRESS, COORDINATOR_NOT_AVAILABLE, NOT_COORDINATOR: a client asks again.
 ASK_AGAIN = (14, 15, 16)
-UNSUPPORTED_VERSION = 35
 ASK_AGAIN_SECONDS = 0.1
 
 
@@ -114,13 +113,10 @@ def want_apis(broker: Broker) -> None:
 
 
 def chosen(found: List[Topic], names: Optional[Sequence[str]]) -> List[Topic]:
-    """The topics to play with: those that are told, or all, the one with the most partitions first."""
-    if names is not None:
-        by_name = {topic.name: topic for topic in found}
-        missing = [name for name in names if name not in by_name]
-        if missing:
-            raise NoBroker(f"it has no topic {missing[0]}")
-        return [by_name[name] for name in names]
+    """The topics to play with: those that are told, or all. The one with the most partitions is the first."""
+    missing = sorted({*(names or ())} - {topic.name for topic in found})
+    if missing:
+        raise NoBroker(f"it has no topic {missing[0]}")
     if not found:
         raise NoBroker("it has no topics; make one with four partitions or more, and another one")
     return sorted(found, key=lambda topic: (-topic.count, topic.name))

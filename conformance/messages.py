@@ -7,7 +7,7 @@ from typing import Dict, FrozenSet, List, Mapping, NamedTuple, Optional, Sequenc
 
 from conformance.wire import NO_TAGS, Reader, Unreadable, array, int8, int16, int32, int64, tags, text
 
-METADATA, OFFSET_COMMIT, OFFSET_FETCH, FIND_COORDINATOR, API_VERSIONS, CREATE_PARTITIONS, HEARTBEAT = 3, 8, 9, 10, 18, 37, 68
+METADATA, OFFSET_COMMIT, OFFSET_FETCH, FIND_COORDINATOR, API_VERSIONS, HEARTBEAT = 3, 8, 9, 10, 18, 68
 NAMES = {
     METADATA: "Metadata",
     OFFSET_COMMIT: "OffsetCommit",

@@ -11,7 +11,7 @@ from conformance.messages import OFFSET_COMMIT, OFFSET_FETCH, Commit, Partition
 from conformance.play import Member, NotRun, Play, new_id
 from conformance.story import code_text
 
-UNKNOWN_TOPIC_OR_PARTITION, UNKNOWN_MEMBER_ID, UNSUPPORTED_VERSION, GROUP_ID_NOT_FOUND, STALE_MEMBER_EPOCH = 3, 25, 35, 69, 113
+UNKNOWN_TOPIC_OR_PARTITION, UNKNOWN_MEMBER_ID, GROUP_ID_NOT_FOUND, STALE_MEMBER_EPOCH = 3, 25, 69, 113
 LATEST = 9
 
 

@@ -8,7 +8,7 @@ from conformance.case import FREE, MUST, SHOULD, VALIDATION, case
 from conformance.play import Member, Play, new_id
 from conformance.story import code_text
 
-INVALID_GROUP_ID, UNKNOWN_MEMBER_ID, INVALID_REQUEST, FENCED_INSTANCE_ID, UNSUPPORTED_ASSIGNOR = 24, 25, 42, 82, 112
+INVALID_GROUP_ID, UNKNOWN_MEMBER_ID, INVALID_REQUEST, UNSUPPORTED_ASSIGNOR = 24, 25, 42, 112
 NO_SUCH_ASSIGNOR = "conformance-no-such-assignor"
 
 

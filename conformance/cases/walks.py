@@ -14,7 +14,7 @@ from conformance.play import Member, NotRun, Play, new_id
 from conformance.story import code_text
 
 STEPS, WALKS = 60, 4
-FENCED_MEMBER_EPOCH, UNRELEASED_INSTANCE_ID = 110, 111
+FENCED_MEMBER_EPOCH = 110
 HOLDS = "no partition is two members', epochs never fall, no epoch rises before a report; in the end each has its part"
 
 

@@ -10,7 +10,7 @@ from rules.messages import Commit, read_request
 
 # The names of fields, with their values as texts.
 Fields = List[Tuple[str, str]]
-HEARTBEAT_KEY, COMMIT_KEY = 68, 8
+COMMIT_KEY = 8
 
 
 def partitions(entries: Optional[Iterable[Tuple[bytes, int]]]) -> str:
