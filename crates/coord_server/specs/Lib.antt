@@ -3,6 +3,8 @@ pub mod Ends
 pub mod Interrupted
 pub mod Plans
 pub mod Posts
+pub mod Reasons
+pub mod Resumes
 pub mod Rounds
 pub mod Silences
 pub mod Ticks

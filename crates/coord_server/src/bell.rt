@@ -1,6 +1,10 @@
 //! How the acceptor hears that threads have ended.
 use mio::Waker;
+use std::io;
 use std::sync::atomic::{AtomicBool, AtomicU64, Ordering};
+
+/// How often a call that is interrupted is made.
+const MOST_CALLS: u64 = 1_000;
 
 /// How the acceptor hears that threads have ended. Any thread may ring it, and each rings it once.
 #[derive(Drop)]
@@ -29,7 +33,17 @@ impl Bell {
         } else {
             self.ended.fetch_add(1, Ordering::SeqCst);
         }
-        let _ = self.waker.wake();
+        self.wake();
+    }
+
+    /// Ends the acceptor's wait. A call that is interrupted is made again.
+    fn wake(&self) {
+        for _ in 0..MOST_CALLS {
+            match self.waker.wake() {
+                Err(error) if error.kind() == io::ErrorKind::Interrupted => {}
+                _ => return,
+            }
+        }
     }
 
     /// How many threads have ended without a fault.

@@ -14,7 +14,7 @@ use crate::own_loop::OwnLoop;
 use crate::timed::Timed;
 use crate::works::Works;
 use link_futures::{Desk, ReadPart, WriteParts};
-use std::alloc::{AllocGlobal, Global};
+use std::alloc::AllocGlobal;
 use std::net::Net;
 use std::random::RandomSource;
 use std::time::Clock;
@@ -139,12 +139,12 @@ where
     ensures placed { ArePosts workers posts.old.items → OnOk result (ArePosts workers posts.new.items) }
 {
     let runtime = LocalRuntime::new(rt)?;
-    worker_on(rt.alloc(), runtime, desk, posts, workers, bell)
+    worker_on(rt, runtime, desk, posts, workers, bell)
 }
 
 /// The same, on its event loop.
-fn worker_on<'a, D, K, I, O>(
-    alloc: Global,
+fn worker_on<'a, D, R, K, I, O>(
+    rt: &R,
     runtime: LocalRuntime,
     desk: D,
     posts: &mut Vec<Post<K>>,
@@ -153,13 +153,14 @@ fn worker_on<'a, D, K, I, O>(
 ) -> Result<OwnLoop<'a, Works<K, I, O, D>>, ServerFault>
 where
     D: Desk,
+    R: Clock + AllocGlobal,
     K: Connection<I, O>,
     I: ReadPart,
     O: WriteParts,
     ensures more { OnOk result (vec_len posts.new ≡ vec_len posts.old + 1) }
     ensures placed { ArePosts workers posts.old.items → OnOk result (ArePosts workers posts.new.items) }
 {
-    match works_of(alloc, runtime.handle(), desk, posts, workers) {
+    match works_of(rt, runtime.handle(), desk, posts, workers) {
         Ok(future) => Ok(OwnLoop {
             runtime,
             future,
@@ -173,8 +174,8 @@ where
 }
 
 /// What the worker does.
-fn works_of<D, K, I, O>(
-    alloc: Global,
+fn works_of<D, R, K, I, O>(
+    rt: &R,
     handle: &Handle,
     desk: D,
     posts: &mut Vec<Post<K>>,
@@ -182,14 +183,15 @@ fn works_of<D, K, I, O>(
 ) -> Result<Works<K, I, O, D>, ServerFault>
 where
     D: Desk,
+    R: Clock + AllocGlobal,
     K: Connection<I, O>,
     I: ReadPart,
     O: WriteParts,
     ensures more { OnOk result (vec_len posts.new ≡ vec_len posts.old + 1) }
     ensures placed { ArePosts workers posts.old.items → OnOk result (ArePosts workers posts.new.items) }
 {
-    match arrivals_of(alloc, handle, posts, workers) {
-        Ok(arrivals) => Ok(Works::new(alloc, arrivals, desk)),
+    match arrivals_of(rt, handle, posts, workers) {
+        Ok(arrivals) => Ok(Works::new(rt.alloc(), arrivals, desk)),
         Err(fault) => Err(fault),
     }
 }

@@ -11,7 +11,6 @@ use coord_node::Answered;
 use coord_shards::{Answer, Event, Gate, Image, Moment, Seat, ShardFault, Shards, Stamp};
 use link_futures::{Desk, End, Moments};
 use std::alloc::{AllocError, Global};
-use std::io::Write;
 use std::sync::Wait;
 use std::sync::ledger::Ledger;
 
@@ -20,32 +19,24 @@ use std::sync::ledger::Ledger;
 ///
 /// A call that the shards refuse is want of memory: with a cap of 0 no journal is full.
 #[derive(Drop)]
-pub struct ShardsDesk<'a, A: Ledger, C: Ledger, G, M, R, W> {
+pub struct ShardsDesk<'a, A: Ledger, C: Ledger, G, M, R> {
     shards: &'a Shards<A, C, G>,
     seat: Seat<C>,
     moments: M,
-    log: &'a EndLog<W>,
+    log: &'a EndLog,
     rt: &'a R,
     alloc: Global,
 }
 
-impl<'a, A: Ledger, C: Ledger, G: Gate, M: Moments, R: Wait, W: Write> ShardsDesk<
-    'a,
-    A,
-    C,
-    G,
-    M,
-    R,
-    W,
-> {
+impl<'a, A: Ledger, C: Ledger, G: Gate, M: Moments, R: Wait> ShardsDesk<'a, A, C, G, M, R> {
     /// A desk over shards, with a new seat.
     pub fn new(
         rt: &'a R,
         alloc: Global,
         shards: &'a Shards<A, C, G>,
         moments: M,
-        log: &'a EndLog<W>,
-    ) -> Result<ShardsDesk<'a, A, C, G, M, R, W>, ShardFault>
+        log: &'a EndLog,
+    ) -> Result<ShardsDesk<'a, A, C, G, M, R>, ShardFault>
         ensures seat { IfOk result (λ desk. IsNewSeat desk.seat.number desk.seat) }
         ensures shards { IfOk result (λ desk. desk.shards.now ≡ shards.now) }
         ensures moments { IfOk result (λ desk. desk.moments ≡ moments) }
@@ -108,8 +99,8 @@ impl<'a, A: Ledger, C: Ledger, G: Gate, M: Moments, R: Wait, W: Write> ShardsDes
     }
 }
 
-impl<'a, A: Ledger, C: Ledger, G: Gate, M: Moments, R: Wait, W: Write> Desk
-    for ShardsDesk<'a, A, C, G, M, R, W> {
+impl<'a, A: Ledger, C: Ledger, G: Gate, M: Moments, R: Wait> Desk
+    for ShardsDesk<'a, A, C, G, M, R> {
     ghost use Rattle.coord_server.specs.Desks.{ShardsAnswer, ShardsLack};
 
     ghost answers = { λ d body stamp answer e. (e.shards ≡ d.shards) × ShardsAnswer M.hands d.shards.now d.seat d.moments body stamp answer e.seat e.moments };
@@ -123,7 +114,7 @@ impl<'a, A: Ledger, C: Ledger, G: Gate, M: Moments, R: Wait, W: Write> Desk
         out: &mut Vec<u8>,
     ) -> Result<Answered, AllocError> {
         let moment = self.moments.now();
-        self.shards.answer(
+        let answered = self.shards.answer(
             self.rt,
             self.alloc,
             &mut self.seat,
@@ -131,7 +122,12 @@ impl<'a, A: Ledger, C: Ledger, G: Gate, M: Moments, R: Wait, W: Write> Desk
             stamp,
             moment,
             out,
-        )
+        )?;
+        if answered == Answered::Closes {
+            self.log
+                .note_body(self.rt, self.alloc, stamp.connection, body);
+        }
+        Ok(answered)
     }
 
     /// Asks the gate.
@@ -139,14 +135,14 @@ impl<'a, A: Ledger, C: Ledger, G: Gate, M: Moments, R: Wait, W: Write> Desk
         self.shards.gate().may_reply(stamp)
     }
 
-    /// Writes the line of the log.
+    /// Has it written to the log.
     fn hear_end(&self, connection: u64, answered: u64, end: End) {
-        self.log.tell(self.rt, connection, answered, end);
+        self.log.note(self.rt, connection, answered, end);
     }
 }
 
-impl<'a, A: Ledger, C: Ledger, G: Gate, M: Moments, R: Wait, W: Write> Timed
-    for ShardsDesk<'a, A, C, G, M, R, W> {
+impl<'a, A: Ledger, C: Ledger, G: Gate, M: Moments, R: Wait> Timed
+    for ShardsDesk<'a, A, C, G, M, R> {
     ghost use Rattle.coord_shards.specs.declared.event.Event.TheVariants.{Tick};
 
     ghost hands = { λ d moment e. M.hands d.moments moment e.moments × (e ≡ record d { moments = e.moments }) };

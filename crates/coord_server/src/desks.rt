@@ -10,7 +10,6 @@ use crate::plan::Plan;
 use coord_shards::{Gate, Shards};
 use link_futures::Moments;
 use std::alloc::AllocGlobal;
-use std::io::Write;
 use std::sync::Wait;
 use std::sync::ledger::Ledger;
 
@@ -22,20 +21,19 @@ pub struct Desks<D> {
 }
 
 /// As many desks over shards as a plan asks for, each with a seat of its own.
-pub fn desks_of<'a, A, C, G, M, R, W>(
+pub fn desks_of<'a, A, C, G, M, R>(
     rt: &'a R,
     shards: &'a Shards<A, C, G>,
     moments: &M,
     plan: Plan,
-    log: &'a EndLog<W>,
-) -> Result<Desks<ShardsDesk<'a, A, C, G, M, R, W>>, ServerFault>
+    log: &'a EndLog,
+) -> Result<Desks<ShardsDesk<'a, A, C, G, M, R>>, ServerFault>
 where
     A: Ledger,
     C: Ledger,
     G: Gate,
     M: Moments + Clone,
     R: Wait + AllocGlobal,
-    W: Write,
     ensures { IfOk result (λ desks. IsPlanned plan (vec_len desks.workers) (vec_len desks.clocks)) }
 {
     let workers = seated_desks(rt, shards, moments, plan.workers, log)?;
@@ -44,20 +42,19 @@ where
 }
 
 /// Desks over shards, `number` of them, each with a seat of its own.
-fn seated_desks<'a, A, C, G, M, R, W>(
+fn seated_desks<'a, A, C, G, M, R>(
     rt: &'a R,
     shards: &'a Shards<A, C, G>,
     moments: &M,
     number: usize,
-    log: &'a EndLog<W>,
-) -> Result<Vec<ShardsDesk<'a, A, C, G, M, R, W>>, ServerFault>
+    log: &'a EndLog,
+) -> Result<Vec<ShardsDesk<'a, A, C, G, M, R>>, ServerFault>
 where
     A: Ledger,
     C: Ledger,
     G: Gate,
     M: Moments + Clone,
     R: Wait + AllocGlobal,
-    W: Write,
     ensures { IfOk result (λ desks. vec_len desks ≡ number) }
 {
     let mut desks = Vec::new(rt.alloc());
@@ -68,19 +65,18 @@ where
 }
 
 /// A desk over shards, with a seat of its own.
-fn desk_of<'a, A, C, G, M, R, W>(
+fn desk_of<'a, A, C, G, M, R>(
     rt: &'a R,
     shards: &'a Shards<A, C, G>,
     moments: &M,
-    log: &'a EndLog<W>,
-) -> Result<ShardsDesk<'a, A, C, G, M, R, W>, ServerFault>
+    log: &'a EndLog,
+) -> Result<ShardsDesk<'a, A, C, G, M, R>, ServerFault>
 where
     A: Ledger,
     C: Ledger,
     G: Gate,
     M: Moments + Clone,
     R: Wait + AllocGlobal,
-    W: Write,
 {
     let moments = moments.clone()?;
     Ok(ShardsDesk::new(rt, rt.alloc(), shards, moments, log)?)

@@ -6,6 +6,7 @@ ghost use Rattle.futures.specs.Poll.{IfReady, OnPending};
 ghost use Rattle.tokio.specs.Timers.{sleep_source, interval_delay, interval_period, missed_tick_behavior as behavior_of};
 
 use crate::fault::ServerFault;
+use crate::resumable::Resumable;
 use crate::timed::Timed;
 use coord_shards::Moment;
 use futures::Future;
@@ -31,7 +32,7 @@ pub struct Expiry<D> {
     last: Moment,
 }
 
-/// The instants of rounds: the first at once, and each 500 ms after the last one was seen.
+/// Instants: the first at once, and each 500 ms after the last one was seen.
 pub fn ticks_of(clock: &impl Clock, timers: &Handle) -> io::Result<Interval>
     ensures period { IfOk result (λ ticks. as_nanos (interval_period ticks) ≡ 500 * 1_000_000) }
     ensures delays { IfOk result (λ ticks. behavior_of ticks ≡ MissedTickBehavior.Delay) }
@@ -107,4 +108,10 @@ impl<D: Timed> Future for Expiry<D> {
             Poll::Pending => Poll::Pending,
         }
     }
+}
+
+impl<D: Timed> Resumable for Expiry<D> {
+    ghost can_go_on = { λ _. tt };
+
+    ghost gives_the_same = { λ _ _ _ given. given };
 }

@@ -4,16 +4,26 @@ ghost use Rattle.coord_server.specs.Ends.{EndsAs};
 
 use crate::bell::Bell;
 use crate::fault::ServerFault;
+use crate::resumable::Resumable;
 use futures::Future;
 use futures::future::Aborted;
 use std::alloc::AllocGlobal;
-use std::io;
 use std::random::RandomSource;
 use std::snapshot::Snapshot;
 use std::sync::Wait;
 use std::thread::Promise;
-use std::time::Clock;
+use std::time::{Clock, Duration, Instant};
+use std::{io, thread};
 use tokio::runtime::LocalRuntime;
+
+/// For how many milliseconds a loop that lacks memory rests before it goes on.
+const PAUSE: u64 = 50;
+
+/// How often in a row it goes on before it fails: for some ten seconds.
+const MOST_TRIES: u64 = 200;
+
+/// A loop that has run for so many seconds since it went on doesn't fail in a row.
+const LONG_RUN: u64 = 1;
 
 /// What a worker or an expiry worker ends with: how many connections have ended, or its fault.
 pub type Ended = Result<u64, ServerFault>;
@@ -37,21 +47,21 @@ impl<B: Future<Output = Ended>> Promise<Result<Option<u64>, ServerFault>> for Gi
     ghost kept_by = { λ p r. IfOk r (λ ended. IfSome ended (λ n. B.gives p.0.value (Ok n))) };
 }
 
-impl<'a, B: Future<Output = Outcome>> OwnLoop<'a, B> {
+impl<'a, B: Resumable<Output = Outcome> + Drop> OwnLoop<'a, B> {
     /// Runs the future on this thread until it is ready, and rings the bell. Gives what the future gives, or none where it was told
     /// to stop.
     pub fn run<R>(self, rt: &R) -> Result<Option<u64>, ServerFault>
     where
         R: Wait + Clock + RandomSource + AllocGlobal,
-        requires { B.can_poll self.future }
         ensures { IfOk result (λ ended. IfSome ended (λ n. B.gives self.entry.future (Ok (Ok n)))) }
     {
         let OwnLoop {
             mut runtime,
-            future,
+            mut future,
             bell,
         } = self;
-        let ended = end_of(runtime.block_on(rt, future));
+        let ended = end_of(run_on(rt, &mut runtime, &mut future));
+        drop(future);
         drop(runtime);
         bell.ring(ended.is_err());
         ended
@@ -67,5 +77,50 @@ fn end_of(ran: io::Result<Outcome>) -> Result<Option<u64>, ServerFault>
         Ok(Ok(Err(fault))) => Err(fault),
         Ok(Err(_)) => Ok(None),
         Err(error) => Err(ServerFault::Loop(error)),
+    }
+}
+
+/// Runs a future on a loop until it is ready. Where memory is short the loop goes on after a pause, and fails only where that doesn't help.
+fn run_on<R, B>(rt: &R, runtime: &mut LocalRuntime, future: &mut B) -> io::Result<B::Output>
+where
+    R: Wait + Clock + RandomSource + AllocGlobal,
+    B: Resumable,
+    ensures { (state : B) → IfOk result (B.gives state) }
+{
+    let mut tries = 0_u64;
+    for _ in rt.forever() {
+        let began = Instant::now(rt).ok();
+        let error = match run_once(rt, runtime, future) {
+            Ok(output) => return Ok(output),
+            Err(error) => error,
+        };
+        let before = if was_long(rt, began) { 0 } else { tries };
+        tries = before.saturating_add(1);
+        if error.kind() != io::ErrorKind::OutOfMemory || tries == MOST_TRIES {
+            return Err(error);
+        }
+        thread::sleep(rt, Duration::from_millis(PAUSE));
+    }
+    unreachable!()
+}
+
+/// Runs a future on a loop until it is ready, or the loop fails.
+fn run_once<R, B>(rt: &R, runtime: &mut LocalRuntime, future: &mut B) -> io::Result<B::Output>
+where
+    R: Wait + Clock + RandomSource + AllocGlobal,
+    B: Resumable,
+    ensures { (state : B) → IfOk result (B.gives state) }
+{
+    runtime.block_on(rt, future)
+}
+
+/// Whether more than a second has passed since then.
+fn was_long(clock: &impl Clock, began: Option<Instant>) -> bool {
+    let Some(began) = began else {
+        return false;
+    };
+    match began.elapsed(clock) {
+        Ok(elapsed) => elapsed > Duration::from_secs(LONG_RUN),
+        Err(_) => false,
     }
 }

@@ -20,7 +20,6 @@ use crate::works::Works;
 use coord_shards::{Gate, Shards};
 use link_futures::{Desk, Moments, ReadPart, WriteParts};
 use std::alloc::AllocGlobal;
-use std::io::Write;
 use std::net::{Net, TcpListener};
 use std::random::RandomSource;
 use std::sync::Wait;
@@ -31,14 +30,14 @@ use std::time::Clock;
 /// Serves the connections of a listening socket over shards, until as many have ended as the plan says. Gives their number.
 ///
 /// It announces that it serves once all its threads are there, and logs each end of a connection.
-pub fn serve_sockets<A, C, G, M, R, N, W>(
+pub fn serve_sockets<A, C, G, M, R, N>(
     rt: &R,
     shards: &Shards<A, C, G>,
     socket: TcpListener,
     moments: &M,
     plan: Plan,
     announce: N,
-    log: &EndLog<W>,
+    log: &EndLog,
 ) -> Result<u64, ServerFault>
 where
     A: Ledger + Send + Sync,
@@ -47,22 +46,21 @@ where
     M: Moments + Clone + Send,
     R: Wait + Threads + Clock + Net + RandomSource + AllocGlobal + Sync,
     N: Announce,
-    W: Write + Send,
     ensures { IfOk result (λ served. served ≡ plan.connections) }
 {
-    let incoming = Listener::of(rt, socket, plan.idle)?;
+    let incoming = Listener::of(rt, socket, plan.idle, log)?;
     serve(rt, shards, incoming, moments, plan, announce, log)
 }
 
 /// Serves connections over shards, until as many have ended as the plan says. Gives their number.
-pub fn serve<A, C, G, M, R, S, K, I, O, N, W>(
+pub fn serve<A, C, G, M, R, S, K, I, O, N>(
     rt: &R,
     shards: &Shards<A, C, G>,
     incoming: S,
     moments: &M,
     plan: Plan,
     announce: N,
-    log: &EndLog<W>,
+    log: &EndLog,
 ) -> Result<u64, ServerFault>
 where
     A: Ledger + Send + Sync,
@@ -75,7 +73,6 @@ where
     I: ReadPart + Send,
     O: WriteParts + Send,
     N: Announce,
-    W: Write + Send,
     ensures { IfOk result (λ served. served ≡ plan.connections) }
 {
     let desks = desks_of(rt, shards, moments, plan, log)?;

@@ -10,6 +10,7 @@ use crate::entrance::Incoming;
 use crate::fault::ServerFault;
 use crate::own_loop::{Ended, Gives, OwnLoop};
 use crate::plan::Plan;
+use crate::resumable::Resumable;
 use futures::Future;
 use futures::future::{AbortHandle, Abortable, abortable};
 use std::alloc::{AllocGlobal, Global};
@@ -97,23 +98,19 @@ pub fn run_beside<'a, R, B, E, S, K, N>(
 ) -> Result<u64, ServerFault>
 where
     R: Wait + Threads + Clock + RandomSource + AllocGlobal + Sync,
-    B: Future<Output = Ended> + Send,
-    E: Future<Output = Ended> + Send,
+    B: Resumable<Output = Ended> + Send,
+    E: Resumable<Output = Ended> + Send,
     S: Incoming<K>,
     K: Drop,
     N: Announce,
-    requires workers { All (λ own. B.can_poll own.future) crew.workers.items }
-    requires clocks { All (λ own. E.can_poll own.future) crew.clocks.items }
-    requires all { IsPlanned plan (vec_len crew.workers) (vec_len crew.clocks) }
+    requires { IsPlanned plan (vec_len crew.workers) (vec_len crew.clocks) }
     ensures { IfOk result (λ accepted. accepted ≡ acceptor.entry.most) }
 {
     thread::scope(
         thread::scope_env(),
         rt,
         move |scope| -> Result<u64, ServerFault>
-            requires workers { All (λ own. B.can_poll own.future) crew.workers.items }
-            requires clocks { All (λ own. E.can_poll own.future) crew.clocks.items }
-            requires all { IsPlanned plan (vec_len crew.workers) (vec_len crew.clocks) }
+            requires { IsPlanned plan (vec_len crew.workers) (vec_len crew.clocks) }
             ensures { IfOk result (λ accepted. accepted ≡ acceptor.entry.most) }
         { run_in(rt, scope, plan, crew, acceptor, announce) },
     )
@@ -130,14 +127,12 @@ fn run_in<'s, 'a: 's, V, R, B, E, S, K, N>(
 ) -> Result<u64, ServerFault>
 where
     R: Wait + Threads + Clock + RandomSource + AllocGlobal + Sync,
-    B: Future<Output = Ended> + Send + 's,
-    E: Future<Output = Ended> + Send + 's,
+    B: Resumable<Output = Ended> + Send + 's,
+    E: Resumable<Output = Ended> + Send + 's,
     S: Incoming<K>,
     K: Drop,
     N: Announce,
-    requires workers { All (λ own. B.can_poll own.future) crew.workers.items }
-    requires clocks { All (λ own. E.can_poll own.future) crew.clocks.items }
-    requires all { IsPlanned plan (vec_len crew.workers) (vec_len crew.clocks) }
+    requires { IsPlanned plan (vec_len crew.workers) (vec_len crew.clocks) }
     ensures { IfOk result (λ accepted. accepted ≡ acceptor.entry.most) }
 {
     match start_crew(rt, scope, crew) {
@@ -224,10 +219,8 @@ fn start_crew<'s, 'a: 's, V, R, B, E>(
 ) -> Result<Running<B, E>, ServerFault>
 where
     R: Wait + Clock + RandomSource + AllocGlobal + Sync,
-    B: Future<Output = Ended> + Send + 's,
-    E: Future<Output = Ended> + Send + 's,
-    requires workers { All (λ own. B.can_poll own.future) crew.workers.items }
-    requires clocks { All (λ own. E.can_poll own.future) crew.clocks.items }
+    B: Resumable<Output = Ended> + Send + 's,
+    E: Resumable<Output = Ended> + Send + 's,
     ensures workers { IfOk result (λ running. vec_len running.workers ≡ vec_len crew.entry.workers) }
     ensures clocks { IfOk result (λ running. vec_len running.clocks ≡ vec_len crew.entry.clocks) }
 {
@@ -251,8 +244,7 @@ fn start_all<'s, 'a: 's, V, R, B>(
 ) -> Result<Vec<Thread<B>>, ServerFault>
 where
     R: Wait + Clock + RandomSource + AllocGlobal + Sync,
-    B: Future<Output = Ended> + Send + 's,
-    requires { All (λ own. B.can_poll own.future) loops.items }
+    B: Resumable<Output = Ended> + Send + 's,
     ensures each { IfOk result (λ threads. map (λ thread. thread.promise.0.value) threads.items ≡ map (λ own. own.future) loops.entry.items) }
     ensures len { IfOk result (λ threads. vec_len threads ≡ vec_len loops.entry) }
 {
@@ -272,8 +264,7 @@ fn start<'s, 'a: 's, V, R, B>(
 ) -> Result<Thread<B>, ServerFault>
 where
     R: Wait + Clock + RandomSource + AllocGlobal + Sync,
-    B: Future<Output = Ended> + Send + 's,
-    requires { B.can_poll own.future }
+    B: Resumable<Output = Ended> + Send + 's,
     ensures { IfOk result (λ thread. thread.promise.0.value ≡ own.entry.future) }
 {
     let promise = Gives(Snapshot::of(&own.future));
@@ -290,9 +281,8 @@ fn spawn<'s, 'a: 's, V, R, B>(
 ) -> Result<Thread<B>, ServerFault>
 where
     R: Wait + Clock + RandomSource + AllocGlobal + Sync,
-    B: Future<Output = Ended> + Send + 's,
-    requires ready { B.can_poll own.future.task }
-    requires same { own.future.task ≡ promise.0.value }
+    B: Resumable<Output = Ended> + Send + 's,
+    requires { own.future.task ≡ promise.0.value }
     ensures { IfOk result (λ thread. thread.promise ≡ promise) }
 {
     made(scope.spawn_with(promise, move || own.run(rt)))

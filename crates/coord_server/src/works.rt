@@ -4,6 +4,7 @@ ghost use Rattle.std.specs.Prelude.{◌≡◌, IsOk};
 use crate::arrivals::Arrivals;
 use crate::connection::Connection;
 use crate::fault::ServerFault;
+use crate::resumable::Resumable;
 use futures::Future;
 use futures::task::{Context, Poll};
 use link_futures::{Desk, ReadPart, Worker, WriteParts};
@@ -37,4 +38,10 @@ impl<K: Connection<I, O>, I: ReadPart, O: WriteParts, D: Desk> Future for Works<
             Poll::Pending => Poll::Pending,
         }
     }
+}
+
+impl<K: Connection<I, O>, I: ReadPart, O: WriteParts, D: Desk> Resumable for Works<K, I, O, D> {
+    ghost can_go_on = { λ _. tt };
+
+    ghost gives_the_same = { λ _ _ _ given. given };
 }

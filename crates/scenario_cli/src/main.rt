@@ -31,6 +31,6 @@ fn main(rt: HostRuntime) -> ExitCode {
     );
     ExitCode::from(match ran {
         Ran::Ended(status) => status,
-        Ran::Serves(service) => serve::serve(&rt, service, &mut stdout, &mut stderr),
+        Ran::Serves(service) => serve::serve(&rt, service, &mut stdout, rt.stderr()),
     })
 }

@@ -11,7 +11,7 @@ use std::collections::hash_map::RandomState;
 use std::io;
 use std::io::Write;
 use std::marker::Brand;
-use std::net::{Ipv4Addr, Net, TcpListener, TcpStream};
+use std::net::{Ipv4Addr, Net, SocketAddr, SocketAddrV4, TcpListener};
 use std::random::RandomSource;
 use std::sync::Wait;
 use std::sync::ledger::{Blank, Ledger};
@@ -38,66 +38,79 @@ pub enum ServeFault {
     Server(ServerFault),
 }
 
-/// Serves as it is asked to, over sockets of this machine. What is printed goes to the writer; a fault is told, and so are connections that
-/// have ended, where that is asked for. Gives the program's status: 0 once the connections have ended, 1 after a fault (ours).
-pub fn serve<R, W: Write, E: Write + Send>(
-    rt: &R,
-    service: Service,
-    writer: &mut W,
-    told: &mut E,
-) -> u8
+/// Serves as it is asked to, over sockets of this machine. What is printed goes to the writer. A fault is written to `errors`, and so are
+/// the ends of connections, where that is asked for. Gives the program's status: 0 once the connections have ended, 1 after a fault (ours).
+pub fn serve<R, W, E>(rt: &R, service: Service, writer: &mut W, errors: E) -> u8
 where
-    R: Wait
-        + Threads
-        + Clock
-        + Net<Listener = TcpListener, Stream = TcpStream>
-        + RandomSource
-        + AllocGlobal
-        + Sync,
+    R: Wait + Threads + Clock + Net + RandomSource + AllocGlobal + Copy + Send + Sync + 'static,
+    W: Write,
+    E: Write + Copy + Send + 'static,
     ensures { result ≤ 1 }
 {
-    match serve_port(rt, &service, writer, &mut *told) {
+    let log = match log_of(rt, &service, errors) {
+        Ok(log) => log,
+        Err(fault) => return status_of(errors, Err(ServeFault::from(fault)), true),
+    };
+    let ended = serve_port(rt, &service, writer, &log);
+    let is_written = log.close(rt);
+    status_of(errors, ended, is_written)
+}
+
+/// The log that is asked for.
+fn log_of<R, E>(rt: &R, service: &Service, errors: E) -> Result<EndLog, ServerFault>
+where
+    R: Wait + Threads + AllocGlobal + Copy + Send + 'static,
+    E: Write + Drop + Send + 'static,
+{
+    if service.logs {
+        EndLog::start(rt, errors)
+    } else {
+        Ok(EndLog::none())
+    }
+}
+
+/// The program's status. A fault is written, unless the log's last lines can't be: then nobody reads there.
+fn status_of<E: Write + Drop>(mut errors: E, ended: Result<(), ServeFault>, is_read: bool) -> u8
+    ensures { result ≤ 1 }
+{
+    match ended {
         Ok(()) => 0,
         Err(fault) => {
-            let _ = writeln!(told, "{fault}");
+            if is_read {
+                let _ = writeln!(errors, "{fault}");
+            }
             1
         }
     }
 }
 
 /// Listens on a port of 127.0.0.1, and serves there.
-fn serve_port<R, W: Write, E: Write + Send>(
+fn serve_port<R, W: Write>(
     rt: &R,
     service: &Service,
     writer: &mut W,
-    told: &mut E,
+    log: &EndLog,
 ) -> Result<(), ServeFault>
 where
-    R: Wait
-        + Threads
-        + Clock
-        + Net<Listener = TcpListener, Stream = TcpStream>
-        + RandomSource
-        + AllocGlobal
-        + Sync,
+    R: Wait + Threads + Clock + Net + RandomSource + AllocGlobal + Sync,
 {
     let keys = RandomState::new(rt).map_err(ServeFault::Keys)?;
     let socket = listen(rt, service.port)?;
     match ClockMoments::start(rt) {
-        Ok(moments) => serve_listening(rt, service, keys, socket, &moments, writer, told),
+        Ok(moments) => serve_listening(rt, service, keys, socket, &moments, writer, log),
         Err(error) => Err(ServeFault::Clock(error)),
     }
 }
 
 /// Prints that the server listens once it serves, serves the connections of a socket, and prints how many there were.
-fn serve_listening<R, W: Write, E: Write + Send>(
+fn serve_listening<R, W: Write>(
     rt: &R,
     service: &Service,
     keys: RandomState,
     socket: TcpListener,
     moments: &ClockMoments<'_, R>,
     writer: &mut W,
-    told: &mut E,
+    log: &EndLog,
 ) -> Result<(), ServeFault>
 where
     R: Wait + Threads + Clock + Net + RandomSource + AllocGlobal + Sync,
@@ -106,48 +119,43 @@ where
         writer: &mut *writer,
         port: service.port,
     };
-    let log = EndLog::new(if service.logs { Some(told) } else { None });
-    let served = serve_socket(rt, service, keys, socket, moments, listening, &log);
-    drop(log);
-    Ok(print(writer, "served", served?)?)
+    let served = serve_socket(rt, service, keys, socket, moments, listening, log)?;
+    Ok(print(writer, "served", served)?)
 }
 
-/// Listens on a port of 127.0.0.1.
-fn listen<R>(rt: &R, port: u16) -> Result<TcpListener, ServeFault>
-where
-    R: Net<Listener = TcpListener, Stream = TcpStream>,
-{
-    match TcpListener::bind(rt, (Ipv4Addr::LOCALHOST, port)) {
-        Ok(socket) => Ok(socket),
+/// Listens on a port of 127.0.0.1. As many connections may wait to be accepted as the system allows, which a bind of `std` doesn't ask for.
+fn listen<R: Net>(rt: &R, port: u16) -> Result<TcpListener, ServeFault> {
+    let address = SocketAddr::V4(SocketAddrV4::new(Ipv4Addr::LOCALHOST, port));
+    match mio::net::TcpListener::bind(rt, address) {
+        Ok(socket) => Ok(TcpListener::from(socket)),
         Err(error) => Err(ServeFault::Port(port, error)),
     }
 }
 
 /// Serves the connections of a socket over new shards, whose salt is the first moment. Gives their number.
-fn serve_socket<R, N, E>(
+fn serve_socket<R, N>(
     rt: &R,
     service: &Service,
     keys: RandomState,
     socket: TcpListener,
     moments: &ClockMoments<'_, R>,
     announce: N,
-    log: &EndLog<E>,
+    log: &EndLog,
 ) -> Result<u64, ServerFault>
 where
     R: Wait + Threads + Clock + Net + RandomSource + AllocGlobal + Sync,
     N: Announce,
-    E: Write + Send,
     ensures { IfOk result (λ served. served ≡ service.now.connections) }
 {
     let (salt, shards) = (moments.first().millis(), service.shards as u64);
     let (entries, calls) = (Blank::new(2 * shards), Blank::new(SEATS + shards));
-    serve_over::<Brand, Brand, _, R, _, _>(
+    serve_over::<Brand, Brand, _, R, _>(
         rt, service, keys, salt, socket, moments, entries, calls, announce, log,
     )
 }
 
 /// Serves the connections of a socket over new shards with a salt. Gives their number.
-fn serve_over<A, C, M, R, N, E>(
+fn serve_over<A, C, M, R, N>(
     rt: &R,
     service: &Service,
     keys: RandomState,
@@ -157,7 +165,7 @@ fn serve_over<A, C, M, R, N, E>(
     entries: Blank,
     calls: Blank,
     announce: N,
-    log: &EndLog<E>,
+    log: &EndLog,
 ) -> Result<u64, ServerFault>
 where
     A: Ledger + Send + Sync,
@@ -165,7 +173,6 @@ where
     M: Moments + Clone + Send,
     R: Wait + Threads + Clock + Net + RandomSource + AllocGlobal + Sync,
     N: Announce,
-    E: Write + Send,
     requires entries { (entries.name ≡ A.name) × (entries.parts ≡ A.parts) × (entries.parts ≡ 2 * service.now.shards) }
     requires calls { (calls.name ≡ C.name) × (calls.parts ≡ C.parts) × (calls.parts ≡ 256 + service.now.shards) }
     ensures { IfOk result (λ served. served ≡ service.now.connections) }
@@ -177,14 +184,14 @@ where
 }
 
 /// Gives the shards their topics, and serves the connections of a socket over them. Gives their number.
-fn serve_shards<A, C, M, R, N, E>(
+fn serve_shards<A, C, M, R, N>(
     rt: &R,
     service: &Service,
     shards: &Shards<A, C, AlwaysOpen>,
     socket: TcpListener,
     moments: &M,
     announce: N,
-    log: &EndLog<E>,
+    log: &EndLog,
 ) -> Result<u64, ServerFault>
 where
     A: Ledger + Send + Sync,
@@ -192,7 +199,6 @@ where
     M: Moments + Clone + Send,
     R: Wait + Threads + Clock + Net + RandomSource + AllocGlobal + Sync,
     N: Announce,
-    E: Write + Send,
     ensures { IfOk result (λ served. served ≡ service.now.connections) }
 {
     set_image(rt, shards, moments, &service.image, log)?;
@@ -237,19 +243,18 @@ where
 }
 
 /// Gives every shard its topics.
-fn set_image<A, C, M, R, E>(
+fn set_image<A, C, M, R>(
     rt: &R,
     shards: &Shards<A, C, AlwaysOpen>,
     moments: &M,
     image: &Image,
-    log: &EndLog<E>,
+    log: &EndLog,
 ) -> Result<(), ServerFault>
 where
     A: Ledger,
     C: Ledger,
     M: Moments + Clone,
     R: Wait + AllocGlobal,
-    E: Write,
 {
     let mut desk = ShardsDesk::new(rt, rt.alloc(), shards, moments.clone()?, log)?;
     let is_set = desk.set_image(image);

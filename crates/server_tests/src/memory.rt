@@ -2,10 +2,10 @@
 ghost use Rattle.std.specs.Prelude.{◌≡◌, ◌<◌};
 
 use crate::gates::Watched;
-use crate::server::{Told, Unheard, shards_over, unlogged};
+use crate::server::{Told, Unheard, shards_over};
 use bytes::BytesMut;
 use coord_server::{
-    ClockMoments, Incoming, Moments, Plan, Registry, ServerFault, Shards, Token, serve,
+    ClockMoments, EndLog, Incoming, Moments, Plan, Registry, ServerFault, Shards, Token, serve,
 };
 use futures::task::Poll;
 use futures::test::MockTask;
@@ -84,7 +84,15 @@ where
 {
     let (lines, far_ends) = lines_of(rt.alloc(), frames)?;
     let incoming = Listed { lines };
-    let served = serve(rt, shards, incoming, moments, plan, Unheard, &unlogged())?;
+    let served = serve(
+        rt,
+        shards,
+        incoming,
+        moments,
+        plan,
+        Unheard,
+        &EndLog::none(),
+    )?;
     let right = right_replies(rt, far_ends)?;
     Ok((served, right, shards.gate().was_late()))
 }

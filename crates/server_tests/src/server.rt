@@ -65,11 +65,6 @@ impl Announce for Unheard {
     }
 }
 
-/// A log of ends that goes nowhere.
-pub fn unlogged() -> EndLog<Vec<u8>> {
-    EndLog::new(None)
-}
-
 /// What comes of a server: how many connections it has served, how many of their replies were right, and whether a thread was held up
 /// for too long.
 pub type Told = (u64, usize, bool);
@@ -210,7 +205,7 @@ where
     let (alloc, gate, order) = (rt.alloc(), shards.gate(), client.order);
     let (served, right) = thread::join(
         rt,
-        move || serve_sockets(rt, shards, socket, moments, plan, Unheard, &unlogged()),
+        move || serve_sockets(rt, shards, socket, moments, plan, Unheard, &EndLog::none()),
         move || read_all(alloc, gate, connections, order),
     );
     Ok((served?, right?, gate.was_late()))
@@ -277,7 +272,7 @@ where
 {
     let moments = moments.clone()?;
     let image = image(rt.alloc())?;
-    give_image(rt, shards, moments, &image, &unlogged())
+    give_image(rt, shards, moments, &image, &EndLog::none())
 }
 
 fn give_image<A, C, G, M, R>(
@@ -285,7 +280,7 @@ fn give_image<A, C, G, M, R>(
     shards: &Shards<A, C, G>,
     moments: M,
     image: &Image,
-    log: &EndLog<Vec<u8>>,
+    log: &EndLog,
 ) -> Result<(), ServerFault>
 where
     A: Ledger,

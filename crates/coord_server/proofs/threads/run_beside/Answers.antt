@@ -7,17 +7,11 @@ use Rattle.coord_server.proofs.threads.run_beside.Goals as goal
 pub scoped-requires : goal.scoped-requires
 scoped-requires g c = record {
   at = λ a. (
-    c.requires.workers,
+    c.requires,
     (
-      c.requires.clocks,
-      (
-        c.requires.all,
-        (
-          record { owned = c.type_bounds.send-B.owned; leaving = λ k. Quiet-if (k (of_param 1)) unseen unseen (λ x w. tt) (λ x w. tt) },
-          record { owned = c.type_bounds.send-E.owned; leaving = λ k. Quiet-if (k (of_param 2)) unseen unseen (λ x w. tt) (λ x w. tt) },
-          record { shared = c.type_bounds.sync-R.shared },
-        ),
-      ),
+      record { owned = c.type_bounds.send-B.owned; leaving = λ k. Quiet-if (k (of_param 1)) unseen unseen (λ x w. tt) (λ x w. tt) },
+      record { owned = c.type_bounds.send-E.owned; leaving = λ k. Quiet-if (k (of_param 2)) unseen unseen (λ x w. tt) (λ x w. tt) },
+      record { shared = c.type_bounds.sync-R.shared },
     ),
   );
 }
