@@ -6,10 +6,8 @@ that the group's state lies in. So each group lives in one coordinator whole.
 
 from __future__ import annotations
 
-import asyncio
-import contextlib
 import dataclasses
-from typing import AsyncIterator, List, Optional
+from typing import List
 
 from broker.link import Coordinator
 from broker.log import Log
@@ -23,8 +21,6 @@ CLUSTER_ID = "coord-serve"
 LEADER_EPOCH = 0
 # Several of the longest replies.
 MOST_HELD = 64 << 20
-# From how many entries on a reply is long.
-MANY = 1_000
 
 
 @dataclasses.dataclass
@@ -48,18 +44,6 @@ class Cluster:
     # What waits for slow clients, and what passes, as it is recorded.
     room: Room = dataclasses.field(default_factory=lambda: Room(MOST_HELD))
     record: Record = dataclasses.field(default_factory=Record)
-    _long_reply: Optional[asyncio.Lock] = None
-
-    @contextlib.asynccontextmanager
-    async def making(self, entries: int) -> AsyncIterator[None]:
-        """Makes a reply of so many entries in the block. Long ones are made one after the other, so that few are there at a time."""
-        if entries < MANY:
-            yield
-            return
-        # (Before Python 3.10 a lock is of the event loop in which it is made.)
-        self._long_reply = self._long_reply or asyncio.Lock()
-        async with self._long_reply:
-            yield
 
     def coordinator_of(self, group: str) -> Node:
         return self.nodes[group_number(group, len(self.nodes))]

@@ -14,10 +14,9 @@ from broker.versions import API_VERSIONS, SPOKEN
 
 # A request begins with API key, API version and correlation id.
 REQUEST_SIZES = range(8, (1 << 20) + 1)
-# A reply's body, in pieces: a long one is never copied whole.
+# A reply's body, in pieces: a long one is never copied whole, and sent in blocks.
 Reply = List[bytes]
-# As much of a frame as a stream reads ahead in any case.
-LONG = 1 << 16
+BLOCK = 1 << 16
 REPLY_SIZES = range(4, (8 << 20) + 1)
 
 
@@ -28,14 +27,14 @@ class BadFrame(Exception):
 async def read_body(
     stream: asyncio.StreamReader, sizes: range = REQUEST_SIZES, held: Callable[[int], ContextManager[None]] = lambda _: contextlib.nullcontext()
 ) -> Optional[bytes]:
-    """The body of the next frame, or None where the stream ends before it. Raises BadFrame, and ConnectionError. A long one is read with
-    room held for it."""
+    """The body of the next frame, or None where the stream ends before it. Raises BadFrame, and ConnectionError. Room is
+    held while it is read."""
     try:
         first = await stream.readexactly(4)
         size = struct.unpack(">i", first)[0]
         if size not in sizes:
             raise BadFrame(f"a frame begins with {first!r}, which is no size of {sizes[0]} to {sizes[-1]} bytes")
-        with held(size) if size > LONG else contextlib.nullcontext():
+        with held(size):
             return await stream.readexactly(size)
     except asyncio.IncompleteReadError as end:
         if not end.partial and end.expected == 4:
@@ -54,7 +53,7 @@ def framed_in_blocks(reply: Reply) -> Iterator[bytes]:
     for piece in reply:
         block.append(piece)
         size += len(piece)
-        if size > LONG:
+        if size > BLOCK:
             yield b"".join(block)
             block, size = [], 0
     if block:

@@ -10,8 +10,8 @@ import time
 from typing import Awaitable, Callable, Optional
 
 from broker.frames import REPLY_SIZES, BadFrame, framed, read_body
-from broker.streams import within
 from broker.output import say
+from broker.streams import within
 
 OPEN_SECONDS = 5
 LOOK_SECONDS = 1

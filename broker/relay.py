@@ -18,11 +18,11 @@ from broker.cluster import Cluster, Node
 from broker.fields import Unreadable
 from broker.frames import BadFrame, Reply, framed_in_blocks, read_body, read_request
 from broker.link import Connection, CoordinatorClosed, Link
+from broker.output import say
 from broker.room import CutOff
 from broker.streams import close, taken
 from broker.turns import Pace
 from broker.watch import Watch
-from broker.output import say
 
 MOST_CONNECTIONS = 2_000
 # A client that says nothing for so long is disconnected, as is one that doesn't read its replies.
@@ -82,11 +82,20 @@ class Relay:
     async def serve(self, reader: asyncio.StreamReader, writer: asyncio.StreamWriter, link: Link) -> None:
         """Answers requests until the client closes. Raises where anything else ends the connection."""
         while True:
-            body = await self._next(reader, writer, link)
-            if body is None:
+            reply = await self._reply(reader, writer, link)
+            if reply is None:
                 return
-            self.cluster.record.request(self.number, body)
-            await self._send(writer, await self._answer(body, link))
+            await self._send(writer, reply)
+            del reply
+
+    async def _reply(self, reader: asyncio.StreamReader, writer: asyncio.StreamWriter, link: Link) -> Optional[Reply]:
+        """The reply to the next request, for which there is room until then; or None where the client has closed."""
+        body = await self._next(reader, writer, link)
+        if body is None:
+            return None
+        self.cluster.record.request(self.number, body)
+        with self.cluster.room.held(writer, len(body)):
+            return await self._answer(body, link)
 
     async def _next(self, reader: asyncio.StreamReader, writer: asyncio.StreamWriter, link: Link) -> Optional[bytes]:
         """The next request's body, or None where the client has closed. Raises Closed where the coordinator has."""

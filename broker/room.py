@@ -7,6 +7,10 @@ import contextlib
 from typing import Dict, Iterator, Set
 
 
+# What a stream has of its own in any case.
+FEW_BYTES = 1 << 16
+
+
 class CutOff(Exception):
     """Others wanted the room."""
 
@@ -23,7 +27,10 @@ class Room:
 
     @contextlib.contextmanager
     def held(self, writer: asyncio.StreamWriter, size: int) -> Iterator[None]:
-        """Holds so many bytes for a connection until the block ends, which then raises CutOff where it was cut off."""
+        """Holds so many bytes for a connection until the block ends, which then raises CutOff where it was cut off. Few bytes aren't counted."""
+        if size <= FEW_BYTES:
+            yield
+            return
         self._held[writer] = size
         self.bytes += size
         while self.bytes > self._most_bytes and len(self._held) > 1:

@@ -2,56 +2,73 @@
 
 Whatever takes long (a request of many entries, a reply of many records, the page) is done a few milliseconds at a time. Behind each such
 piece there is a pause, in which the event loop does all that is short. So what takes long takes longer, and nothing else waits for it.
+
+Work that has had few pieces goes before work that has had more. What is long is done to its end before the next long work goes on, so that
+little of it is half done at a time.
 """
 
 from __future__ import annotations
 
 import asyncio
-import collections
+import heapq
+import itertools
 import time
-from typing import Deque, Iterable, List, TypeVar
+from typing import Iterable, List, Tuple, TypeVar
 
 Item = TypeVar("Item")
 # How long a piece and the pause behind it take, and how long work goes on before it has to take turns. An item takes some microseconds.
 PIECE_SECONDS, PAUSE_SECONDS, FREE_SECONDS = 0.002, 0.001, 0.0002
 ITEMS = 16
+# So many pieces are few.
+FEW = 2
+# Whether work is long, and a number in the order of coming: each time, or once where it is long.
+Place = Tuple[bool, int]
 
 
 class Turns:
-    """Who waits to go on: first come, first served."""
+    """What waits to go on, the least place first."""
 
     def __init__(self) -> None:
-        self._waiting: Deque[asyncio.Future[None]] = collections.deque()
+        self._waiting: List[Tuple[Place, asyncio.Future[None]]] = []
+        self._is_called = False
+        self.numbers = itertools.count()
 
-    async def wait(self) -> None:
+    async def wait(self, place: Place) -> None:
         loop = asyncio.get_running_loop()
         turn = loop.create_future()
-        self._waiting.append(turn)
-        if len(self._waiting) == 1:
+        heapq.heappush(self._waiting, (place, turn))
+        if not self._is_called:
+            self._is_called = True
             loop.call_soon(self._next)
         await turn
 
     def _next(self) -> None:
-        while self._waiting and self._waiting[0].done():
-            self._waiting.popleft()
-        if self._waiting:
-            self._waiting[0].set_result(None)
-            # (What is called behind this is called behind the piece.)
-            loop = asyncio.get_running_loop()
-            loop.call_soon(loop.call_later, PAUSE_SECONDS, self._next)
+        while self._waiting:
+            _, turn = heapq.heappop(self._waiting)
+            if not turn.done():
+                turn.set_result(None)
+                # (What is called behind this is called behind the piece.)
+                loop = asyncio.get_running_loop()
+                loop.call_soon(loop.call_later, PAUSE_SECONDS, self._next)
+                return
+        self._is_called = False
 
 
 class Pace:
     """How work goes on that may be long, a request's or a page's. It asks again and again whether others have to have a turn."""
 
     def __init__(self, turns: Turns) -> None:
-        self._turns = turns
+        self._turns, self._number = turns, next(turns.numbers)
+        self._pieces = 0
         self._until = time.monotonic() + FREE_SECONDS
 
     async def pause(self) -> None:
-        if time.monotonic() >= self._until:
-            await self._turns.wait()
-            self._until = time.monotonic() + PIECE_SECONDS
+        if time.monotonic() < self._until:
+            return
+        is_long = self._pieces >= FEW
+        await self._turns.wait((is_long, self._number if is_long else next(self._turns.numbers)))
+        self._pieces += 1
+        self._until = time.monotonic() + PIECE_SECONDS
 
     async def all(self, items: Iterable[Item]) -> List[Item]:
         """A list of what is made one after the other."""

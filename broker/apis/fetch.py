@@ -3,7 +3,7 @@
 from __future__ import annotations
 
 import asyncio
-from typing import List, NamedTuple
+from typing import NamedTuple
 
 from broker import codes
 from broker.call import Call
@@ -34,21 +34,19 @@ async def answer(call: Call) -> Reply:
     _isolation = fields.int8()
     if version >= 7:
         _session, _session_epoch = fields.int32(), fields.int32()
-    topics = await fields.nested_array(lambda: _topic(fields, version))
+    begin = fields.at
+    # (What is asked for is read twice. It would take much more room than the request does while records are waited for.)
+    first = min(await fields.nested_array(lambda: _seconds_until_any(call)), default=MOST_WAIT_SECONDS)
     if version >= 7:
         _forgotten = await fields.array(lambda: (fields.string(), fields.int32s()))
     if version >= 11:
         _rack = fields.string()
-    await _wait(call, [each for topic in topics for each in topic], min(wait_ms / 1000, MOST_WAIT_SECONDS))
+    await asyncio.sleep(max(0.0, min(first, wait_ms / 1000, MOST_WAIT_SECONDS)))
+    fields.at = begin
     room = Room(min(most_bytes, MOST_BYTES))
-    answers = array([await _topic_reply(call, topic, room) for topic in topics if topic])
+    answers = array(await fields.nested_array(lambda: _topic_reply(call, room)))
     no_error = int16(codes.NONE) + NO_SESSION if version >= 7 else b""
     return call.request.reply(int32(0) + no_error + answers)
-
-
-async def _topic(fields: Reader, version: int) -> List[Asked]:
-    name = fields.string()
-    return await fields.array(lambda: _partition(fields, name, version))
 
 
 def _partition(fields: Reader, topic: str, version: int) -> Asked:
@@ -67,14 +65,16 @@ def _code(cluster: Cluster, asked: Asked) -> int:
     return codes.NONE if FIRST_OFFSET <= asked.offset <= cluster.log.end_offset() else codes.OFFSET_OUT_OF_RANGE
 
 
-async def _wait(call: Call, asked: List[Asked], seconds: float) -> None:
-    """Waits until a record that is asked for has come, at most so long. An error is answered at once."""
-    first = min(await call.request.pace.all(_seconds_until(call.cluster, each) for each in asked), default=seconds)
-    await asyncio.sleep(max(0.0, min(first, seconds)))
+async def _seconds_until_any(call: Call) -> float:
+    """In how many seconds there is something to answer of a topic."""
+    fields, version = call.request.fields, call.request.version
+    name = fields.string()
+    entries = await fields.array(lambda: _seconds_until(call.cluster, _partition(fields, name, version)))
+    return min(entries, default=MOST_WAIT_SECONDS)
 
 
 def _seconds_until(cluster: Cluster, asked: Asked) -> float:
-    """When there is something to answer."""
+    """The same of a partition. An error is answered at once."""
     return cluster.log.seconds_until(asked.offset) if _code(cluster, asked) == codes.NONE else 0.0
 
 
@@ -92,13 +92,16 @@ class Room:
         return batch
 
 
-async def _topic_reply(call: Call, topic: List[Asked], room: Room) -> bytes:
-    entries = []
-    for each in topic:
+async def _topic_reply(call: Call, room: Room) -> bytes:
+    fields, version = call.request.fields, call.request.version
+    name = fields.string()
+
+    async def reply() -> bytes:
         # (A partition has up to 200 records, which take as long as a piece of work may.)
         await call.request.pace.pause()
-        entries.append(_partition_reply(call.cluster, each, room, call.request.version))
-    return string(topic[0].topic) + array(entries)
+        return _partition_reply(call.cluster, _partition(fields, name, version), room, version)
+
+    return string(name) + array(await fields.nested_array(reply))
 
 
 def _partition_reply(cluster: Cluster, asked: Asked, room: Room, version: int) -> bytes:

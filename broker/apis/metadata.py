@@ -38,10 +38,8 @@ async def answer(call: Call) -> Reply:
     reply += compact_string(CLUSTER_ID) + int32(cluster.nodes[0].id)
     # (Kafka's broker, too, answers once for a topic that is asked for twice.)
     each_once = {it.id if it.name is None else it.name: it for it in asked}.values()
-    found = [(it, cluster.topics.by_id.get(it.id) if it.name is None else cluster.topics.by_name.get(it.name)) for it in each_once]
-    async with cluster.making(sum(topic.count if topic else 1 for _, topic in found)):
-        topics = [await _topic(call, *each) for each in found]
-        return call.request.reply(reply, unsigned_varint(len(topics) + 1), *topics, (NOT_TOLD if version <= 10 else b"") + NO_TAGS)
+    topics = [await _topic(call, each) for each in each_once]
+    return call.request.reply(reply, unsigned_varint(len(topics) + 1), *topics, (NOT_TOLD if version <= 10 else b"") + NO_TAGS)
 
 
 def _asked(fields: Reader, version: int) -> Asked:
@@ -56,9 +54,10 @@ def _broker(node: Node) -> bytes:
     return int32(node.id) + compact_string(node.host) + int32(node.port) + no_rack + NO_TAGS
 
 
-async def _topic(call: Call, asked: Asked, found: Optional[Topic]) -> bytes:
+async def _topic(call: Call, asked: Asked) -> bytes:
     cluster, version = call.cluster, call.request.version
     await call.request.pace.pause()
+    found = cluster.topics.by_id.get(asked.id) if asked.name is None else cluster.topics.by_name.get(asked.name)
     if found is None:
         code = codes.UNKNOWN_TOPIC_ID if asked.name is None else codes.UNKNOWN_TOPIC_OR_PARTITION
         return _entry(code, Topic(asked.name or "", asked.id, 0), b"\1", version)

@@ -30,9 +30,8 @@ async def answer(call: Call) -> Reply:
     # (Whether offsets of open transactions are to be waited for: there are no transactions.)
     _wants_stable = fields.boolean()
     fields.tags()
-    async with call.cluster.making(sum(_entries(call, group) for group in groups)):
-        pieces = [piece for group in groups for piece in await _group_reply(call, group)]
-        return call.request.reply(int32(0) + unsigned_varint(len(groups) + 1), *pieces, NO_TAGS)
+    pieces = [piece for group in groups for piece in await _group_reply(call, group)]
+    return call.request.reply(int32(0) + unsigned_varint(len(groups) + 1), *pieces, NO_TAGS)
 
 
 async def _group(fields: Reader) -> AskedGroup:
@@ -56,13 +55,6 @@ def _want_apart(keys: Sequence[object]) -> None:
     """Refuses a request that asks for something twice, so that no reply is much longer than what is stored."""
     if len({*keys}) < len(keys):
         raise Unreadable("it asks for one offset twice")
-
-
-def _entries(call: Call, group: AskedGroup) -> int:
-    """How many the reply has for a group."""
-    if group.topics is None:
-        return 1 + sum(len(it.entries) for it in call.cluster.offsets.of_group(group.name).values())
-    return 1 + sum(1 + len(topic.partitions) for topic in group.topics)
 
 
 async def _group_reply(call: Call, group: AskedGroup) -> List[bytes]:

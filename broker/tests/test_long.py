@@ -23,9 +23,9 @@ from broker.tests.test_relay import HEARTBEAT
 from broker.tests.test_status import get
 
 PARTITIONS = 50_000
-ENTRIES = 10_000
+ENTRIES = 20_000
 # So many heartbeats are answered meanwhile at least. Where nobody gives others a turn it is none, or one that came before.
-BEATS = 5
+BEATS = 4
 
 
 def cluster_of_many() -> Cluster:
@@ -68,7 +68,7 @@ LONG: Dict[str, bytes] = {
     "OffsetCommit": commit(ENTRIES),
     "OffsetFetch": head(9, 9, True) + compact_array([compact_string("g") + b"\0" + int32(-1) + b"\0" + b"\0"]) + b"\0\0",
     "OffsetForLeaderEpoch": head(23, 2, False) + of_topic(*(int32(index) + int32(0) + int32(0) for index in range(ENTRIES))),
-    "ConsumerGroupHeartbeat": heartbeat(ENTRIES),
+    "ConsumerGroupHeartbeat": heartbeat(3 * ENTRIES),
 }
 
 
