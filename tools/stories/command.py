@@ -8,7 +8,7 @@ import sys
 from typing import Callable, Iterable, Optional
 
 from stories.notation import Writer
-from stories.reading import NoScript, Ruled, Script, lines_of, output_in, output_of
+from stories.reading import NoScript, Output, lines_of, output_in, output_of
 from stories.story import Story, tell
 
 
@@ -38,8 +38,8 @@ def story(asked: argparse.Namespace) -> Story:
     if asked.output is not None:
         printed = output_in(asked.output)
     else:
-        printed = Ruled() if asked.program is None else output_of(asked.program, lines)
-    return tell(Script(asked.script, lines, printed), writer)
+        printed = Output() if asked.program is None else output_of(asked.program, lines)
+    return tell(asked.script, lines, printed, writer)
 
 
 def run(name: str, lines: Callable[[], Iterable[str]]) -> int:

@@ -5,21 +5,22 @@ from __future__ import annotations
 import dataclasses
 import re
 import uuid
-from typing import Callable, Optional
+from typing import Optional
 
 from rules.client import GONE, INSIDE, Client
-from rules.lines import image_of, topic_of
+from rules.lines import BadLine, Lines, image_of, shown, topic_of, words_of
 from rules.messages import read_heartbeat_reply
 from rules.world import World
 from stories import events, names
 from stories.events import AGAIN, AT_ONCE, LATE, Event, Partitions
 from stories.notation import Telling, Writer, heads
-from stories.reading import NoScript, Played, Reported, Script
+from stories.reading import PRINTED, REFUSED, REPORT, NoScript, Output, Reported
 
 # A member's id, where its client has one, isn't in what lines print.
 SOME_ID = "id"
 # The states of a member, and what is said in place of one where nobody knows what it holds.
 MEMBER, UNKNOWN = ("steady", "releasing"), "unknown"
+CR = b"\r"
 SAID_ID = re.compile(", id [0-9a-f-]{36}")
 
 
@@ -100,106 +101,101 @@ def parsed_set(text: str) -> Optional[Partitions]:
 class Teller:
     """Follows a script through what it prints."""
 
-    def __init__(self) -> None:
+    def __init__(self, path: str, output: Output, writer: Optional[Writer]) -> None:
+        self.path, self.output, self.rules = path, output, Lines()
+        self.telling = Telling(self.rules, writer.messages if writer else {})
         self.clients: list[Client] = []
         self.standings: tuple[Standing, ...] = ()
         self.requests: dict[int, Message] = {}
         self.replies: dict[int, Message] = {}
         self.commits: dict[int, Message] = {}
-        # How often time has passed, and the topics by their names.
-        self.time, self.topics = 0, {}
-
-    # -- clients
-
-    def start(self, played: Played) -> None:
-        """The clients as they are before the first act."""
-        if not self.standings:
-            self.clients = [Client(it.name, it.group, it.instance, it.assignor, it.rebalance, it.names) for it in played.rules.clients]
-            self.standings = tuple(OUT for _ in self.clients)
-
-    def number(self, name: str) -> int:
-        return next(at for at, client in enumerate(self.clients) if client.name == name)
-
-    def stand(self, played: Played) -> tuple[Standing, ...]:
-        removed = [played.agrees and is_removed(played.rules.world, client) for client in played.rules.world.clients]
-        self.standings = tuple(map(standing_of, self.clients, self.standings, removed))
-        return self.standings
+        # How often time has passed, the topics by their names, and whether the output has agreed with the rules so far.
+        self.time, self.agrees = 0, True
+        self.topics: names.Image = {}
 
     # -- lines
 
-    def event(self, played: Played) -> Event:
-        kind, *words = played.words
-        if played.fault is not None:
-            return events.Refused(played.fault)
+    def play(self, number: int, line: bytes) -> Optional[tuple[Event, tuple[Standing, ...]]]:
+        """What happens in a line and where the clients stand after it; None for the line of a client."""
         try:
-            return self.KINDS[kind](self, words, [word or "" for word in played.found], played)
+            text = " ".join(words_of(line))
+            if not text.startswith("client "):
+                self.telling.say(text)
+            ruled = self.rules.line(line)
+        except BadLine as bad:
+            raise NoScript(f"{self.path}, line {number}: {'it ends in a carriage return' if line.endswith(CR) else bad}") from None
+        if ruled is None:
+            it = self.rules.clients[-1]
+            self.clients.append(Client(it.name, it.group, it.instance, it.assignor, it.rebalance, it.names))
+            self.standings += (OUT,)
+            return None
+        self.telling.played(text, ruled)
+        word, *words = text.split(" ")
+        found, agrees = self.output.next(f"{REFUSED}|{PRINTED[word]}", f"line {number}", ruled)
+        self.agrees = self.agrees and agrees
+        try:
+            event = events.Refused(int(found[1])) if found[1] else self.event(word, words, [it or "" for it in found.groups()[1:]])
         except (KeyError, StopIteration):
-            raise NoScript(f"line {played.number}: this output isn't the script's: it has no such client or message") from None
+            raise NoScript(f"line {number}: this output isn't the script's: it has no such client or message") from None
+        removed = [self.agrees and is_removed(self.rules.world, client) for client in self.rules.clients]
+        self.standings = tuple(map(standing_of, self.clients, self.standings, removed))
+        return event, self.standings
 
-    def image(self, words: list[str], _found: list[str], _played: Played) -> Event:
-        self.topics = image_of(words)
-        return events.ImageSet([*self.topics.values()])
+    def event(self, word: str, words: list[str], found: list[str]) -> Event:
+        if word in ("deliver", "take", "bring"):
+            return self.message(word, int(words[0]), found)
+        if word == "settle":
+            return self.settle()
+        if word == "image":
+            self.topics = image_of(words)
+            return events.ImageSet([*self.topics.values()])
+        if word in ("clock", "tick"):
+            self.time += 1
+            return events.Ticked(int(words[0]), int(found[0])) if word == "tick" else events.ClockSet(int(words[0]))
+        at = next(at for at, client in enumerate(self.clients) if client.name == words[0])
+        return self.client_acts(at, word, words[1:], found)
 
-    def clock(self, words: list[str], _found: list[str], _played: Played) -> Event:
-        self.time += 1
-        return events.ClockSet(int(words[0]))
-
-    def tick(self, words: list[str], found: list[str], _played: Played) -> Event:
-        self.time += 1
-        return events.Ticked(int(words[0]), int(found[0]))
-
-    def ask(self, words: list[str], found: list[str], played: Played) -> Event:
-        at, number = self.number(words[0]), int(found[0])
-        client, kind = self.clients[at], words[1] if words[1:] else played.words[0]
-        if kind in ("short", "owned") and client.says_all:
-            kind = "full"
+    def client_acts(self, at: int, word: str, words: list[str], found: list[str]) -> Event:
+        client = self.clients[at]
+        if word == "lose":
+            client.give_up()
+            return events.GaveUp(at)
+        if word == "release":
+            client.release((topic_of(words[0]), int(words[1])))
+            return events.Released(at, (topic_of(words[0]), int(words[1])))
+        if word == "commit":
+            places = [place_of(self.topics, words[0], int(words[1]), int(words[2]), client)]
+            self.commits[int(found[0])] = Message(at, 0, self.time, places=places)
+            return events.Committed(at, int(found[0]), places)
+        kind = "full" if words and words[0] in ("short", "owned") and client.says_all else words[0] if words else word
         owned = frozenset(client.own) if kind in ("owned", "full") else None
         client.has_asked(kind)
-        self.requests[number] = Message(at, client.number, self.time)
-        return events.Sent(at, number, kind, owned)
+        self.requests[int(found[0])] = Message(at, client.number, self.time)
+        return events.Sent(at, int(found[0]), kind, owned)
 
-    def lose(self, words: list[str], _found: list[str], _played: Played) -> Event:
-        at = self.number(words[0])
-        self.clients[at].give_up()
-        return events.GaveUp(at)
-
-    def deliver(self, words: list[str], found: list[str], _played: Played) -> Event:
-        request = self.requests[int(words[0])]
+    def message(self, word: str, number: int, found: list[str]) -> Event:
+        """A message arrives."""
+        if word == "bring":
+            commit = self.commits[number]
+            mark = AGAIN if commit.came else LATE if commit.time < self.time else AT_ONCE
+            commit.came += 1
+            return events.Brought(commit.client, number, commit.places, [int(found[0])], mark)
+        if word == "take":
+            message = self.replies[number]
+            mark, reply = self.mark(message), message.reply
+            if reply is not None and found[0] != "ignored":
+                self.clients[message.client].take(message.correlation, reply.code, SOME_ID, reply.epoch, reply.shows)
+            return events.Taken(message.client, number, found[0] == "ignored", mark)
+        request, reply = self.requests[number], None
         mark = self.mark(request)
-        if not found[0]:
-            return events.Delivered(request.client, int(words[0]), None, mark)
-        number, code, epoch = map(int, found[:3])
-        reply = events.Reply(number, code, epoch, parsed_set(found[3]))
-        self.replies[number] = Message(request.client, request.correlation, self.time, reply)
-        return events.Delivered(request.client, int(words[0]), reply, mark)
+        if found[0]:
+            reply = events.Reply(int(found[0]), int(found[1]), int(found[2]), parsed_set(found[3]))
+            self.replies[reply.number] = Message(request.client, request.correlation, self.time, reply)
+        return events.Delivered(request.client, number, reply, mark)
 
-    def take(self, words: list[str], found: list[str], _played: Played) -> Event:
-        message = self.replies[int(words[0])]
-        mark, reply = self.mark(message), message.reply
-        if reply is not None and found[0] != "ignored":
-            self.clients[message.client].take(message.correlation, reply.code, SOME_ID, reply.epoch, reply.shows)
-        return events.Taken(message.client, int(words[0]), found[0] == "ignored", mark)
-
-    def release(self, words: list[str], _found: list[str], _played: Played) -> Event:
-        at, partition = self.number(words[0]), (topic_of(words[1]), int(words[2]))
-        self.clients[at].release(partition)
-        return events.Released(at, partition)
-
-    def commit(self, words: list[str], found: list[str], _played: Played) -> Event:
-        at, number = self.number(words[0]), int(found[0])
-        places = [place_of(self.topics, words[1], int(words[2]), int(words[3]), self.clients[at])]
-        self.commits[number] = Message(at, 0, self.time, places=places)
-        return events.Committed(at, number, places)
-
-    def bring(self, words: list[str], found: list[str], _played: Played) -> Event:
-        message = self.commits[int(words[0])]
-        mark = AGAIN if message.came else LATE if message.time < self.time else AT_ONCE
-        message.came += 1
-        return events.Brought(message.client, int(words[0]), message.places, [int(found[0])], mark)
-
-    def settle(self, _words: list[str], _found: list[str], played: Played) -> Event:
+    def settle(self) -> Event:
         """What the clients and the messages are afterwards is known from the rules alone."""
-        world, requests, replies = played.rules.world, len(self.requests), len(self.replies)
+        world, requests, replies = self.rules.world, len(self.requests), len(self.replies)
         for client, ruled in zip(self.clients, world.clients):
             client.__dict__.update(ruled.__dict__, own=set(ruled.own), shown=set(ruled.shown))
         for number in range(requests + 1, len(world.requests) + 1):
@@ -217,23 +213,17 @@ class Teller:
         client = self.clients[message.client]
         waits = client.waits or client.place == GONE
         overtaken = message.correlation != client.number or not waits
-        late = message.time < self.time or overtaken
         message.came += 1
-        return AGAIN if message.came > 1 else LATE if late else AT_ONCE
+        return AGAIN if message.came > 1 else LATE if message.time < self.time or overtaken else AT_ONCE
 
-    KINDS: dict[str, Callable[[Teller, list[str], list[str], Played], Event]] = {
-        "image": image,
-        "clock": clock,
-        "tick": tick,
-        **dict.fromkeys(("join", "beat", "quit"), ask),
-        "lose": lose,
-        "deliver": deliver,
-        "take": take,
-        "release": release,
-        "commit": commit,
-        "bring": bring,
-        "settle": settle,
-    }
+    def report(self) -> list[Reported]:
+        """The last lines of the output, one for each client."""
+        reports = []
+        for client, ruled in zip(self.rules.clients, self.rules.report()):
+            found, _ = self.output.next(f"{re.escape(client.name)} {REPORT}", f"the client {shown(client.name)}", ruled)
+            reports.append(Reported(found[1], found[2], int(found[3]), found[4]))
+        self.output.end()
+        return reports
 
 
 def place_of(topics: names.Image, topic: str, index: int, offset: int, client: Client) -> events.Place:
@@ -263,15 +253,13 @@ def person_of(client: Client) -> Person:
     return Person(printable(client.name), printable(client.group), instance, assignor)
 
 
-def tell(script: Script, writer: Optional[Writer] = None) -> Story:
+def tell(path: str, lines: list[bytes], output: Output, writer: Optional[Writer] = None) -> Story:
     """The story of a script, with the numbers of lines and the names of messages of the one that it is made of. NoScript says why there is none."""
-    telling = Telling(script.rules, writer.messages if writer else {})
-    teller, played = Teller(), []
-    for it in script.acts(telling):
-        teller.start(it)
-        played.append((it, teller.event(it), teller.stand(it)))
-    report = script.report()
-    texts = [names.printable(SAID_ID.sub("", text)) for text in telling.texts]
-    numbers = writer.lines if writer else [*range(1, len(script.lines) + 1)]
-    steps = [Step(str(numbers[it.number - 1]), text, event, standings) for (it, event, standings), text in zip(played, texts)]
-    return Story([*map(person_of, script.rules.clients)], telling.topics, steps, report, [*heads(script.rules.clients)], [*telling.acts()])
+    teller = Teller(path, output, writer)
+    numbers = writer.lines if writer else range(1, len(lines) + 1)
+    played = [(number, it) for number, line in zip(numbers, lines) for it in [teller.play(number, line)] if it]
+    report = teller.report()
+    texts = [names.printable(SAID_ID.sub("", text)) for text in teller.telling.texts]
+    steps = [Step(str(number), text, *it) for (number, it), text in zip(played, texts)]
+    clients = teller.rules.clients
+    return Story([*map(person_of, clients)], teller.telling.topics, steps, report, [*heads(clients)], [*teller.telling.acts()])

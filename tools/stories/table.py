@@ -6,7 +6,7 @@ import itertools
 from typing import Container, Iterator
 
 from stories import events
-from stories.names import shortened
+from stories.names import printable, shortened
 from stories.story import MEMBER, Step, Story
 from stories.words import Words
 
@@ -16,7 +16,7 @@ LONGEST, LONGEST_HOLDING = 100, 30
 
 def table(story: Story) -> Iterator[str]:
     """The clients, each step, what stands out, and where the clients are at the end."""
-    yield from story.heads
+    yield from map(printable, story.heads)
     yield ""
     yield from part(story)
     yield ""
