@@ -19,7 +19,7 @@ VERSION = ANSWERS["--version",].split()[1]
 SUBCOMMANDS = ("reply", "frame", "run", "serve")
 # The programs in Python, with the document that their man pages have, and its sections where that isn't all. They are commands migwelun-NAME of the
 # package, and so are the tools that need only Python. Behind these the parts that they share.
-PROGRAMS = {"broker": ("broker/README.md", ("The command line", "What a broker does for a consumer")), "conformance": ("docs/CONFORMANCE.md", ())}
+PROGRAMS = {"broker": ("broker/README.md", ("The command line", "What a broker does for a consumer")), "conformance": ("conformance/README.md", ())}
 TOOLS = ("tell-run", "draw-run", "write-run", "tell-capture", "run-lines", "reply-lines")
 SHARED = ("rules", "stories")
 EXAMPLES = ("*.md", "*.py", "run/*", "reply/*", "frame/*", "stories/*", "capture/*", "embed/*.c", "embed/python/*.py", "embed/rust/*.*", "embed/rust/*/*.rs")
@@ -78,7 +78,7 @@ def files_of(program: pathlib.Path, library: pathlib.Path, version: str, seconds
     shared += [it for each in SHARED for it in (TOP / "tools" / each).glob("**/*.py")]
     for name in programs():
         files[f"bin/migwelun-{name}"] = Entry((FILES / "python-program").read_bytes(), 0o755)
-        shared += [it for ending in ("py", "html") for it in (TOP / name).glob(f"**/*.{ending}") if not {"tests", "planted"} & {*it.parts}]
+        shared += [it for ending in ("py", "html", "md", "txt") for it in (TOP / name).glob(f"**/*.{ending}") if "tests" not in it.parts]
     for name in filter(lambda it: (TOP / "tools" / it).is_file(), TOOLS):
         shared.append(TOP / "tools" / name)
         files[f"bin/migwelun-{name}"] = Entry(link=f"../share/migwelun/tools/{name}")
@@ -104,7 +104,7 @@ def of_options(version: str, seconds: int) -> Files:
         words = {**os.environ, "COLUMNS": "1000", "BROKER_NAME": command}
         ran = subprocess.run([sys.executable, "-B", "-m", name, "--help"], cwd=TOP, env=words, stdout=subprocess.PIPE, text=True, check=True)
         others.append(options.read(command, ran.stdout.replace(f"python3 -m {name}", command)))
-        text = (TOP / path).read_text() if (TOP / path).is_file() else "# \n"
+        text = (TOP / path).read_text().replace(f"python3 -m {name} ", f"{command} ")
         parts[command] = "".join(manual.section(text, it) for it in titles) or text.partition("\n")[2]
     pages = [it.command.replace(" ", "-") for it in (*coord, *others)]
     files: Files = {}
