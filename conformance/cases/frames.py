@@ -6,7 +6,7 @@ import dataclasses
 import time
 from typing import Callable, NamedTuple, Optional
 
-from conformance.case import COMPACT, FREE, GUIDE, MUST, SHOULD, TAGGED_FIELDS, case
+from conformance.case import COMPACT, FREE, GUIDE, HANDLING, MUST, SHOULD, TAGGED_FIELDS, case
 from conformance.cases.heartbeats import NO_SUCH_TOPIC
 from conformance.connection import Closed, Connection, Lost
 from conformance.messages import (
@@ -479,3 +479,46 @@ def late_request(play: Play) -> None:
     former.send(late)
     code = fate(play, former)
     play.note("a late report on a former connection is " + ("not answered" if code is None else f"answered with {code_text(code)}"))
+
+
+@case(
+    "late-request-stale", HANDLING, MUST,
+    "a report that was held up on a former connection comes when its member is two epochs on",
+    "fenced, or not answered at all; nobody gives up anything for it",
+)
+def late_request_stale(play: Play) -> None:
+    play.topic(0, partitions=3)
+    a = joiner(play)
+    a.join()
+    play.settle(a)
+    late = framed(head(play) + a.request("owned", owned=NOTHING).fields(play.version))
+    former = a.connection
+    a.connects(play.broker.coordinator_of(a.group))
+    for name in "bc":
+        play.member(name).join()
+        play.settle()
+    had = {member.name: member.owned for member in play.members}
+    former.send(late)
+    play.want(fate(play, former) != 0, "the late report is accepted")
+    for member in play.members:
+        member.turn()
+        play.want(member.owned == had[member.name], f"behind it {member.name} has {play.story.partitions(member.owned)}")
+
+
+@case(
+    "late-leave", "none", FREE,
+    "a leave that was held up on a former connection comes when its member has joined again under its id",
+    "KIP-848 has nothing against it: it may be taken for a new one",
+)
+def late_leave(play: Play) -> None:
+    a = joiner(play)
+    a.join()
+    play.settle(a)
+    late = framed(head(play) + a.request("leave").fields(play.version))
+    former = a.connection
+    a.connects(play.broker.coordinator_of(a.group))
+    a.join()
+    former.send(late)
+    code = fate(play, former)
+    told = "not answered" if code is None else f"answered with {code_text(code)}"
+    play.note(f"the late leave is {told}, and the next heartbeat with {code_text(a.tries().code)}")

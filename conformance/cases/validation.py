@@ -8,7 +8,7 @@ from conformance.case import FREE, MUST, SHOULD, VALIDATION, case
 from conformance.play import Member, Play, new_id
 from conformance.story import code_text
 
-INVALID_GROUP_ID, UNKNOWN_MEMBER_ID, INVALID_REQUEST, UNSUPPORTED_ASSIGNOR = 24, 25, 42, 112
+NOT_COORDINATOR, INVALID_GROUP_ID, UNKNOWN_MEMBER_ID, INVALID_REQUEST, UNSUPPORTED_ASSIGNOR = 16, 24, 25, 42, 112
 NO_SUCH_ASSIGNOR = "conformance-no-such-assignor"
 
 
@@ -31,7 +31,7 @@ JOINS = (
         "a group id has a character at least",
         "join",
         {"group": ""},
-        (INVALID_REQUEST, INVALID_GROUP_ID),
+        (INVALID_REQUEST, INVALID_GROUP_ID, NOT_COORDINATOR),
     ),
     Row("refuse-epoch-below", MUST, "a heartbeat at member epoch -3", "no member epoch is below -2", "join", {"epoch": -3}, (INVALID_REQUEST,)),
     Row(
