@@ -12,49 +12,6 @@ Partitions = FrozenSet[Partition]
 AT_ONCE, LATE, AGAIN = "", "late", "again"
 
 
-class Sent(NamedTuple):
-    """A heartbeat leaves its client. A join says that nothing is owned, a short one says nothing."""
-
-    client: int
-    request: int
-    kind: str
-    owned: Optional[Partitions]
-
-
-class Reply(NamedTuple):
-    number: int
-    code: int
-    epoch: int
-    shows: Optional[Partitions]
-
-
-class Delivered(NamedTuple):
-    """A request comes to the coordinator, which replies, or closes the connection."""
-
-    client: int
-    request: int
-    reply: Optional[Reply]
-    mark: str
-
-
-class Taken(NamedTuple):
-    """A reply comes to its client, which ignores it where it waits for no reply, or for another one."""
-
-    client: int
-    reply: int
-    ignored: bool
-    mark: str
-
-
-class GaveUp(NamedTuple):
-    client: int
-
-
-class Released(NamedTuple):
-    client: int
-    partition: Partition
-
-
 class Place(NamedTuple):
     """A partition whose offset is committed. A member can commit what it doesn't hold."""
 
@@ -63,12 +20,6 @@ class Place(NamedTuple):
     offset: int
     partition: Optional[Partition]
     is_held: bool
-
-
-class Committed(NamedTuple):
-    client: int
-    commit: int
-    places: List[Place]
 
 
 class Brought(NamedTuple):
@@ -85,32 +36,22 @@ class Brought(NamedTuple):
         return [place for place, code in zip(self.places, self.codes) if code == 0 and not place.is_held]
 
 
-class ImageSet(NamedTuple):
-    """The topics by their ids, each with the number of its partitions."""
-
-    topics: List[Tuple[bytes, int]]
-
-
-class ClockSet(NamedTuple):
-    moment: int
-
-
-class Ticked(NamedTuple):
-    moment: int
-    removed: int
-
-
-class Settled(NamedTuple):
-    """Three rounds in which no message is lost, with the last numbers of messages before and after it."""
-
-    requests: Tuple[int, int]
-    replies: Tuple[int, int]
-
-
-class Refused(NamedTuple):
-    """Nothing happens."""
-
-    fault: int
-
+# A heartbeat leaves its client. A join says that nothing is owned, a short one says nothing.
+Sent = NamedTuple("Sent", [("client", int), ("request", int), ("kind", str), ("owned", Optional[Partitions])])
+Reply = NamedTuple("Reply", [("number", int), ("code", int), ("epoch", int), ("shows", Optional[Partitions])])
+# A request comes to the coordinator, which replies, or closes the connection.
+Delivered = NamedTuple("Delivered", [("client", int), ("request", int), ("reply", Optional[Reply]), ("mark", str)])
+# A reply comes to its client, which ignores it where it waits for no reply, or for another one.
+Taken = NamedTuple("Taken", [("client", int), ("reply", int), ("ignored", bool), ("mark", str)])
+GaveUp = NamedTuple("GaveUp", [("client", int)])
+Released = NamedTuple("Released", [("client", int), ("partition", Partition)])
+Committed = NamedTuple("Committed", [("client", int), ("commit", int), ("places", List[Place])])
+# The topics by their ids, each with the number of its partitions.
+ImageSet = NamedTuple("ImageSet", [("topics", List[Tuple[bytes, int]])])
+ClockSet = NamedTuple("ClockSet", [("moment", int)])
+Ticked = NamedTuple("Ticked", [("moment", int), ("removed", int)])
+# Three rounds in which no message is lost.
+Settled = NamedTuple("Settled", [])
+Refused = NamedTuple("Refused", [("fault", int)])
 
 Event = Union[Sent, Delivered, Taken, GaveUp, Released, Committed, Brought, ImageSet, ClockSet, Ticked, Settled, Refused]

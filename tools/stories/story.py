@@ -195,18 +195,18 @@ class Teller:
 
     def settle(self) -> Event:
         """What the clients and the messages are afterwards is known from the rules alone."""
-        world, requests, replies = self.rules.world, len(self.requests), len(self.replies)
+        world = self.rules.world
         for client, ruled in zip(self.clients, world.clients):
             client.__dict__.update(ruled.__dict__, own=set(ruled.own), shown=set(ruled.shown))
-        for number in range(requests + 1, len(world.requests) + 1):
+        for number in range(len(self.requests) + 1, len(world.requests) + 1):
             sender, heartbeat, _ = world.requests[number - 1]
             self.requests[number] = Message(sender - 1, heartbeat.correlation, self.time, came=1)
-        for number in range(replies + 1, len(world.replies) + 1):
+        for number in range(len(self.replies) + 1, len(world.replies) + 1):
             taker, body = world.replies[number - 1]
             correlation, code, _, epoch, shows = read_heartbeat_reply(body)
             reply = events.Reply(number, code, epoch, None if shows is None else frozenset(shows))
             self.replies[number] = Message(taker - 1, correlation, self.time, reply, came=1)
-        return events.Settled((requests, len(self.requests)), (replies, len(self.replies)))
+        return events.Settled()
 
     def mark(self, message: Message) -> str:
         """How a request or a reply comes. A client that has quit waits for nothing."""
