@@ -4,7 +4,6 @@ ghost use Rattle.std.specs.Prelude.{◌≡◌, IsTrue};
 ghost use Rattle.group_types.specs.Sets.{nothing};
 ghost use Rattle.group_types.specs.Group.{held};
 ghost use Rattle.group_reconcile.specs.Holders.{pairs};
-ghost use Rattle.group_reconcile.specs.Offers.{AreIndexed};
 
 use crate::members::id_of;
 use crate::parts::{part, set_of};
@@ -116,7 +115,7 @@ fn make_offer(
     let target = Wanted::new(Some(&offer.wanted), offer.epoch);
     let owned = offer.owned.as_ref();
     let shown = grants.shown_after(offer.member, &target, owned)?;
-    let verdict = grant(grants, &member, &target, owned)?;
+    let verdict = grants.offer(&member, &target, owned)?;
     let is_shown = is_held(grants, offer, &shown);
     put_verdict(verdict, is_shown, out)
 }
@@ -135,41 +134,6 @@ fn is_held(grants: &Grants, offer: &Offer<'_>, set: &PartSet) -> bool {
     let held = |p: &Partition| grants.holds(offer.member, p);
     offer.wanted.iter().all(|p| set.contains(p) == held(p))
         && set.iter().all(|p| offer.wanted.contains(p))
-}
-
-/// Offers its target to a member; no partition has an index below 0.
-fn grant(
-    grants: &mut Grants,
-    member: &MemberId,
-    target: &Wanted<'_>,
-    owned: Option<&PartSet>,
-) -> Result<Verdict, AllocError> {
-    if are_indexed(target) {
-        grants.offer(member, target, owned)
-    } else {
-        Ok(Verdict::StillHolds)
-    }
-}
-
-/// Whether no partition of the target has an index below 0.
-fn are_indexed(target: &Wanted<'_>) -> bool
-    ensures { IsTrue result → AreIndexed target.now.partitions }
-{
-    match target.set() {
-        Some(set) => set_is_indexed(set),
-        None => false,
-    }
-}
-
-fn set_is_indexed(set: &PartSet) -> bool
-    ensures { IsTrue result → AreIndexed set.now }
-{
-    for p in set.iter() {
-        if p.index < 0 {
-            return false;
-        }
-    }
-    true
 }
 
 /// Gives all that the first id may read to the second, where that may read nothing.

@@ -12,7 +12,6 @@ use Rattle.group_types.specs.Limits.{MOST_PARTITIONS}
 use Rattle.group_types.specs.Text.{Text, text_cmp}
 use Rattle.group_types.specs.Sets.{nothing, common, has, without, size}
 use Rattle.group_types.specs.Sound.{IsOfView}
-use Rattle.group_reconcile.specs.Offers.{AreIndexed}
 use Rattle.group_core.specs.Stages.{AreOfView}
 use Rattle.std.specs.Cmp.{second_so}
 use Rattle.group_types.specs.Partition.{partition_cmp, Partitions}
@@ -22,7 +21,6 @@ use Rattle.group_types.specs.Owners.{Spread, is_index, IsLawful, IsSubscriber, s
 use Rattle.group_types.proofs.Orders.{text_cmp_total, partition_cmp_total, partition_cmp-IsAntisymmetric}
 use Rattle.group_types.proofs.SetLemmas.{has-common, has-nothing, has-without, size-nothing, size-without, same_set}
 use Rattle.group_types.proofs.SpreadLemmas.{has-share_of, owns-get}
-use Rattle.group_types.proofs.Indexes.{index_of}
 use Rattle.group_types.specs.Images.{AreImageTopics}
 use Rattle.group_types.proofs.GrantLemmas.{both_equal}
 
@@ -127,9 +125,3 @@ few_shown view owners id held image of =
     let few = few_of_topics (finite.entries view) (common held (share_of owners id)) (λ p there.
     is_one_of_view view p (share_of_view view owners id of p (second_so (has held p) _ (sym (has-common partition_cmp_total held (share_of owners id) p) ∙ there)))) in
     omega (arith, few, image.few_partitions)
-
--- what a member owns has indexes from 0 on
-pub are_indexed : (view : Topics) (owners : Spread) (id : Text) → AreOfView owners view → AreIndexed (share_of owners id)
-are_indexed view owners id of p there =
-    let there = share_of_view view owners id of p there in
-    let at = index_of p.index there.topic.count there.index in (at.0, at.1)

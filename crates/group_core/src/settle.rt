@@ -79,7 +79,6 @@ fn offered(
     renewal: &Renewal,
     owned: &Option<PartSet>,
 ) -> Result<bool, AllocError>
-    requires { AreOfView (target_then state.old renewal.now).owners renewal.now.view }
     ensures offer { IfOk result (λ moves. IsOffered state.old draft.now renewal.now owned.now moves state.new) }
     ensures err { OnErr result (state.new ≡ state.old) }
 {

@@ -19,9 +19,9 @@ use Rattle.group_reconcile.specs.declared.members.Member.{Member}
 use Rattle.group_reconcile.specs.Granted.{AreConsistent, held_by, holders_of}
 use Rattle.group_reconcile.specs.Holders.{Held, Holders, Settles, settled_holder}
 use Rattle.group_reconcile.specs.Members.{IsNumberOf, KeepsMembers, KeepsParts, MemberTable, SetsParts, id_of, is_number, parts_of, with_parts}
-use Rattle.group_reconcile.specs.Offers.{AreIndexed, IsSince}
+use Rattle.group_reconcile.specs.Offers.{IsSince}
 use Rattle.group_reconcile.specs.Settling.{IsNext}
-use Rattle.group_reconcile.specs.Tables.{Cells, IsAtLeastZero}
+use Rattle.group_reconcile.specs.Tables.{Cells}
 use Rattle.group_reconcile.proofs.Granted.{get-holders_of, known}
 use Rattle.group_reconcile.proofs.Leaving.{named-known}
 use Rattle.group_reconcile.proofs.Numbers.{has_id-is}
@@ -43,27 +43,6 @@ IsSince-settled h n m target epoch settles p d is = at (has target p) (finite.ge
     at true (Some e) was is = inl (was ∙ is)
     at false None was is = absurd (true≢false (sym (ap is_some is)))
     at false (Some e) was is = inl (was ∙ some_or_not (eq_by_cmp text_cmp m e.member) e is)
-
--- ---- indexes
-
--- what is true of each key of a list is true of all
-all_keys : (P : Partition → Type 0) (ps : List Partition) → ((p : Partition) → list_any (eq_by_cmp partition_cmp p) ps ≡ true → P p) → AllByRecursion P ps
-all_keys P [] each = tt
-all_keys P (p ∷ ps) each = (
-  each p (ap (λ b. b || list_any (eq_by_cmp partition_cmp p) ps) ((eq_by_cmp_equiv partition_cmp_total).refl p)),
-  all_keys P ps (λ q there. each q (or_second (eq_by_cmp partition_cmp q p) (list_any (eq_by_cmp partition_cmp q) ps) there)),
-)
-
--- the next partitions have the target's indexes
-pub indexed-next : (cells : Cells) (number : Option ℕ) (target next : Partitions) → AreIndexed target → IsNext cells number target next → AllByRecursion (λ p. IsAtLeastZero p.index) (in_order next)
-indexed-next cells number target next indexed is_next =
-    all_keys (λ p. IsAtLeastZero p.index) (in_order next) (λ p there.
-    let index = indexed p (first (has target p) _ (sym (is_next p) ∙ has-in_order next p ∙ there)) in
-    subst IsAtLeastZero (sym index.1) tt)
-  where
-    first : (a b : Bool) → (a && b) ≡ true → a ≡ true
-    first true b so = refl
-    first false b so = so
 
 -- ---- a member table in which no member has changed, though there may be more of them
 

@@ -1,10 +1,8 @@
 -- KIP-848, "Reconciliation of the group" and "Static Membership": what comes of an offer, of a leave and of a take-over.
-use Rattle.std.specs.Prelude.{◌≡◌, ◌⊎◌, map, ℕ, Bool, true, false, pos, IsTrue, Some, None}
+use Rattle.std.specs.Prelude.{◌≡◌, ◌⊎◌, map, ℕ, Bool, true, false, Some, None}
 use Rattle.std.specs.FinMap as finite
 use Rattle.group_types.specs.declared.partition.Partition.{Partition}
 use Rattle.group_types.specs.Text.{Text}
-use Rattle.group_types.specs.Sets.{has}
-use Rattle.group_types.specs.Partition.{Partitions}
 use Rattle.group_types.specs.Owners.{renamed_id}
 use Rattle.group_reconcile.specs.Holders.{Held, Holders}
 use Rattle.group_reconcile.specs.declared.verdict.Verdict.{Verdict}
@@ -14,10 +12,6 @@ use Rattle.group_reconcile.specs.declared.verdict.Verdict.TheVariants.{Moves, St
 abbrev pub verdict_of : Bool → Verdict
 verdict_of true = Moves
 verdict_of false = StillHolds
-
--- every partition of the set has an index from 0 on (ours)
-abbrev pub AreIndexed : Partitions → Type 0
-AreIndexed set = (p : Partition) → IsTrue (has set p) → (i : ℕ) × (p.index ≡ pos i)
 
 -- what is kept keeps its epoch, and what the member is granted anew has the target's
 abbrev pub IsSince : Holders → Holders → Text → ℕ → Type 0

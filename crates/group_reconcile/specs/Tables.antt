@@ -57,10 +57,6 @@ sizes_in ts = finite.from_entries (map (λ t. (t.0, length t.1.items)) ts)
 
 -- ---- room
 
-abbrev pub IsAtLeastZero : ℤ → Type 0
-IsAtLeastZero (pos i) = Unit {0}
-IsAtLeastZero (negsuc i) = ⊥
-
 -- how many indexes of a topic have a place
 abbrev pub size_of : Sizes → Text → ℕ
 size_of sizes topic = unwrap_or (finite.get sizes topic) 0

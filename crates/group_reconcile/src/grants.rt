@@ -7,7 +7,7 @@ ghost use Rattle.group_types.specs.Sets.{common, in_order, nothing};
 ghost use Rattle.group_types.specs.Group.{held};
 ghost use Rattle.group_types.specs.Settle.{granting, grants_after, grants_of_others, may_settle};
 ghost use Rattle.group_reconcile.specs.Holders.{Settles, granted_at, holds, pairs};
-ghost use Rattle.group_reconcile.specs.Offers.{AreIndexed, IsSince, KeepsSince, handed_over, verdict_of};
+ghost use Rattle.group_reconcile.specs.Offers.{IsSince, KeepsSince, handed_over, verdict_of};
 
 use crate::members::Members;
 use crate::settle::{clear_each, make_room_for, may_move, next_of, settle};
@@ -99,15 +99,13 @@ impl Grants {
 
     /// Offers its target to a member that reports what it owns, or nothing (KIP-848, "Reconciliation of the group"): it
     /// moves once it has given up what isn't its target any more, and is then granted what nobody else holds of the target.
-    /// The target has no index below 0 (`AreIndexed`): each of its partitions is one of a topic, as a [`group_types::Partition`] by itself
-    /// needn't be. Where memory is short, nothing has changed.
+    /// Where memory is short, nothing has changed; no memory is enough to grant an index below 0, which no topic has.
     pub fn offer(
         &mut self,
         member: &MemberId,
         target: &Wanted<'_>,
         owned: Option<&PartSet>,
     ) -> Result<Verdict, AllocError>
-        requires { AreIndexed target.now.partitions }
         ensures verdict { IfOk result (λ v. v ≡ verdict_of (may_settle (pairs self.old) member.now target.now.partitions (option_copied owned.entry))) }
         ensures grants { OnOk result (pairs self.new ≡ grants_after (may_settle (pairs self.old) member.now target.now.partitions (option_copied owned.entry)) (pairs self.old) member.now target.now.partitions) }
         ensures since { OnOk result (IsSince self.old self.new member.now target.now.epoch) }
@@ -149,7 +147,6 @@ impl Grants {
 
     /// Settles a member on its target: what can fail comes first. Where memory is short, nothing has changed.
     fn settle_on(&mut self, member: &MemberId, target: &Wanted<'_>) -> Result<(), AllocError>
-        requires { AreIndexed target.now.partitions }
         ensures settled { OnOk result (Settles self.old member.now target.now.partitions target.now.epoch self.new) }
         ensures err { OnErr result (self.new ≡ self.old) }
     {

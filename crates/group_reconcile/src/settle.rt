@@ -7,7 +7,7 @@ ghost use Rattle.slab.specs.Slab.{get};
 ghost use Rattle.group_types.specs.Sets.{in_order, minus, nothing};
 ghost use Rattle.group_types.specs.Settle.{may_move};
 ghost use Rattle.group_reconcile.specs.Members.{SetsParts, parts_of};
-ghost use Rattle.group_reconcile.specs.Tables.{HasRoom, IsAtLeastZero};
+ghost use Rattle.group_reconcile.specs.Tables.{HasRoom};
 ghost use Rattle.group_reconcile.specs.Settling.{IsNext, cells_cleared, cells_put, cells_without, is_kept, may_take, put_where_free, taken_of, with_if_free};
 
 use crate::cell::Cell;
@@ -127,7 +127,6 @@ pub fn settle(
 
 /// Makes room for the cells of all these partitions. Where memory is short, no cell has changed.
 pub fn make_room_for(table: &mut Table, alloc: Global, next: &PartSet) -> Result<(), AllocError>
-    requires { AllByRecursion (λ p. IsAtLeastZero p.index) (in_order next.now) }
     ensures cells { table.new.cells ≡ table.old.cells }
     ensures room { OnOk result (AllByRecursion (HasRoom table.new.sizes) (in_order next.now)) }
 {

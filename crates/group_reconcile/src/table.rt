@@ -3,7 +3,7 @@
 ghost use Rattle.std.specs.Prelude.{◌≡◌, length, OnOk, IsSome};
 ghost use Rattle.std.specs.FinMap as finite;
 ghost use Rattle.group_types.specs.Owners.{IsIndex};
-ghost use Rattle.group_reconcile.specs.Tables.{AddsBlanks, HasRoom, IsAtLeastZero, KeepsRoom, SetsCell, cell_at};
+ghost use Rattle.group_reconcile.specs.Tables.{AddsBlanks, HasRoom, KeepsRoom, SetsCell, cell_at};
 
 use crate::cell::Cell;
 use group_types::Partition;
@@ -50,7 +50,6 @@ impl Table {
 
     /// Makes room for a partition's cell. Where memory is short, no cell has changed.
     pub fn make_room(&mut self, alloc: Global, p: &Partition) -> Result<(), AllocError>
-        requires { IsAtLeastZero p.now.index }
         ensures cells { self.new.cells ≡ self.old.cells }
         ensures kept { KeepsRoom self.old.sizes self.new.sizes }
         ensures room { OnOk result (HasRoom self.new.sizes p.now) }
@@ -73,8 +72,7 @@ impl Table {
 
     /// Makes room for a partition's cell, whose topic has a table. Where memory is short, no cell has changed.
     fn lengthen(&mut self, p: &Partition) -> Result<(), AllocError>
-        requires index { IsAtLeastZero p.now.index }
-        requires topic { IsSome (finite.get self.old.sizes p.now.topic) }
+        requires { IsSome (finite.get self.old.sizes p.now.topic) }
         ensures cells { self.new.cells ≡ self.old.cells }
         ensures kept { KeepsRoom self.old.sizes self.new.sizes }
         ensures room { OnOk result (HasRoom self.new.sizes p.now) }
@@ -126,14 +124,13 @@ fn cell_at(cells: &Vec<Option<Cell>>, index: i32) -> Option<Cell>
     }
 }
 
-/// Makes the cells go as far as an index. Where memory is short, they stay as they were.
+/// Makes the cells go as far as an index. Where memory is short, they stay as they were; no memory is enough for an index below 0.
 fn add_blanks(cells: &mut Vec<Option<Cell>>, index: i32) -> Result<(), AllocError>
-    requires { IsAtLeastZero index }
     ensures blanks { AddsBlanks cells.old.items cells.new.items }
     ensures far { OnOk result (IsIndex index (length cells.new.items)) }
 {
     let Ok(index) = usize::try_from(index) else {
-        return Ok(());
+        return Err(AllocError);
     };
     if index < cells.len() {
         return Ok(());

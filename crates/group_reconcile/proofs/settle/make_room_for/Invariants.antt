@@ -1,8 +1,6 @@
 use Rattle.std.proofs.Common.{◌≡◌}
-use Rattle.std.specs.List.{AllByRecursion}
 use Rattle.std.specs.Slice.Iter.{iter_rest}
 use Rattle.group_types.specs.Sets.{in_order}
-use Rattle.group_reconcile.specs.Tables.{IsAtLeastZero}
 use Rattle.group_reconcile.proofs.Rooms.{HaveRoomOrAreLeft}
 use Rattle.group_reconcile.proofs.settle.make_room_for.Given as goal
 
@@ -10,6 +8,5 @@ use Rattle.group_reconcile.proofs.settle.make_room_for.Given as goal
 abbrev pub invariant-loop-p : goal.invariant-loop-p
 invariant-loop-p l = record {
   cells : l.table.cells ≡ l.fn.table.cells;
-  indexed : AllByRecursion (λ p. IsAtLeastZero p.index) (iter_rest l.p-iterator);
   room : HaveRoomOrAreLeft l.table.sizes (in_order l.next) (iter_rest l.p-iterator);
 }

@@ -9,7 +9,7 @@ use Rattle.group_reconcile.specs.Members.{IsNumberOf, parts_of}
 use Rattle.group_reconcile.specs.Settling.{cells_cleared, cells_put}
 use Rattle.group_reconcile.specs.Tables.{Cells}
 use Rattle.group_reconcile.proofs.Settled.{settling_is}
-use Rattle.group_reconcile.proofs.Settles.{AreConsistent-settled, IsSettling, Settling, Settles-settled, holders_of-kept, indexed-next}
+use Rattle.group_reconcile.proofs.Settles.{AreConsistent-settled, IsSettling, Settling, Settles-settled, holders_of-kept}
 use Rattle.group_reconcile.proofs.grants.Grants.settle_on.Goals as goal
 
 on_err : {T E : Type 0} {P : Type 0} (r : Result T E) → P → OnErr r P
@@ -24,10 +24,6 @@ changed cells grown after parts next n since epoch same at is p =
     ap (λ m. finite.get m p) is
     ∙ (λ i. finite.get (cells_put (cells_cleared (same i) next (in_order parts)) (record { holder = n; since = at i }) (in_order next)) p)
     ∙ settling_is cells parts next (record { holder = n; since = epoch }) p
-
-pub make_room_for-requires : goal.make_room_for-requires
-make_room_for-requires c =
-    indexed-next c.self.inside.table.cells c.find-number.result c.args.target.now.partitions c.in_ok-next.next c.requires c.in_ok-next.ensures
 
 pub returns-in_err-number-clause-err : goal.returns-in_err-number-clause-err
 returns-in_err-number-clause-err c =
