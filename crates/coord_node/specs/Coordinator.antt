@@ -1,10 +1,10 @@
 -- The coordinator of a node: its groups by their ids, and the image of the topics.
-use Rattle.std.specs.Prelude.{ℕ, Bool, false, List, [], Option, Some, None}
+use Rattle.std.specs.Prelude.{ℕ, ℤ, Bool, false, List, [], Option, Some, None}
 use Rattle.std.specs.FinMap as finite
 use Rattle.group_types.specs.declared.stamp.Stamp.{Stamp}
 use Rattle.group_types.specs.Text.{Text, text_cmp}
 use Rattle.group_types.specs.Topics.{Topics}
-use Rattle.group_types.specs.Group.{Group}
+use Rattle.group_types.specs.Group.{Committed, Group}
 use Rattle.group_types.specs.Members.{is_remembered, members_of}
 
 abbrev pub Groups : Type 0
@@ -40,3 +40,8 @@ bytes_of (Done removed) = []
 abbrev pub is_remembered_at : Option Group → Text → Bool
 is_remembered_at None m = false
 is_remembered_at (Some g) m = is_remembered (members_of g) m
+
+-- what was last committed for a topic's name and an index in a group, where there is one (ours)
+abbrev pub committed_at : Option Group → Text × ℤ → Option Committed
+committed_at None place = None
+committed_at (Some g) place = finite.get g.offsets place

@@ -66,7 +66,7 @@ fn admit_success(
 {
     match keep(alloc, groups, name, kept) {
         Ok(()) => Ok(outcome),
-        Err(NotKept::Full) => Ok(Outcome::Replied(Reply::refusal(Code::CoordinatorNotAvailable))),
+        Err(NotKept::Full) => Ok(Outcome::Reply(Reply::refusal(Code::CoordinatorNotAvailable))),
         Err(NotKept::NoMemory) => Err(AllocError),
     }
 }

@@ -117,7 +117,7 @@ fn known_after(outcome: &Outcome, before: Option<u64>, generation: Option<u64>) 
     ensures { result ≡ known_after (answer_of outcome.now) before generation }
 {
     match outcome {
-        Outcome::Replied(reply) => {
+        Outcome::Reply(reply) => {
             if !is_success(reply.code) {
                 before
             } else if reply.epoch < 0 {

@@ -20,7 +20,7 @@ mod success;
 mod tick;
 
 pub use event::{Answered, NodeEvent};
-pub use group_core::{Group, Image, Moment, Stamp};
+pub use group_core::{Committed, Group, Image, Moment, Stamp};
 pub use laws::{
     coordinators_serve, events_are_answered, groups_are_made_by_success, groups_are_sound,
     one_answer, path_is_answered, replies_fit, runs_are_answered, steps_are_sound,

@@ -9,7 +9,7 @@ ghost use Rattle.group_types.specs.Limits.{SMALLEST_BODY as FEWEST_BYTES, LARGES
 ghost use Rattle.group_types.specs.Images.{AreImageTopics};
 ghost use Rattle.group_epochs.specs.Request.{arrival_of};
 ghost use Rattle.group_core.specs.Outcome.{answer_of};
-ghost use Rattle.coord_node.specs.Coordinator.{opening, Done, Frame, Tick, is_remembered_at};
+ghost use Rattle.coord_node.specs.Coordinator.{opening, Done, Frame, Tick, committed_at, is_remembered_at};
 ghost use Rattle.coord_node.specs.Steps.{HeartbeatAt, Step};
 ghost use Rattle.coord_node.specs.Answers.{Answers, AnswersRequest, AnswersHeartbeat, ClosesAtOnce, CommitsIn, IsCommitted, IsSendable, IsSent};
 
@@ -20,7 +20,7 @@ use crate::kept::Kept;
 use crate::parsed::ParsedBody;
 use crate::tick::tick_all;
 use crate::{commit_frame, heartbeat_frame};
-use group_core::{Group, Outcome};
+use group_core::{Committed, Group, Outcome};
 use group_epochs::place_of;
 use group_types::limits::{LARGEST_BODY, SMALLEST_BODY};
 use group_types::{Moment, Stamp};
@@ -122,6 +122,16 @@ impl Node {
         match self.groups.get(group) {
             Some(kept) => kept.group.remembers(id),
             None => false,
+        }
+    }
+
+    /// What was last committed in a group for an index of a topic; none where the node has no such group. Takes no memory.
+    pub fn committed(&self, group: &str, name: &str, index: i32) -> Option<&Committed>
+        ensures { option_copied result ≡ committed_at (finite.get self.now.groups group.now) (name.now, index) }
+    {
+        match self.groups.get(group) {
+            Some(kept) => kept.group.committed(name, index),
+            None => None,
         }
     }
 
@@ -356,7 +366,7 @@ fn send(alloc: Global, correlation: i32, outcome: Outcome, out: &mut Vec<u8>) ->
     ensures { IsSent correlation (answer_of outcome) result out.old.items out.new.items }
 {
     match outcome {
-        Outcome::Replied(reply) => {
+        Outcome::Reply(reply) => {
             heartbeat_frame::put(alloc, out, correlation, reply);
             Answered::Replied
         }

@@ -39,6 +39,7 @@ impl<'a> ParsedBody<'a> {
     ghost use Rattle.coord_node.specs.Parsed.{IsRequestOf};
 
     /// Reads a body. Its texts are lent and not copied. Fails where memory is too short to read it.
+    #[inline(always)]
     pub fn of(alloc: Global, body: &'a [u8]) -> Result<ParsedBody<'a>, AllocError>
         ensures bytes { IfOk result (λ parsed. parsed ≡ body.now) }
         // A body of another API or version takes no memory, and is no request.

@@ -22,7 +22,7 @@ pub(crate) fn succeeds(outcome: &Outcome) -> bool
     ensures { result ≡ succeeds (answer_of outcome.now) }
 {
     match outcome {
-        Outcome::Replied(reply) => is_success(reply.code),
+        Outcome::Reply(reply) => is_success(reply.code),
         Outcome::Overtaken => false,
     }
 }

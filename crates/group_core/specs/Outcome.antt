@@ -12,7 +12,7 @@ use Rattle.group_types.specs.Renewal.{view_for}
 use Rattle.group_types.specs.HeartbeatStep as machine
 use Rattle.group_core.specs.declared.outcome.Reply.{Reply}
 use Rattle.group_core.specs.declared.outcome.Outcome.{Outcome}
-use Rattle.group_core.specs.declared.outcome.Outcome.TheVariants.{Replied, Overtaken}
+use Rattle.group_core.specs.declared.outcome.Outcome.TheVariants as outcome
 
 -- a reply, field by field
 abbrev pub reply_of : Reply → machine.Reply
@@ -21,8 +21,8 @@ reply_of r =
 
 -- a reply, or that the connection is closed
 abbrev pub answer_of : Outcome → machine.Answer
-answer_of (Replied r) = machine.Replied (reply_of r)
-answer_of Overtaken = machine.Closes
+answer_of (outcome.Reply r) = machine.Replied (reply_of r)
+answer_of outcome.Overtaken = machine.Closes
 
 -- KIP-848, "ConsumerGroupHeartbeat API": a reply assigns no more partitions than an image may have
 abbrev pub HasFewPartitions : machine.Answer → Type 0

@@ -12,6 +12,7 @@ use group_types::{AssignorName, Code};
 use kip_msgs::{Array, HeartbeatRequest, TopicPartitions};
 
 /// Whether the heartbeat joins under no member id and no instance id (KIP-848, "Consumer Group Heartbeat").
+#[inline(always)]
 pub fn makes_member(request: &HeartbeatRequest<'_>) -> bool
     ensures { IsTrue result ↔ MakesMember (heartbeat_of (heartbeat_request_value request.now)) }
 {
@@ -19,6 +20,7 @@ pub fn makes_member(request: &HeartbeatRequest<'_>) -> bool
 }
 
 /// The code that the request is refused with, whatever the group (KIP-848, "ConsumerGroupHeartbeat API").
+#[inline(always)]
 pub fn refusal_of(request: &HeartbeatRequest<'_>) -> Option<Code>
     ensures { let q = heartbeat_of (heartbeat_request_value request.now) in
         MatchOption result (verdict_on_request q ≡ Accepted) (λ code. verdict_on_request q ≡ Refused code) }
@@ -33,6 +35,7 @@ pub fn refusal_of(request: &HeartbeatRequest<'_>) -> Option<Code>
 }
 
 /// Whether the request is invalid, by its member epoch: INVALID_REQUEST.
+#[inline(always)]
 fn is_invalid(request: &HeartbeatRequest<'_>) -> bool
     ensures { result ≡ is_invalid (heartbeat_of (heartbeat_request_value request.now)) }
 {
@@ -49,6 +52,7 @@ fn is_invalid(request: &HeartbeatRequest<'_>) -> bool
 }
 
 /// Whether a join lacks what a join must say, or says that it owns a partition.
+#[inline(always)]
 fn is_invalid_join(request: &HeartbeatRequest<'_>) -> bool
     ensures { result ≡ is_invalid_join (heartbeat_of (heartbeat_request_value request.now)) }
 {
@@ -64,6 +68,7 @@ fn is_invalid_join(request: &HeartbeatRequest<'_>) -> bool
 }
 
 /// Whether the list names a partition: an entry without indexes names none.
+#[inline(always)]
 fn names_partition(list: &Array<TopicPartitions<'_>>) -> bool
     ensures { result ≡ not (is_empty (flat_map partitions_of (topic_partitions_values list.now))) }
 {
@@ -71,6 +76,7 @@ fn names_partition(list: &Array<TopicPartitions<'_>>) -> bool
 }
 
 /// Whether some entry has an index.
+#[inline(always)]
 fn has_index(entries: &[TopicPartitions<'_>]) -> bool
     ensures { result ≡ list_any (λ entry. not (is_empty entry.partitions)) entries.now }
 {
@@ -78,6 +84,7 @@ fn has_index(entries: &[TopicPartitions<'_>]) -> bool
 }
 
 /// Whether a join or a beat names an assignor that there isn't: UNSUPPORTED_ASSIGNOR.
+#[inline(always)]
 fn is_unsupported(request: &HeartbeatRequest<'_>) -> bool
     ensures { result ≡ is_unsupported (heartbeat_of (heartbeat_request_value request.now)) }
 {

@@ -1,5 +1,5 @@
 //! A group and its heartbeats.
-ghost use Rattle.std.specs.Prelude.{◌≡◌, ◌≤◌, ◌-◌, IfOk, OnErr, true, length, vec_capacity, unwrap_or, option_map};
+ghost use Rattle.std.specs.Prelude.{◌≡◌, ◌-◌, IfOk, OnErr, true, length, vec_capacity, unwrap_or, option_map};
 ghost use Rattle.std.specs.Option.{option_copied};
 ghost use Rattle.std.specs.FinMap as finite;
 ghost use Rattle.group_types.specs.Sets.{nothing};
@@ -16,6 +16,7 @@ use group_reconcile::Grants;
 use group_target::Target;
 use group_types::{Epoch, EpochNumber, Moment, PartSet, Stamp};
 use kip_msgs::{CommitReply, CommitRequest, HeartbeatRequest};
+use offset_guard::Committed;
 use std::alloc::{AllocError, Global};
 use std::collections::hash_map::RandomState;
 use std::marker::Model;
@@ -51,7 +52,6 @@ impl Group {
     ghost use Rattle.group_types.specs.Sound.{IsSound};
     ghost use Rattle.kip_msgs.specs.Views.{commit_reply_value, commit_request_value, heartbeat_request_value};
     ghost use Rattle.group_epochs.specs.Request.{arrival_of};
-    ghost use Rattle.group_types.specs.Limits.{LONGEST_STRING};
     ghost use Rattle.group_types.specs.HeartbeatStep.{HeartbeatStep};
     ghost use Rattle.group_types.specs.Tick.{removed_by_tick, ticked};
     ghost use Rattle.group_epochs.specs.Request.{commit_of};
@@ -140,8 +140,14 @@ impl Group {
         self.state.records.last_stamp(member)
     }
 
-    /// One heartbeat of KIP-848 with its stamp, at a moment, over the node's image. Its member id is one that the wire
-    /// takes. A refusal and an overtaken heartbeat change nothing. A partition that somebody held stays granted under the target
+    /// What was last committed for an index of a topic, or none. Takes no memory.
+    pub fn committed(&self, name: &str, index: i32) -> Option<&Committed>
+        ensures { option_copied result ≡ finite.get self.now.state.offsets (name.now, index) }
+    {
+        self.state.offsets.committed(name, index)
+    }
+
+    /// One heartbeat of KIP-848 with its stamp, at a moment, over the node's image. A refusal and an overtaken heartbeat change nothing. A partition that somebody held stays granted under the target
     /// epoch under which it was. Where it replies there is room for the reply's frame behind the bytes of `out`, which stay. Fails
     /// where memory is short, and then nothing has changed.
     pub fn heartbeat(
@@ -152,7 +158,6 @@ impl Group {
         image: &Image,
         out: &mut Vec<u8>,
     ) -> Result<Outcome, AllocError>
-        requires id { length request.now.member_id.now ≤ LONGEST_STRING }
         ensures step { IfOk result (λ outcome. HeartbeatStep self.old.state
             (arrival_of (heartbeat_request_value request.now) stamp now image.now) (answer_of outcome) self.new.state) }
         ensures response { IfOk result (λ outcome. IsResponse (answer_of outcome) self.new.state image.now (vec_capacity out.new - length out.new.items)) }
@@ -174,7 +179,6 @@ impl Group {
         is_current: bool,
         out: &mut Vec<u8>,
     ) -> Result<Outcome, AllocError>
-        requires id { length request.now.member_id.now ≤ LONGEST_STRING }
         requires current { is_current ≡ true → IsCurrent self.old.state image.now }
         ensures step { IfOk result (λ outcome. HeartbeatStep self.old.state
             (arrival_of (heartbeat_request_value request.now) stamp now image.now) (answer_of outcome) self.new.state) }

@@ -1,8 +1,7 @@
 //! A member leaves for good (KIP-848, "Consumer Group Heartbeat", member epoch -1), or a static one goes away for a while ("Static
 //! Membership", member epoch -2).
-ghost use Rattle.std.specs.Prelude.{◌≡◌, ◌≤◌, ◌-◌, IfOk, OnOk, Some, length, vec_capacity};
+ghost use Rattle.std.specs.Prelude.{◌≡◌, ◌-◌, IfOk, OnOk, Some, length, vec_capacity};
 ghost use Rattle.std.specs.FinMap as finite;
-ghost use Rattle.group_types.specs.Limits.{LONGEST_STRING};
 ghost use Rattle.group_types.specs.Group.{Record};
 ghost use Rattle.group_types.specs.Leave.{gone_away, left, risen};
 ghost use Rattle.group_types.specs.Request.{GOES_AWAY_AT, LEAVES_AT};
@@ -29,7 +28,6 @@ pub fn leave(
     out: &mut Vec<u8>,
 ) -> Result<Outcome, AllocError>
     requires marks { AreMarked (group_of state.old) state.old.records.marks }
-    requires id { length member.now ≤ LONGEST_STRING }
     requires there { IsMember state.old.records member.now }
     ensures answer { IfOk result (λ outcome. answer_of outcome ≡ Replied (farewell member.now LEAVES_AT)) }
     ensures group { OnOk result (group_of state.new ≡ left (group_of state.old) member.now stamp moment) }
@@ -43,7 +41,7 @@ pub fn leave(
     state.grants.drop_member(member);
     state.epoch = risen(state.epoch);
     state.clock = state.clock.later(moment);
-    Ok(Outcome::Replied(Reply::farewell(id, -1)))
+    Ok(Outcome::Reply(Reply::farewell(id, -1)))
 }
 
 /// Answers a heartbeat that the checks accept and by which a member goes away: its record says so, and its target, its grants and the
@@ -56,7 +54,6 @@ pub fn go_away(
     out: &mut Vec<u8>,
 ) -> Result<Outcome, AllocError>
     requires marks { AreMarked (group_of state.old) state.old.records.marks }
-    requires id { length member.now ≤ LONGEST_STRING }
     requires there { IsMember state.old.records member.now }
     ensures answer { IfOk result (λ outcome. answer_of outcome ≡ Replied (farewell member.now GOES_AWAY_AT)) }
     ensures group { OnOk result ((r : Record) × (finite.get state.old.records.records member.now ≡ Some r)
@@ -69,7 +66,7 @@ pub fn go_away(
     let now = state.clock.later(moment);
     state.records.away(member, stamp, now);
     state.clock = now;
-    Ok(Outcome::Replied(Reply::farewell(id, -2)))
+    Ok(Outcome::Reply(Reply::farewell(id, -2)))
 }
 
 /// The epoch after this one, or the greatest one again.

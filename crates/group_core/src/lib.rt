@@ -43,6 +43,7 @@ pub use laws::{
     assignors_are_lawful, first_joins_are_answered, heartbeats_have_an_answer,
     heartbeats_have_one_answer, targets_exist, targets_follow_members,
 };
+pub use offset_guard::Committed;
 pub use outcome::{Outcome, Reply};
 pub use shown::Shown;
 pub use topic_meta::Image;

@@ -16,7 +16,7 @@ pub fn mark_replied(state: &mut State, outcome: &Outcome)
     ensures holders { state.new.grants ≡ state.old.grants }
     ensures marks { AreMarked (group_of state.new) state.new.records.marks }
 {
-    if let Outcome::Replied(reply) = outcome {
+    if let Outcome::Reply(reply) = outcome {
         if let Some(id) = &reply.member {
             let id = id.as_str();
             if is_steady(state, id) {

@@ -77,7 +77,7 @@ impl Reply {
 #[derive(Drop)]
 pub enum Outcome {
     /// It is answered.
-    Replied(Reply),
+    Reply(Reply),
     /// A later heartbeat of the member was accepted before: it is not answered, and its connection is to be closed.
     Overtaken,
 }

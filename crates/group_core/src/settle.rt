@@ -44,7 +44,7 @@ pub fn settle(
 {
     let (plan, moves) = prepare(state, &draft, &renewal, request, out)?;
     let reply = carry_out(state, draft, renewal, plan, moves, now);
-    Ok(Outcome::Replied(reply))
+    Ok(Outcome::Reply(reply))
 }
 
 /// Makes all that the reply to a draft needs of memory, and offers the draft's member its part of the target, which is the last that

@@ -1,7 +1,6 @@
 //! A join or a beat (KIP-848, "Consumer Group Heartbeat", member epochs from 0 on): its draft, its change, its renewal, its settling and
 //! its reply.
-ghost use Rattle.std.specs.Prelude.{◌≡◌, ◌≢◌, ◌≤◌, ◌≤ℤ◌, ◌-◌, IfOk, length, pos, vec_capacity};
-ghost use Rattle.group_types.specs.Limits.{LONGEST_STRING};
+ghost use Rattle.std.specs.Prelude.{◌≡◌, ◌≢◌, ◌≤ℤ◌, ◌-◌, IfOk, length, pos, vec_capacity};
 ghost use Rattle.group_types.specs.Request.{kind_of};
 ghost use Rattle.group_types.specs.Checks.{Accepted, sender_of, verdict_on};
 ghost use Rattle.group_types.specs.Topics.{Topics};
@@ -37,7 +36,6 @@ pub fn enter(
 ) -> Result<Outcome, AllocError>
     requires group { IsGroup state.old }
     requires epoch { pos 0 ≤ℤ request.now.member_epoch }
-    requires id { length request.now.member_id.now ≤ LONGEST_STRING }
     requires accepted { let q = heartbeat_of (heartbeat_request_value request.now) in
         verdict_on (kind_of q.epoch) (sender_of state.old.records.records q) (group_of state.old) q stamp ≡ Accepted }
     ensures step { let a = arrival_of (heartbeat_request_value request.now) stamp moment image.now in
@@ -86,5 +84,5 @@ pub fn refuse(code: Code, out: &mut Vec<u8>) -> Result<Outcome, AllocError>
     ensures out { out.new.items ≡ out.old.items }
 {
     make_room(out, "", &None)?;
-    Ok(Outcome::Replied(Reply::refusal(code)))
+    Ok(Outcome::Reply(Reply::refusal(code)))
 }

@@ -6,7 +6,6 @@ use group_core::{
     Group, HeartbeatRequest, Image, Moment, Outcome, PartSet, Partition, Reply, Stamp,
 };
 use group_types::EpochNumber;
-use group_types::limits::LONGEST_STRING;
 use kip_msgs::{Array, CommitRequest, TopicPartitions};
 use std::alloc::{AllocError, Global};
 use std::collections::hash_map::RandomState;
@@ -310,9 +309,6 @@ fn heartbeat(
         frame: told.steps,
     };
     let now = Moment::of_millis(7);
-    if LONGEST_STRING < request.member_id.len() {
-        return Ok(Outcome::Overtaken);
-    }
     let before = numbers_of(&told.group);
     if let Ok(outcome) = told
         .group
@@ -336,7 +332,7 @@ fn tell_outcome(outcome: &Outcome, out: &mut String) -> Result<(), AllocError> {
     part_words(out)?;
     match outcome {
         Outcome::Overtaken => out.push_str("closes"),
-        Outcome::Replied(reply) => tell_reply(reply, out),
+        Outcome::Reply(reply) => tell_reply(reply, out),
     }
 }
 

@@ -6,8 +6,8 @@ use Rattle.coord_node.specs.Answers.{IsSent}
 use Rattle.coord_node.proofs.AnswerLemmas.{sent_reply}
 use Rattle.coord_node.proofs.node.send.Goals as goal
 
-pub returns-in-Replied : goal.returns-in-Replied
-returns-in-Replied c =
+pub returns-in-Reply : goal.returns-in-Reply
+returns-in-Reply c =
     let passed : to_z w32 (of_z w32 c.args.correlation) ≡ c.args.correlation = search rules in
-    subst (λ (a : group.Answer). IsSent c.args.correlation a answered.Replied c.args.out.now.items c.put.new.out.items) (sym (ap answer_of c.in-Replied.is))
-    (sent_reply c.args.correlation _ (reply_of c.in-Replied.reply) c.args.out.now.items c.put.new.out.items passed c.put.ensures)
+    subst (λ (a : group.Answer). IsSent c.args.correlation a answered.Replied c.args.out.now.items c.put.new.out.items) (sym (ap answer_of c.in-Reply.is))
+    (sent_reply c.args.correlation _ (reply_of c.in-Reply.reply) c.args.out.now.items c.put.new.out.items passed c.put.ensures)
