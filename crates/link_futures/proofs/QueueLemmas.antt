@@ -5,7 +5,6 @@ use Rattle.std.proofs.lemmas.List.{nil_from_length, drop-append-le, take-append-
 use Rattle.std.proofs.lemmas.List.Sums.{sum_by-cons, sum_by-drop_more}
 use Rattle.std.proofs.lemmas.Grind.{flat_map-append}
 use Rattle.std.proofs.Math.Seq.{drop-append-add, take-append-add, take-suc}
-use Rattle.bytes.specs.Filled.{Filled}
 use Rattle.link_futures.specs.declared.outbox.Reply.{Reply}
 use Rattle.link_futures.specs.Buffers.{Waiting, waiting_in, bytes_of_all, bytes_in, joined, unsent_of}
 
@@ -26,12 +25,12 @@ pub front_and_rest : (replies : List Reply) (reply : Reply) → 0 < length repli
 front_and_rest replies reply some is =
     sum_by-drop_more (λ (r : Reply). r.unsent) replies 0 reply some ∙ ap (λ (r : Reply). r.unsent + unsent_of (drop 1 replies)) (sym is)
 
-bytes_in_parts : (buffers : List Filled) (n : ℕ) → bytes_in buffers ≡ bytes_in (take n buffers) ++ bytes_in (drop n buffers)
+bytes_in_parts : (buffers : List (List ℕ)) (n : ℕ) → bytes_in buffers ≡ bytes_in (take n buffers) ++ bytes_in (drop n buffers)
 bytes_in_parts buffers n =
-    ap bytes_in (sym (take-append-drop n buffers)) ∙ flat_map-append (λ (b : Filled). b.items) (take n buffers) (drop n buffers)
+    ap bytes_in (sym (take-append-drop n buffers)) ∙ flat_map-append (λ (b : List ℕ). b) (take n buffers) (drop n buffers)
 
 -- bytes at the front of the first buffers' first bytes are at the front of all
-pub front_of_all : (offered : List ℕ) (buffers : List Filled) (n most k : ℕ) → offered ≡ take most (bytes_in (take n buffers)) → k ≤ length offered
+pub front_of_all : (offered : List ℕ) (buffers : List (List ℕ)) (n most k : ℕ) → offered ≡ take most (bytes_in (take n buffers)) → k ≤ length offered
     → (take k (bytes_in buffers) ≡ take k offered) × (k ≤ length (bytes_in buffers))
 front_of_all offered buffers n most k e fits =
     let first = bytes_in (take n buffers) in
@@ -48,22 +47,22 @@ drop_past xs ys n past =
     ap (λ k. drop k (xs ++ ys)) cut ∙ drop-append-add xs ys (n - length xs)
 
 -- without the first buffer
-pub front_dropped : (buffers : List Filled) (buffer : Filled) (n : ℕ) → 0 < length buffers → buffer ≡ slice_index_or buffers 0 buffer
-    → length buffer.items ≤ n → n ≤ length (bytes_in buffers)
-    → (n - length buffer.items ≤ length (bytes_in (drop 1 buffers))) × (drop (n - length buffer.items) (bytes_in (drop 1 buffers)) ≡ drop n (bytes_in buffers))
+pub front_dropped : (buffers : List (List ℕ)) (buffer : List ℕ) (n : ℕ) → 0 < length buffers → buffer ≡ slice_index_or buffers 0 buffer
+    → length buffer ≤ n → n ≤ length (bytes_in buffers)
+    → (n - length buffer ≤ length (bytes_in (drop 1 buffers))) × (drop (n - length buffer) (bytes_in (drop 1 buffers)) ≡ drop n (bytes_in buffers))
 front_dropped [] buffer n some is past fits = absurd (omega arith)
 front_dropped (x ∷ xs) buffer n some is past fits =
-    let same : length buffer.items ≡ length x.items = ap (λ (b : Filled). length b.items) is in (
-      omega (arith, length-append x.items (bytes_in xs)),
-      ap (λ k. drop (n - k) (bytes_in xs)) same ∙ sym (drop_past x.items (bytes_in xs) n (omega arith)),
+    let same : length buffer ≡ length x = ap (λ (b : List ℕ). length b) is in (
+      omega (arith, length-append x (bytes_in xs)),
+      ap (λ k. drop (n - k) (bytes_in xs)) same ∙ sym (drop_past x (bytes_in xs) n (omega arith)),
     )
 
 -- the tail becomes the last buffer
-pub tail_joined : (buffers : List Filled) (buffer : Filled) (tail : List ℕ) → buffer.items ≡ tail → joined (buffers ++ buffer ∷ []) [] ≡ joined buffers tail
+pub tail_joined : (buffers : List (List ℕ)) (buffer : List ℕ) (tail : List ℕ) → buffer ≡ tail → joined (buffers ++ buffer ∷ []) [] ≡ joined buffers tail
 tail_joined buffers buffer tail is =
-    append-nil _ ∙ flat_map-append (λ (b : Filled). b.items) buffers (buffer ∷ []) ∙ ap (λ xs. bytes_in buffers ++ xs) (append-nil buffer.items ∙ is)
+    append-nil _ ∙ flat_map-append (λ (b : List ℕ). b) buffers (buffer ∷ []) ∙ ap (λ xs. bytes_in buffers ++ xs) (append-nil buffer ∙ is)
 
-module _ (replies : List Reply) (buffers : List Filled) (tail : List ℕ) (all : unsent_of replies ≡ length (joined buffers tail)) (waiting : List Waiting) (is : waiting_in replies (joined buffers tail) ≡ waiting) where
+module _ (replies : List Reply) (buffers : List (List ℕ)) (tail : List ℕ) (all : unsent_of replies ≡ length (joined buffers tail)) (waiting : List Waiting) (is : waiting_in replies (joined buffers tail) ≡ waiting) where
   -- they have all bytes of the buffers and the tail
   pub unsent_bytes : bytes_of_all waiting ≡ joined buffers tail
   unsent_bytes = ap bytes_of_all (sym is) ∙ waiting_bytes replies (joined buffers tail) all
@@ -79,7 +78,7 @@ module _ (replies : List Reply) (buffers : List Filled) (tail : List ℕ) (all :
       ∙ ap (λ xs. xs ++ more) (sym unsent_bytes)
 
   -- `count` bytes of the buffers were written
-  pub bytes_dropped : (after : List Reply) (left : List Filled) (count : ℕ) → count ≤ length (bytes_in buffers) → bytes_in left ≡ drop count (bytes_in buffers)
+  pub bytes_dropped : (after : List Reply) (left : List (List ℕ)) (count : ℕ) → count ≤ length (bytes_in buffers) → bytes_in left ≡ drop count (bytes_in buffers)
       → unsent_of after + count ≡ unsent_of replies
       → (unsent_of after ≡ length (joined left tail)) × (bytes_of_all (waiting_in after (joined left tail)) ≡ drop count (bytes_of_all waiting))
   bytes_dropped after left count there dropped fewer =
@@ -109,17 +108,17 @@ take_both n xs ys =
     (cases_lt n (length xs))
 
 -- one more buffer's bytes are among the first `most`
-pub front_with : (buffers : List Filled) (place most left : ℕ) (buffer : Filled) (len : ℕ) → place < length buffers → buffer ≡ slice_index_or buffers place buffer
-    → left ≡ most - length (bytes_in (take place buffers)) → len ≡ min left (length buffer.items)
-    → (left - len ≡ most - length (bytes_in (take (place + 1) buffers))) × (take most (bytes_in (take place buffers)) ++ take len buffer.items ≡ take most (bytes_in (take (place + 1) buffers)))
+pub front_with : (buffers : List (List ℕ)) (place most left : ℕ) (buffer : List ℕ) (len : ℕ) → place < length buffers → buffer ≡ slice_index_or buffers place buffer
+    → left ≡ most - length (bytes_in (take place buffers)) → len ≡ min left (length buffer)
+    → (left - len ≡ most - length (bytes_in (take (place + 1) buffers))) × (take most (bytes_in (take place buffers)) ++ take len buffer ≡ take most (bytes_in (take (place + 1) buffers)))
 front_with buffers place most left buffer len inside is rest part =
     let front = bytes_in (take place buffers) in
     let next : place + 1 ≡ suc place = omega arith in
-    let more : bytes_in (take (place + 1) buffers) ≡ front ++ buffer.items =
-    ap bytes_in (ap (λ k. take k buffers) next ∙ take-suc buffers place buffer inside ∙ ap (λ (b : Filled). take place buffers ++ b ∷ []) (sym is))
-    ∙ flat_map-append (λ (b : Filled). b.items) (take place buffers) (buffer ∷ []) ∙ ap (λ xs. front ++ xs) (append-nil buffer.items) in
-    let cut : take most (front ++ buffer.items) ≡ take most front ++ take (most - length front) buffer.items = take_both most front buffer.items in
-    let all : take len buffer.items ≡ take left buffer.items = ap (λ n. take n buffer.items) part ∙ take_min left buffer.items in (
-      omega (arith, rest, part, ap length more, length-append front buffer.items),
-      ap (λ xs. take most front ++ xs) (all ∙ ap (λ n. take n buffer.items) rest) ∙ sym cut ∙ ap (take most) (sym more),
+    let more : bytes_in (take (place + 1) buffers) ≡ front ++ buffer =
+    ap bytes_in (ap (λ k. take k buffers) next ∙ take-suc buffers place buffer inside ∙ ap (λ (b : List ℕ). take place buffers ++ b ∷ []) (sym is))
+    ∙ flat_map-append (λ (b : List ℕ). b) (take place buffers) (buffer ∷ []) ∙ ap (λ xs. front ++ xs) (append-nil buffer) in
+    let cut : take most (front ++ buffer) ≡ take most front ++ take (most - length front) buffer = take_both most front buffer in
+    let all : take len buffer ≡ take left buffer = ap (λ n. take n buffer) part ∙ take_min left buffer in (
+      omega (arith, rest, part, ap length more, length-append front buffer),
+      ap (λ xs. take most front ++ xs) (all ∙ ap (λ n. take n buffer) rest) ∙ sym cut ∙ ap (take most) (sym more),
     )

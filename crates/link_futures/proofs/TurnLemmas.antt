@@ -24,6 +24,8 @@ use Rattle.link_futures.specs.Desks.{Answering, Exchange, Place, next_stamp, clo
 use Rattle.link_futures.specs.Buffers.{Waiting, bytes_of_all}
 use Rattle.link_futures.specs.Stream.{unanswered, unsent, HasRoom, WantsBytes, LineNeeds, place_of, frames_of, replies_of, Talks, Turns, EndsAs, MetNoFault, LeavesDesk}
 use Rattle.link_futures.specs.Steps.{ReadsOn, AnswersOn, WritesOn}
+use Rattle.link_futures.specs.declared.turned.Turned.{Turned}
+use Rattle.link_futures.specs.Turned.{polled_of}
 
 -- that an answer of this kind is a closing one, as code compares it
 pub closes_same : (kind : Answered) → sameb the_type kind answered.Closes ≡ closes_by kind
@@ -191,8 +193,8 @@ LeavesDesk_same lacks ReadFault d = refl
 LeavesDesk_same lacks WriteFault d = refl
 LeavesDesk_same lacks NoMemory d = inl refl
 
-pub LeavesDesk_pending : {D : Type 0} (lacks : D → D → Type 0) (r : Poll End) (d : D) → r ≡ Pending → LeavesDesk lacks r d d
-LeavesDesk_pending lacks r d is = subst (λ (x : Poll End). LeavesDesk lacks x d d) (sym is) refl
+pub LeavesDesk_rests : {D : Type 0} (lacks : D → D → Type 0) (r : Turned) (d : D) → polled_of r ≡ Pending → LeavesDesk lacks (polled_of r) d d
+LeavesDesk_rests lacks r d is = subst (λ (x : Poll End). LeavesDesk lacks x d d) (sym is) refl
 
 module _ {R W : Type 0} (read_faults : R → ℕ) (write_faults : W → ℕ) (stalls : W → ℕ) where
   -- an end behind a turn that met no fault

@@ -2,7 +2,6 @@
 use Rattle.std.specs.Prelude.{ℕ, List, [], ◌∷◌, ◌++◌, take, drop, refl}
 use Rattle.std.specs.List.{flat_map, sum_by}
 use Rattle.std.specs.Coded.{Coded, code_by, coded×, coded_list, coded_ℕ}
-use Rattle.bytes.specs.Filled.{Filled}
 use Rattle.link_futures.specs.declared.outbox.Reply.{Reply}
 
 -- the unwritten bytes of a reply, and the number of its frame
@@ -15,11 +14,11 @@ waiting_code =
     coded_list (code_by (ℕ × List ℕ) (coded× coded_ℕ (coded_list coded_ℕ)) (λ w. (w.frame, w.bytes)) (λ p. record { frame = p.0; bytes = p.1 }) (λ _. refl))
 
 -- the bytes of buffers, one behind the other
-abbrev pub bytes_in : List Filled → List ℕ
-bytes_in = flat_map (λ b. b.items)
+abbrev pub bytes_in : List (List ℕ) → List ℕ
+bytes_in = flat_map (λ b. b)
 
 -- the same, and those of the tail behind them
-abbrev pub joined : List Filled → List ℕ → List ℕ
+abbrev pub joined : List (List ℕ) → List ℕ → List ℕ
 joined buffers tail = bytes_in buffers ++ tail
 
 -- how many bytes of these replies aren't written

@@ -12,3 +12,4 @@ pub mod Resting
 pub mod Workers
 pub mod Replies
 pub mod Beats
+pub mod Turned

@@ -25,6 +25,7 @@ mod reader;
 mod resting;
 mod session;
 mod solo;
+mod turned;
 mod worker;
 mod writer;
 

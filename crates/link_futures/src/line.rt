@@ -9,6 +9,7 @@ use crate::inbox::{Inbox, Next};
 use crate::outbox::Outbox;
 use crate::part::Part;
 use crate::reader::ReadPart;
+use crate::turned::Turned;
 use crate::writer::WriteParts;
 use coord_node::{Answered, Stamp};
 use futures::task::{Context, Poll};
@@ -34,6 +35,7 @@ pub struct Line<R, W> {
 impl<R: ReadPart, W: WriteParts> Line<R, W> {
     ghost use Rattle.link_futures.specs.Stream.{Turns, WantsBytes, LineNeeds, EndsAs, MetNoFault, LeavesDesk};
     ghost use Rattle.link_futures.specs.Steps.{IsNewLine, IsAnswerable, ReadsOn, AnswersOn, WritesOn, EndsQuietly};
+    ghost use Rattle.link_futures.specs.Turned.{polled_of};
 
     /// The line of the connection with this number. Takes no memory.
     pub fn new(alloc: Global, connection: u64, reader: R, writer: W) -> Line<R, W>
@@ -76,25 +78,44 @@ impl<R: ReadPart, W: WriteParts> Line<R, W> {
         ensures armed { OnPending result (Covers cx.new (LineNeeds R.needs W.needs self.new)) }
         ensures kept { Keeps cx.old cx.new }
     {
+        match self.step(cx, desk) {
+            Turned::Ends(end) => Poll::Ready(end),
+            Turned::Waits => Poll::Pending,
+            Turned::GoesOn => cx.yield_now(),
+        }
+    }
+
+    /// One turn, without asking for another.
+    pub(crate) fn step<D: Desk>(&mut self, cx: &mut Context<'_>, desk: &mut D) -> Turned
+        ensures stream { (last : D) × Turns R.reads R.is_at_end W.writes D.answers
+            (record { line = self.old; desk = desk.old }) (record { line = self.new; desk = last })
+            × LeavesDesk D.lacks (polled_of result) last desk.new }
+        ensures ends { IfReady (polled_of result) (λ end. EndsAs R.faults W.faults W.stalls end self.old self.new) }
+        ensures goes_on { OnPending (polled_of result) (MetNoFault R.faults W.faults W.stalls self.old self.new) }
+        ensures armed { result ≡ Turned.Waits → Covers cx.new (LineNeeds R.needs W.needs self.new) }
+        ensures kept { Keeps cx.old cx.new }
+    {
         let reader_waits = match self.read(cx) {
             Ok(waits) => waits,
-            Err(end) => return Poll::Ready(end),
+            Err(end) => return Turned::Ends(end),
         };
         let Ok(()) = self.answer(desk) else {
-            return Poll::Ready(End::NoMemory);
+            return Turned::Ends(End::NoMemory);
         };
         let writer_waits = match self.write(cx, desk) {
             Ok(waits) => waits,
-            Err(end) => return Poll::Ready(end),
+            Err(end) => return Turned::Ends(end),
         };
         match self.end() {
-            Some(end) => Poll::Ready(end),
+            Some(end) => Turned::Ends(end),
             None => self.rest(cx, reader_waits, writer_waits),
         }
     }
 
     /// Lets the desk hear that the line has ended.
-    pub(crate) fn tell_end<D: Desk>(self, desk: &D, end: End) {
+    #[cold]
+    #[inline(never)]
+    pub(crate) fn tell_end<D: Desk>(&self, desk: &D, end: End) {
         desk.hear_end(self.connection, self.answered, end);
     }
 
@@ -160,7 +181,6 @@ impl<R: ReadPart, W: WriteParts> Line<R, W> {
     fn write<D: Desk>(&mut self, cx: &mut Context<'_>, desk: &D) -> Result<bool, End>
         ensures writes { WritesOn W.writes self.old self.new }
         ensures ends { IfErr result (λ end. EndsAs R.faults W.faults W.stalls end self.old self.new) }
-        ensures known { IfErr result (λ end. end ≡ End.WriteFault) }
         ensures goes_on { OnOk result (MetNoFault R.faults W.faults W.stalls self.old self.new) }
         ensures armed { result ≡ Ok true → Covers cx.new (W.needs self.new.writer) }
         ensures kept { Keeps cx.old cx.new }
@@ -172,7 +192,10 @@ impl<R: ReadPart, W: WriteParts> Line<R, W> {
         if most == 0 {
             return Ok(false);
         }
-        match self.outbox.write(most, &mut self.writer, cx) {
+        let Ok(part) = self.outbox.write(most, &mut self.writer, cx) else {
+            return Err(End::NoMemory);
+        };
+        match part {
             Part::Waits => Ok(true),
             Part::Fault | Part::Moved(0) => Err(End::WriteFault),
             Part::Moved(_) => Ok(false),
@@ -198,21 +221,21 @@ impl<R: ReadPart, W: WriteParts> Line<R, W> {
         }
     }
 
-    /// Waits for the reader and the writer, or asks for another turn where there is more to do than they would wake for.
-    fn rest(&self, cx: &mut Context<'_>, reader_waits: bool, writer_waits: bool) -> Poll<End>
-        requires reader { reader_waits ≡ true → Covers cx.old (R.needs self.now.reader) }
-        requires writer { writer_waits ≡ true → Covers cx.old (W.needs self.now.writer) }
-        ensures pending { result ≡ Poll.Pending }
-        ensures armed { Covers cx.new (LineNeeds R.needs W.needs self.now) }
-        ensures kept { Keeps cx.old cx.new }
+    /// The line waits for its reader and its writer, with which `_cx` is registered then, unless there is more to do than they would
+    /// wake for.
+    fn rest(&self, _cx: &Context<'_>, reader_waits: bool, writer_waits: bool) -> Turned
+        requires reader { reader_waits ≡ true → Covers _cx.now (R.needs self.now.reader) }
+        requires writer { writer_waits ≡ true → Covers _cx.now (W.needs self.now.writer) }
+        ensures pending { polled_of result ≡ Poll.Pending }
+        ensures armed { result ≡ Turned.Waits → Covers _cx.now (LineNeeds R.needs W.needs self.now) }
     {
         if (!reader_waits && self.wants_bytes()) || (!writer_waits && !self.outbox.is_empty()) {
-            return cx.yield_now();
+            return Turned::GoesOn;
         }
         if (!reader_waits && !writer_waits) || self.has_frame() {
-            return cx.yield_now();
+            return Turned::GoesOn;
         }
-        Poll::Pending
+        Turned::Waits
     }
 
     /// Whether more bytes are wanted: the reader hasn't ended, the desk answers on, and no frame and no refused size is there.

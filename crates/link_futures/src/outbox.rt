@@ -1,5 +1,5 @@
 //! The replies that a line has and hasn't written.
-ghost use Rattle.std.specs.Prelude.{◌≡◌, ◌+◌, ◌==◌, ◌<◌, ◌≤◌, [], length, take, drop, All, IsTrue, ◌↔◌, ◌^◌};
+ghost use Rattle.std.specs.Prelude.{◌≡◌, ◌+◌, ◌==◌, ◌<◌, ◌≤◌, [], length, take, drop, All, IfOk, IfSome, OnOk, OnErr, IsTrue, ◌↔◌, ◌^◌};
 ghost use Rattle.std.specs.VecDeque.{deque_len, deque_capacity};
 ghost use Rattle.futures.specs.Task.{Covers, Keeps};
 ghost use Rattle.tokio.specs.Io.Moved.{TakesWritten};
@@ -11,7 +11,7 @@ use crate::desk::Desk;
 use crate::limits::{MOST_BYTES, MOST_PARTS, MOST_REPLIES};
 use crate::part::Part;
 use crate::writer::WriteParts;
-use bytes::BytesMut;
+use bytes::Bytes;
 use coord_node::{Answered, Stamp};
 use futures::task::Context;
 use std::alloc::{AllocError, Global};
@@ -26,6 +26,9 @@ const GATHERED: usize = 8_192;
 /// The room of a queue that a line keeps while it has nothing to write.
 const QUIET: usize = 8;
 
+/// The most bytes of room that a line keeps of a buffer that is written, for the next reply.
+const KEPT: usize = 1_024;
+
 /// The number of a reply's frame, and how many bytes of the reply aren't written.
 #[derive(Drop)]
 pub(crate) struct Reply {
@@ -38,8 +41,8 @@ pub(crate) struct Reply {
 pub(crate) struct Outbox {
     replies: VecDeque<Reply>,
     /// The bytes of all replies, one behind the other, but for those of the last ones. A buffer holds one reply or several.
-    buffers: VecDeque<BytesMut>,
-    /// The bytes of the last replies, to which the desk appends. With the next write they are the last buffer.
+    buffers: VecDeque<Bytes>,
+    /// The bytes of the last replies, to which the desk appends. With the next write they are frozen, and are the last buffer.
     tail: Vec<u8>,
     /// How many bytes there are.
     unsent: usize,
@@ -146,38 +149,62 @@ impl Outbox {
         self.unsent
     }
 
-    /// Writes once, at most `most` bytes, and drops what was written.
+    /// Writes once, at most `most` bytes, and drops what was written. Where memory is short nothing is written.
     pub(crate) fn write<W: WriteParts>(
         &mut self,
         most: usize,
         writer: &mut W,
         cx: &mut Context<'_>,
-    ) -> Part
-        ensures bytes { TakesWritten W.writes writer.old writer.new (bytes_of_all self.old) (bytes_of_all self.new) }
-        ensures counted { W.faults writer.new ≡ W.faults writer.old + faults_of result }
-        ensures stalled { W.stalls writer.new ≡ W.stalls writer.old + stalls_of result }
-        ensures registered { OnWaits result (Covers cx.new (W.needs writer.new)) }
+    ) -> Result<Part, AllocError>
+        ensures bytes { OnOk result (TakesWritten W.writes writer.old writer.new (bytes_of_all self.old) (bytes_of_all self.new)) }
+        ensures counted { IfOk result (λ part. W.faults writer.new ≡ W.faults writer.old + faults_of part) }
+        ensures stalled { IfOk result (λ part. W.stalls writer.new ≡ W.stalls writer.old + stalls_of part) }
+        ensures registered { IfOk result (λ part. OnWaits part (Covers cx.new (W.needs writer.new))) }
+        ensures err { OnErr result ((self.new ≡ self.old) × (writer.new ≡ writer.old)) }
         ensures kept { Keeps cx.old cx.new }
     {
-        self.end_tail();
+        self.end_tail()?;
         let part = write_front(&self.buffers, most, writer, cx);
         let written = part.count();
         drop_replies(&mut self.replies, written);
-        drop_bytes(&mut self.buffers, written);
+        let last = drop_bytes(&mut self.buffers, written);
         self.unsent -= written;
+        self.take_back(last);
         self.give_room_back();
-        part
+        Ok(part)
     }
 
-    /// Makes the tail the last one of the queue, where a write would come to it.
-    fn end_tail(&mut self)
+    /// Freezes the tail and makes it the last one of the queue, where a write would come to it.
+    fn end_tail(&mut self) -> Result<(), AllocError>
         ensures { self.new ≡ self.old }
     {
         if self.tail.is_empty() || MOST_PARTS <= self.buffers.len() {
+            return Ok(());
+        }
+        let tail = mem::replace(&mut self.tail, Vec::new(self.alloc));
+        match Bytes::from_vec(tail) {
+            Ok(bytes) => {
+                self.buffers.push_back_reserved(bytes);
+                Ok(())
+            }
+            Err(failed) => {
+                self.tail = failed.value;
+                Err(AllocError)
+            }
+        }
+    }
+
+    /// Takes the room of a buffer that is written for the tail, where there is no tail: a line that has one reply at a time makes
+    /// room for the first one alone.
+    fn take_back(&mut self, written: Option<Bytes>)
+        ensures { self.new ≡ self.old }
+    {
+        if !self.tail.is_empty() {
             return;
         }
-        let bytes = mem::replace(&mut self.tail, Vec::new(self.alloc));
-        self.buffers.push_back_reserved(BytesMut::from_vec(bytes));
+        if let Some(room) = room_of(written) {
+            self.tail = room;
+        }
     }
 
     /// A line with nothing to write keeps little room.
@@ -198,7 +225,7 @@ impl Outbox {
 
 /// Writes once, at most `most` bytes of the first buffers.
 fn write_front<W: WriteParts>(
-    buffers: &VecDeque<BytesMut>,
+    buffers: &VecDeque<Bytes>,
     most: usize,
     writer: &mut W,
     cx: &mut Context<'_>,
@@ -241,20 +268,34 @@ fn drop_replies(replies: &mut VecDeque<Reply>, count: usize)
     }
 }
 
-/// Drops the first `count` bytes, buffer by buffer.
-fn drop_bytes(buffers: &mut VecDeque<BytesMut>, count: usize)
+/// The room of a buffer that is written, where it is small and nobody else has the buffer.
+fn room_of(written: Option<Bytes>) -> Option<Vec<u8>>
+    ensures { IfSome result (λ room. room.items ≡ []) }
+{
+    let mut room = written?.reclaim()?.into_vec().ok()?;
+    if KEPT < room.capacity() {
+        return None;
+    }
+    room.clear();
+    Some(room)
+}
+
+/// Drops the first `count` bytes, buffer by buffer. Gives the last buffer that is dropped whole.
+fn drop_bytes(buffers: &mut VecDeque<Bytes>, count: usize) -> Option<Bytes>
     requires { count ≤ length (bytes_in buffers.old.items) }
     ensures bytes { bytes_in buffers.new.items ≡ drop count (bytes_in buffers.old.items) }
     ensures room { (deque_len buffers.new ≤ deque_len buffers.old) × (deque_capacity buffers.new ≡ deque_capacity buffers.old) }
 {
     let mut left = count;
+    let mut last = None;
     while let Some(buffer) = buffers.front() {
         let len = buffer.len();
         if left < len {
             buffers[0].advance(left);
-            return;
+            return last;
         }
         left -= len;
-        let _ = buffers.pop_front();
+        last = buffers.pop_front();
     }
+    last
 }

@@ -1,5 +1,5 @@
 //! Many lines over one desk.
-ghost use Rattle.std.specs.Prelude.{◌≡◌, ◌<◌, ◌^◌, ℕ, false, [], All};
+ghost use Rattle.std.specs.Prelude.{◌≡◌, ◌≢◌, ◌+◌, ◌-◌, ◌<◌, ◌^◌, ℕ, false, [], All, slice_index_or, vec_len};
 ghost use Rattle.futures.specs.Task.{Covers, Keeps};
 ghost use Rattle.futures.specs.Runs.{EndsIf};
 ghost use Rattle.link_futures.specs.Stream.{LineNeeds};
@@ -9,6 +9,7 @@ use crate::desk::Desk;
 use crate::line::Line;
 use crate::reader::ReadPart;
 use crate::resting::Resting;
+use crate::turned::Turned;
 use crate::writer::WriteParts;
 use futures::task::{Context, Poll};
 use futures::{Future, Stream};
@@ -20,10 +21,11 @@ const FEW_LINES: usize = 16;
 /// The most rounds of a poll. In all of them a line may answer as many frames as there may be unsent replies.
 const MOST_ROUNDS: usize = 64;
 
-/// Many lines over one desk. In a round it looks once for an arrival and gives each line one turn, so no line waits for another
-/// to end, and lines that have frames are answered frame by frame in turn; a poll is one round, and further ones while a line has
-/// a frame, up to `MOST_ROUNDS`. Where there are many lines, one that waits for its reader alone rests until it is woken. It is
-/// ready, with the number of lines that have ended, once arrivals have ended and no line is left. The desk hears of each end.
+/// Many lines over one desk. In a round it looks once for an arrival, unless it is to be woken for the next, and gives each line one
+/// turn, so no line waits for another to end, and lines that have frames are answered frame by frame in turn. A poll is one round, a
+/// second one where a line has more to do, which mostly finds that it waits, and further ones while a line has a frame, up to
+/// `MOST_ROUNDS`. Where there are many lines, one that waits for its reader alone rests until it is woken. It is ready, with the number
+/// of lines that have ended, once arrivals have ended and no line is left. The desk hears of each end.
 #[derive(Drop)]
 pub struct Worker<A: Stream, D> {
     arrivals: A,
@@ -82,6 +84,7 @@ impl<R: ReadPart, W: WriteParts, A: Stream<Item = Line<R, W>>, D: Desk> Worker<A
 
     /// Gives turns to the lines that have rested and were woken. Says whether there was such a line, or may be: where memory is short
     /// for one, it stays where it rests, and is woken still.
+    #[inline(never)]
     fn wake(&mut self, cx: &mut Context<'_>) -> bool
         ensures arrivals { (self.new.arrivals ≡ self.old.arrivals) × (self.new.is_closed ≡ self.old.is_closed) }
         ensures gives { (n : ℕ) → ⟦<Worker<A, D> as Future>⟧.gives self.new n → ⟦<Worker<A, D> as Future>⟧.gives self.old n }
@@ -108,41 +111,53 @@ impl<R: ReadPart, W: WriteParts, A: Stream<Item = Line<R, W>>, D: Desk> Worker<A
     }
 
     /// Gives each line a turn, one line behind the other, so that the replies of one go out while the next is answered. Those that
-    /// end are dropped, and the others are registered for what they need.
-    fn take_turns(&mut self, cx: &mut Context<'_>)
+    /// end are dropped. Says whether one of the others has more to do; where none has, they are registered for what they need.
+    fn take_turns(&mut self, cx: &mut Context<'_>) -> bool
         ensures arrivals { (self.new.arrivals ≡ self.old.arrivals) × (self.new.is_closed ≡ self.old.is_closed) }
         ensures resting { self.new.resting ≡ self.old.resting }
         ensures gives { (n : ℕ) → ⟦<Worker<A, D> as Future>⟧.gives self.new n → ⟦<Worker<A, D> as Future>⟧.gives self.old n }
-        ensures armed { All (λ line. Covers cx.new (LineNeeds R.needs W.needs line)) self.new.lines.items }
+        ensures armed { result ≡ false → All (λ line. Covers cx.new (LineNeeds R.needs W.needs line)) self.new.lines.items }
         ensures kept { Keeps cx.old cx.new }
     {
+        let mut goes_on = false;
         let mut place = 0;
         while place < self.lines.len() {
-            match self.lines[place].turn(cx, &mut self.desk) {
-                Poll::Pending => place += 1,
-                Poll::Ready(end) => {
-                    let line = self.lines.swap_remove(place);
-                    line.tell_end(&self.desk, end);
+            match self.lines[place].step(cx, &mut self.desk) {
+                Turned::Waits => place += 1,
+                Turned::GoesOn => {
+                    goes_on = true;
+                    place += 1;
+                }
+                Turned::Ends(end) => {
+                    self.lines[place].tell_end(&self.desk, end);
+                    drop_line(&mut self.lines, place);
                     self.ended = self.ended.saturating_add(1);
                 }
             }
         }
+        goes_on
     }
 
-    /// Looks once for an arrival and for lines that were woken, and gives each line that doesn't rest one turn. Says whether there
-    /// was an arrival or a woken line, or may be.
-    fn round(&mut self, cx: &mut Context<'_>) -> bool
-        requires { self.old.is_closed ≡ false → A.can_poll self.old.arrivals }
+    /// Looks once for an arrival and for lines that were woken, where there may be one. Says whether there was one, or may be; where
+    /// there is none the task is woken for the next.
+    fn look(&mut self, cx: &mut Context<'_>, may_come: bool) -> bool
+        requires can { self.old.is_closed ≡ false → A.can_poll self.old.arrivals }
+        requires waits { may_come ≡ false → self.old.is_closed ≡ false → Covers cx.old (A.needs self.old.arrivals) }
+        requires rests { may_come ≡ false → 0 < self.old.resting.count → Covers cx.old (RestingNeed self.old.resting.lines) }
         ensures can { self.new.is_closed ≡ false → A.can_poll self.new.arrivals }
         ensures gives { (n : ℕ) → ⟦<Worker<A, D> as Future>⟧.gives self.new n → ⟦<Worker<A, D> as Future>⟧.gives self.old n }
         ensures waits { result ≡ false → self.new.is_closed ≡ false → Covers cx.new (A.needs self.new.arrivals) }
         ensures rests { result ≡ false → 0 < self.new.resting.count → Covers cx.new (RestingNeed self.new.resting.lines) }
-        ensures armed { All (λ line. Covers cx.new (LineNeeds R.needs W.needs line)) self.new.lines.items }
         ensures kept { Keeps cx.old cx.new }
     {
+        if !may_come {
+            return false;
+        }
         let has_come = self.poll_arrival(cx);
+        if self.resting.len() == 0 {
+            return has_come;
+        }
         let has_woken = self.wake(cx);
-        self.take_turns(cx);
         has_come || has_woken
     }
 
@@ -194,16 +209,18 @@ impl<R: ReadPart, W: WriteParts, A: Stream<Item = Line<R, W>>, D: Desk> Future f
     ghost gives = { λ w. WorkerGives R.reads R.is_at_end R.faults W.writes W.faults W.stalls D.answers
         (EndsIf w.is_closed (A.yields w.arrivals)) w.lines.items w.resting.lines w.resting.count w.ended };
 
-    /// Makes a round, and further ones while a line has a frame.
+    /// Makes a round, a second one where there is more to do, and further ones while a line has a frame.
     fn poll(&mut self, cx: &mut Context<'_>) -> Poll<u64> {
-        let mut has_news = self.round(cx);
-        for _ in 1..MOST_ROUNDS {
-            if !self.has_frame() {
+        let mut has_come = true;
+        let mut goes_on = true;
+        for round in 0..MOST_ROUNDS {
+            if !(has_come || goes_on) || (1 < round && !self.has_frame()) {
                 break;
             }
-            has_news = self.round(cx);
+            has_come = self.look(cx, has_come);
+            goes_on = self.take_turns(cx);
         }
-        if has_news {
+        if has_come || goes_on {
             return cx.yield_now();
         }
         if self.rest_all() {
@@ -214,4 +231,16 @@ impl<R: ReadPart, W: WriteParts, A: Stream<Item = Line<R, W>>, D: Desk> Future f
         }
         Poll::Pending
     }
+}
+
+/// Drops a line that has ended. The last one comes to its place.
+#[cold]
+#[inline(never)]
+fn drop_line<L: Drop>(lines: &mut Vec<L>, place: usize)
+    requires { place < vec_len lines.old }
+    ensures len { vec_len lines.new + 1 ≡ vec_len lines.old }
+    ensures last { (d : L) → place + 1 < vec_len lines.old → slice_index_or lines.new.items place d ≡ slice_index_or lines.old.items (vec_len lines.old - 1) d }
+    ensures others { (k : ℕ) (d : L) → k ≢ place → k + 1 < vec_len lines.old → slice_index_or lines.new.items k d ≡ slice_index_or lines.old.items k d }
+{
+    let _ = lines.swap_remove(place);
 }

@@ -9,7 +9,7 @@ use Rattle.link_futures.proofs.worker.WorkerFuture.poll.Goals as goal
 
 pub returns-clause-registered : goal.returns-clause-registered
 returns-clause-registered g c =
-    let kept = c.loop.invariant in
+    let kept = c.loop-round.invariant in
     let same = c.rest_all.ensures.none c.if-rest_all.false in
     let left : c.rest_all.new.self.is_closed ≡ true → (0 < length c.rest_all.new.self.lines.items) ⊎ (0 < c.rest_all.new.self.resting.count) =
     elim c.else-self.branch [
@@ -17,10 +17,10 @@ returns-clause-registered g c =
       | else-self-via-then-self+else-is_empty w ↦ λ closed. inl (grind (arith, common_steps))
       | else-self-via-else-self w ↦ λ closed. cc
     ] in
-    let some : c.loop.self.is_closed ≡ true → (0 < length c.loop.self.lines.items) ⊎ (0 < c.loop.self.resting.count) = rw same at left in
+    let some : c.loop-round.self.is_closed ≡ true → (0 < length c.loop-round.self.lines.items) ⊎ (0 < c.loop-round.self.resting.count) = rw same at left in
     rw same
-    (WorkerNeeds_covered g.A.Stream.needs g.R.AsyncRead.needs g.W.AsyncWrite.needs c.loop.self.is_closed c.loop.self.lines.items c.loop.self.resting.lines c.loop.self.resting.count c.loop.self.arrivals c.loop.cx
-    (kept.1 c.if-has_news.false) kept.3 (kept.2 c.if-has_news.false) some)
+    (WorkerNeeds_covered g.A.Stream.needs g.R.AsyncRead.needs g.W.AsyncWrite.needs c.loop-round.self.is_closed c.loop-round.self.lines.items c.loop-round.self.resting.lines c.loop-round.self.resting.count c.loop-round.self.arrivals c.loop-round.cx
+    (kept.1 c.if-has_come-2.false) (kept.3 c.if-goes_on.false) (kept.2 c.if-has_come-2.false) some)
 
 pub returns-then-len-eq0-clause-value : goal.returns-then-len-eq0-clause-value
 returns-then-len-eq0-clause-value g c =
@@ -29,16 +29,16 @@ returns-then-len-eq0-clause-value g c =
     let none : worker.lines.items ≡ [] = nil_from_length worker.lines.items zero in
     let count : worker.resting.count ≡ 0 = omega (arith, c.len.ensures, c.if-len-eq0.true) in
     rw c.ended_lines.ensures.value
-    (c.round-has_news.ensures.gives worker.ended (c.loop.invariant.5 worker.ended (c.rest_all.ensures.gives worker.ended (rw (c.if-self.true, none, count) (gives_all g.R.AsyncRead.reads g.R.AsyncRead.is_at_end g.R.ReadPart.faults g.W.AsyncWrite.writes g.W.WriteParts.faults g.W.WriteParts.stalls g.D.Desk.answers _ worker.ended (EndsIf true (g.A.Stream.yields worker.arrivals)) (refl, refl) (omega (arith, c.ended_lines.ensures.value, c.ended_lines.ensures.small)))))))
+    (c.loop-round.invariant.5 worker.ended ((c.rest_all.ensures.gives worker.ended (rw (c.if-self.true, none, count) (gives_all g.R.AsyncRead.reads g.R.AsyncRead.is_at_end g.R.ReadPart.faults g.W.AsyncWrite.writes g.W.WriteParts.faults g.W.WriteParts.stalls g.D.Desk.answers _ worker.ended (EndsIf true (g.A.Stream.yields worker.arrivals)) (refl, refl) (omega (arith, c.ended_lines.ensures.value, c.ended_lines.ensures.small)))))))
 
-pub returns-then-has_news-clause-same : goal.returns-then-has_news-clause-same
-returns-then-has_news-clause-same g c =
-    rw c.yield_now.ensures.pending (λ n gives. c.round-has_news.ensures.gives n (c.loop.invariant.5 n gives))
+pub returns-then-has_come-2-clause-same : goal.returns-then-has_come-2-clause-same
+returns-then-has_come-2-clause-same g c =
+    rw c.yield_now.ensures.pending (λ n gives. (c.loop-round.invariant.5 n gives))
 
 pub returns-then-rest_all-clause-same : goal.returns-then-rest_all-clause-same
 returns-then-rest_all-clause-same g c =
-    rw c.yield_now-then-rest_all.ensures.pending (λ n gives. c.round-has_news.ensures.gives n (c.loop.invariant.5 n (c.rest_all.ensures.gives n gives)))
+    rw c.yield_now-then-rest_all.ensures.pending (λ n gives. (c.loop-round.invariant.5 n (c.rest_all.ensures.gives n gives)))
 
 pub returns-clause-same : goal.returns-clause-same
 returns-clause-same g c =
-    λ n gives. c.round-has_news.ensures.gives n (c.loop.invariant.5 n (c.rest_all.ensures.gives n gives))
+    λ n gives. (c.loop-round.invariant.5 n (c.rest_all.ensures.gives n gives))

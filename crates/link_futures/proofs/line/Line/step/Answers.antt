@@ -1,6 +1,6 @@
 use Rattle.std.proofs.Common.{refl}
-use Rattle.link_futures.proofs.TurnLemmas.{turn_is, turn_stops, LeavesDesk_same, LeavesDesk_pending}
-use Rattle.link_futures.proofs.line.Line.turn.Goals as goal
+use Rattle.link_futures.proofs.TurnLemmas.{turn_is, turn_stops, LeavesDesk_same, LeavesDesk_rests}
+use Rattle.link_futures.proofs.line.Line.step.Goals as goal
 
 pub returns-in-Err-clause-stream : goal.returns-in-Err-clause-stream
 returns-in-Err-clause-stream g c = (
@@ -34,5 +34,5 @@ pub returns-in-None-clause-stream : goal.returns-in-None-clause-stream
 returns-in-None-clause-stream g c = (
   c.answer.new.desk,
   turn_is _ _ _ _ c.args.self.now c.read.new.self c.answer.new.self c.write.new.self _ _ c.in-Ok.ensures.reads c.in-Ok-answer.ensures.ok c.in-Ok-write.ensures.writes,
-  LeavesDesk_pending _ c.rest.result _ c.rest.ensures.pending,
+  LeavesDesk_rests _ c.rest.result _ c.rest.ensures.pending,
 )

@@ -1,0 +1,13 @@
+//! What a turn of a line came to.
+use crate::end::End;
+
+/// What a turn of a line came to.
+#[derive(Clone, Copy)]
+pub(crate) enum Turned {
+    /// The line has ended.
+    Ends(End),
+    /// It waits for its reader or its writer, which will wake the task.
+    Waits,
+    /// It has more to do, and nobody would wake the task for that.
+    GoesOn,
+}
