@@ -10,7 +10,7 @@ use futures::stream;
 use futures::task::Poll;
 use futures::test::MockTask;
 use link_futures::{
-    Counted, Drain, End, Feed, Line, Moment, Moments, Session, Solo, Worker, WriteParts,
+    Counted, Desk, Drain, End, Feed, Line, Moment, Moments, Session, Solo, Worker, WriteParts,
 };
 use std::alloc::{AllocError, AllocGlobal, Global};
 use std::collections::hash_map::RandomState;
@@ -88,6 +88,8 @@ const TWO_FRAMES: &str = "
 /// - `turns`: the lines of one worker, as of `worker`, over a desk that answers each frame with the number of frames that it has
 ///   answered by then, of whichever line. The answer has the numbers that each line has written.
 /// - `held N`: how many frames of the line are answered within N turns, and how many bytes are written then; and what comes after.
+/// - `gated N`: a line over a desk that numbers the frames and holds the reply to frame N: what it has written after 1,000 turns, and
+///   at its end, once nothing is held.
 const WORKERS: &str = "
 # the second line has nothing to read any more while the others are still read byte by byte
 worker 1p*80 join; - stranger; 1p*80 stranger*2 = 3 | joined | unknown | unknown*2
@@ -99,6 +101,11 @@ turns - stranger*4; - stranger*2; - stranger*2 = 1 2 4 7 | 3 5 | 6 8
 polls 10 - - stranger*100 = 1
 # sixty-five frames come in one read, while the writer is pending
 held 70 - p*70 stranger*65 = 64 0 Finished unknown*65
+# a reply that is held isn't written, nor one behind it, however the writer takes those before it; the line goes on once it may be sent
+gated 3 - - stranger*5 = 1 2 | 1 2 3 4 5
+gated 3 - 1*9+p*50 stranger*5 = 1 2 | 1 2 3 4 5
+gated 5 1p*80 - stranger*5 = 1 2 3 4 | 1 2 3 4 5
+gated 1 - - stranger*5 = none | 1 2 3 4 5
 ";
 
 /// A desk whose frames all come at 0 ms.
@@ -118,7 +125,7 @@ type FedLine<W> = Line<Fed, W>;
 
 type Fed = Counted<Feed>;
 
-type Polled = Session<Fed, Counted<Drain>, Solo<Still>>;
+type Polled<D> = Session<Fed, Counted<Drain>, D>;
 
 /// How many bytes a pipe holds: more than all replies of a line.
 const PIPE: usize = 256;
@@ -171,6 +178,7 @@ impl Answers for Streaming {
             "polls" => self.tell_polls(alloc, words, out),
             "held" => self.tell_held(alloc, words, out),
             "turns" => self.tell_turns(alloc, words, out),
+            "gated" => self.tell_gated(alloc, words, out),
             _ => self.tell_session(self.session_of(alloc, question)?, out),
         }
     }
@@ -178,7 +186,11 @@ impl Answers for Streaming {
 
 impl Streaming {
     /// Tells how a session ends, and what it has written.
-    fn tell_session(&self, session: Polled, out: &mut String) -> Result<(), AllocError> {
+    fn tell_session<D: Desk>(
+        &self,
+        session: Polled<D>,
+        out: &mut String,
+    ) -> Result<(), AllocError> {
         let mut session = session;
         let end = last_turn(&self.task, &mut session);
         let (line, _) = session.into_parts();
@@ -208,7 +220,7 @@ impl Streaming {
     }
 
     /// Tells how far a session has come, and then how it ends.
-    fn tell_rest(&self, session: Polled, out: &mut String) -> Result<(), AllocError> {
+    fn tell_rest<D: Desk>(&self, session: Polled<D>, out: &mut String) -> Result<(), AllocError> {
         let (line, desk) = session.into_parts();
         let told = tell_counts(&line, out);
         let ended = self.tell_session(Session::new(line, desk), out);
@@ -225,6 +237,26 @@ impl Streaming {
             put_numbers(bytes.as_slice(), out)?;
         }
         Ok(())
+    }
+
+    /// Tells the numbers of a line's replies while one is held, and behind that.
+    fn tell_gated(&self, alloc: Global, words: &str, out: &mut String) -> Result<(), AllocError> {
+        let (held, words) = cut(words);
+        let line = self.line_of(alloc, words)?;
+        let line = self.turned(line, Numbering::holding(number(held)));
+        match line.writer().inner().taken() {
+            [] => out.push_str("none")?,
+            written => put_numbers(written, out)?,
+        }
+        let line = self.turned(line, Numbering::new());
+        put_numbers(line.writer().inner().taken(), out)
+    }
+
+    /// A line after its turns over a desk, at its end or while it waits for the desk.
+    fn turned<D: Desk>(&self, line: FedLine<Counted<Drain>>, desk: D) -> FedLine<Counted<Drain>> {
+        let mut session = Session::new(line, desk);
+        let _ = last_turn(&self.task, &mut session);
+        session.into_parts().0
     }
 
     /// Tells what a worker's lines have written. A line that finds no memory is let go, and is no line that has ended: then the row
@@ -303,7 +335,7 @@ impl Streaming {
     }
 
     /// The session of a question, over a node with a topic `t` of two partitions.
-    fn session_of(&self, alloc: Global, question: &str) -> Result<Polled, AllocError> {
+    fn session_of(&self, alloc: Global, question: &str) -> Result<Polled<Solo<Still>>, AllocError> {
         let line = self.line_of(alloc, question)?;
         Ok(Session::new(line, self.desk(alloc)?))
     }
@@ -348,7 +380,7 @@ fn tell_counts(line: &FedLine<Counted<Drain>>, out: &mut String) -> Result<(), A
 }
 
 /// How a session ends, or nothing where it doesn't end within 1,000 turns or waits for what never comes.
-fn last_turn(task: &MockTask, session: &mut Polled) -> Option<End> {
+fn last_turn<D: Desk>(task: &MockTask, session: &mut Polled<D>) -> Option<End> {
     for _ in 0..1_000 {
         match turn(task, session) {
             Poll::Ready(end) => return Some(end),
@@ -363,7 +395,7 @@ fn last_turn(task: &MockTask, session: &mut Polled) -> Option<End> {
 }
 
 /// One turn. Where a growth is refused nothing is lost, and it is made once more.
-fn turn(task: &MockTask, session: &mut Polled) -> Poll<End> {
+fn turn<D: Desk>(task: &MockTask, session: &mut Polled<D>) -> Poll<End> {
     match task.poll(session) {
         Poll::Ready(End::NoMemory) => task.poll(session),
         polled => polled,

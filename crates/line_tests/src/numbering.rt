@@ -8,12 +8,19 @@ use std::alloc::AllocError;
 #[derive(Drop)]
 pub struct Numbering {
     answered: u8,
+    /// The reply to the frame with this number is held.
+    held: u64,
 }
 
 impl Numbering {
-    /// A desk that has answered no frame.
+    /// A desk that has answered no frame, and holds no reply.
     pub fn new() -> Numbering {
-        Numbering { answered: 0 }
+        Numbering::holding(0)
+    }
+
+    /// A desk that has answered no frame, and holds the reply to the frame with this number. Frames are numbered from 1.
+    pub fn holding(held: u64) -> Numbering {
+        Numbering { answered: 0, held }
     }
 }
 
@@ -32,6 +39,10 @@ impl Desk for Numbering {
         out.extend_from_slice(&[0, 0, 0, 1, number])?;
         self.answered = number;
         Ok(Answered::Replied)
+    }
+
+    fn may_send(&self, stamp: Stamp) -> bool {
+        stamp.frame != self.held
     }
 }
 
