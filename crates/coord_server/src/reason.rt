@@ -1,6 +1,8 @@
 //! Why the server closes a connection.
 ghost use Rattle.std.specs.Prelude.{◌≡◌, ◌++◌, ℕ, List, IfSome};
 ghost use Rattle.flex_wire.specs.Spelling.{int16};
+ghost use Rattle.flex_wire.specs.declared.fault.WireFault.{WireFault};
+ghost use Rattle.kip_msgs.specs.Heads.{HasFieldFault, HasLeftOver};
 ghost use Rattle.coord_server.specs.Reasons.{IsReason};
 
 use flex_wire::{WireFault, take_i16};
@@ -47,11 +49,22 @@ pub fn reason_of(alloc: Global, body: &[u8]) -> Option<Reason>
 {
     match read_request(alloc, body) {
         Ok(_) => Some(Reason::Overtaken),
-        Err(MsgFault::UnknownApi) => reason_of_key(body),
-        Err(MsgFault::UnknownVersion) => reason_of_version(body),
-        Err(MsgFault::Wire(fault)) => Some(Reason::Field(fault)),
-        Err(MsgFault::LeftOver) => Some(Reason::LeftOver),
-        Err(MsgFault::NoMemory) => None,
+        Err(fault) => reason_of_fault(body, fault),
+    }
+}
+
+/// Why the server closes a connection on which a body came that is no request, for this fault.
+fn reason_of_fault(body: &[u8], fault: MsgFault) -> Option<Reason>
+    requires field { (field : WireFault) → fault ≡ MsgFault.Wire field → HasFieldFault field body.now }
+    requires left_over { fault ≡ MsgFault.LeftOver → HasLeftOver body.now }
+    ensures { IfSome result (IsReason body.now) }
+{
+    match fault {
+        MsgFault::UnknownApi => reason_of_key(body),
+        MsgFault::UnknownVersion => reason_of_version(body),
+        MsgFault::Wire(fault) => Some(Reason::Field(fault)),
+        MsgFault::LeftOver => Some(Reason::LeftOver),
+        MsgFault::NoMemory => None,
     }
 }
 
