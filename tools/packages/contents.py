@@ -19,7 +19,7 @@ VERSION = ANSWERS["--version",].split()[1]
 SUBCOMMANDS = ("reply", "frame", "run", "serve")
 # The programs in Python, with the document that their man pages have, and its sections where that isn't all. They are commands migwelun-NAME of the
 # package, and so are the tools that need only Python. Behind these the parts that they share.
-PROGRAMS = {"broker": ("broker/README.md", ("The command line", "What a broker does for a consumer")), "conformance": ("conformance/README.md", ())}
+PROGRAMS = {"broker": ("broker/README.md", ("The command line", "A record of the frames", "What a broker does for a consumer")), "conformance": ("conformance/README.md", ())}
 TOOLS = ("tell-run", "draw-run", "write-run", "tell-capture", "run-lines", "reply-lines")
 SHARED = ("rules", "stories")
 EXAMPLES = ("*.md", "*.py", "run/*", "reply/*", "frame/*", "stories/*", "capture/*", "embed/*.c", "embed/python/*.py", "embed/rust/*.*", "embed/rust/*/*.rs")
