@@ -67,6 +67,9 @@ class Coordinator:
         connection.setblocking(False)
         try:
             await within(OPEN_SECONDS, asyncio.get_running_loop().sock_connect(connection, (self.host, self.port)))
+            # (Where nobody listens, a connection that is given the same port as its own comes to itself.)
+            if connection.getsockname() == connection.getpeername():
+                raise ConnectionRefusedError("nobody listens")
         except (OSError, asyncio.TimeoutError) as why:
             connection.close()
             self._was_not_there(str(why) or f"it hasn't answered for {OPEN_SECONDS} s")
