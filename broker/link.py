@@ -11,7 +11,7 @@ from typing import Awaitable, Callable, Optional
 
 from broker.frames import REPLY_SIZES, BadFrame, framed, read_body
 from broker.output import say
-from broker.streams import within
+from broker.streams import first_done, within
 
 OPEN_SECONDS = 5
 LOOK_SECONDS = 1
@@ -113,7 +113,7 @@ class Link:
             raise CoordinatorClosed("the coordinator closed the connection")
         # (Nothing else is under way, so no more than this one is ever buffered.)
         self._writer.write(framed(body))
-        await asyncio.wait({self.arriving}, timeout=ANSWER_SECONDS)
+        await first_done([self.arriving], ANSWER_SECONDS)
         if not self.arriving.done():
             raise CoordinatorClosed(f"the coordinator hasn't answered for {ANSWER_SECONDS} s")
         reply = self.arriving.result()

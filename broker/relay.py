@@ -20,7 +20,7 @@ from broker.frames import BadFrame, Reply, framed_in_blocks, read_body, read_req
 from broker.link import Connection, CoordinatorClosed, Link
 from broker.output import say
 from broker.room import CutOff
-from broker.streams import close, taken
+from broker.streams import close, first_done, taken
 from broker.turns import Pace
 from broker.watch import Watch
 
@@ -101,7 +101,7 @@ class Relay:
         """The next request's body, or None where the client has closed. Raises Closed where the coordinator has."""
         reading = asyncio.ensure_future(read_body(reader, held=lambda size: self.cluster.room.held(writer, size)))
         try:
-            await asyncio.wait({reading, link.arriving}, timeout=IDLE_SECONDS, return_when=asyncio.FIRST_COMPLETED)
+            await first_done([reading, link.arriving], IDLE_SECONDS)
             if reading.done():
                 return reading.result()
         finally:

@@ -7,10 +7,20 @@ import contextlib
 import fcntl
 import struct
 import termios
-from typing import Awaitable, Tuple, TypeVar
+from typing import Any, Awaitable, Iterable, Tuple, TypeVar
 
 Result = TypeVar("Result")
 CLOSE_SECONDS = 60
+AGAIN_SECONDS = 0.2
+
+
+async def first_done(tasks: Iterable[asyncio.Future[Any]], seconds: float) -> None:
+    """Waits until one of the tasks is done, at most so long. What has come while this process itself was stopped counts: when the time is
+    over, it looks once more."""
+    waiting = {*tasks}
+    done, _ = await asyncio.wait(waiting, timeout=seconds, return_when=asyncio.FIRST_COMPLETED)
+    if not done:
+        await asyncio.wait(waiting, timeout=AGAIN_SECONDS, return_when=asyncio.FIRST_COMPLETED)
 
 
 async def within(seconds: float, work: Awaitable[Result]) -> Result:
@@ -18,7 +28,7 @@ async def within(seconds: float, work: Awaitable[Result]) -> Result:
     ends.)"""
     task = asyncio.ensure_future(work)
     try:
-        await asyncio.wait({task}, timeout=seconds)
+        await first_done([task], seconds)
         if task.done():
             return task.result()
     finally:

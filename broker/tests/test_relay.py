@@ -162,6 +162,18 @@ class Relay(unittest.IsolatedAsyncioTestCase):
             self.assertIsNotNone(await (await it.client()).ask(VERSIONS.format(1)))
             self.assertIn("none to the coordinator can be made for it: Too many open files", it.said[0])
 
+    async def test_a_pause_of_this_process_ends_no_connection(self) -> None:
+        async with front() as it:
+            with mock.patch.object(relay, "IDLE_SECONDS", 0.2):
+                client = await it.client()
+                self.assertIsNotNone(await client.ask(VERSIONS.format(1)))
+                # Everything here stops for longer than a connection may say nothing. What has come meanwhile is read in more than one piece.
+                client.writer.write(framed(data(VERSIONS.format(2)) + bytes(400_000)))
+                time.sleep(0.4)
+                self.assertIsNotNone(await client.body())
+                self.assertIsNone(await client.body())
+        self.assertIn("it said nothing for 0.2 s", it.said[0])
+
     async def test_the_end_waits_for_nobody(self) -> None:
         async def ask_on(client: Client) -> None:
             while await client.ask(HEARTBEAT.format(1)) is not None:
