@@ -105,17 +105,19 @@ class Kept:
 
     FOLDER = os.path.join(os.environ.get("XDG_CACHE_HOME") or os.path.expanduser("~/.cache"), "migwelun-refused")
 
-    def __init__(self, tree: Tree, *words: object) -> None:
-        self.tree, self.sums, self.words = tree, {}, [*words, content(f"{tree.kit}/KIT-ID")]
+    def __init__(self, tree: Tree, *words: object, parts: Iterable[str] = PARTS) -> None:
+        self.tree, self.parts, self.words = tree, (*parts,), [*words, content(f"{tree.kit}/KIT-ID")]
+        self.sums: Dict[str, str] = {}
 
     def place(self, names: Iterable[str], *words: object) -> str:
         parts = [*self.words, *words, *map(self.crate, names)]
         return f"{self.FOLDER}/{hashlib.sha256(repr(parts).encode()).hexdigest()}"
 
     def crate(self, name: str) -> str:
-        """The sum of a crate's sources and of those below it."""
+        """The sum of these parts of a crate and of those below it."""
         if name not in self.sums:
-            texts = [(it, content(f"{self.tree.folder(name)}/{it}")) for it in self.tree.sources(name)]
+            files = [it for it in self.tree.sources(name) if it.startswith(self.parts)]
+            texts = [(it, content(f"{self.tree.folder(name)}/{it}")) for it in files]
             parts = [name, self.tree.uses[name], texts, [self.crate(it) for it in self.tree.own(name)]]
             self.sums[name] = hashlib.sha256(repr(parts).encode()).hexdigest()
         return self.sums[name]
