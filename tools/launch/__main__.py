@@ -12,7 +12,7 @@ sys.path[0] = os.path.dirname(os.path.dirname(os.path.realpath(__file__)))
 from gate import commands, crates  # noqa: E402
 from launch import answers, build, sources, unproved  # noqa: E402
 
-UNPROVED, VERSION = "--unproved", ("--version", "-V")
+UNPROVED, VERSION = "--unproved", ("--version",)
 
 
 def main(words: List[str]) -> int:
@@ -20,16 +20,14 @@ def main(words: List[str]) -> int:
     is_proved = words[:1] != [UNPROVED]
     words = words if is_proved else words[1:]
     kept = sources.program(tree) if is_proved else sources.Kept(tree, unproved.NAME)
-    is_there = kept.is_current()
-    state = "proved" if is_proved else unproved.STATE
-    if len(words) == 1 and words[0] in VERSION:
-        print(f"{answers.of(tree.root)[VERSION[0],]}, {state if is_there else 'not built'}")
-        return 0
+    is_there, state = kept.is_current(), "proved" if is_proved else unproved.STATE
+    asked = answers.canonical(words)
+    text = answers.of(tree.root).get(asked)
+    if text is not None and (asked == VERSION or not is_there):
+        signal.signal(signal.SIGPIPE, signal.SIG_DFL)
+        print(f"{text}, {state if is_there else 'not built'}" if asked == VERSION else text, file=sys.stdout if asked == VERSION else sys.stderr)
+        return 0 if asked == VERSION else 2
     if not is_there:
-        text = answers.of(tree.root).get(answers.canonical(words))
-        if text is not None:
-            print(text, file=sys.stderr)
-            return 2
         make = build.build if is_proved else unproved.compile_program
         if not has_toolchain(tree) or not make(tree, kept):
             return 1

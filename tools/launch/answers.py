@@ -15,7 +15,7 @@ def of(root: str) -> Dict[Tuple[str, ...], str]:
 
 
 def canonical(words: Sequence[str]) -> Tuple[str, ...]:
-    """The words by which an answer is looked for: `help`, `help NAME`, `NAME -h` and `-h` ask for what `--help` does."""
+    """The words by which an answer is looked for: `help`, `help NAME`, `NAME -h` and `-h` ask for what `--help` does, and `-V` is `--version`."""
     if words[:1] == ["help"] and len(words) < 3:
         words = [*words[1:], "--help"]
-    return tuple("--help" if it == "-h" else it for it in words)
+    return tuple({"-h": "--help", "-V": "--version"}.get(it, it) for it in words)

@@ -103,28 +103,22 @@ class Build:
         self.is_over = threading.Event()
 
     def run(self, what: str) -> bool:
-        """Proves every crate, and builds of them what is wanted. Whether that was built."""
+        """Proves crate after crate, up to the first that isn't proved, and builds what is wanted of them. Whether that was built."""
         began, left, count = time.monotonic(), len(self.names), len(self.over.uses)
         which = f"its {count} crates are" if left == count else f"{left} of its {count} crates {'is' if left == 1 else 'are'}"
         say(f"building the {what}: {which} proved first, side by side; {self.progress.time_left()} on this machine")
         with concurrent.futures.ThreadPoolExecutor(self.lanes) as pool:
             try:
-                is_built = self.prove_all(pool)
+                while len(self.finished) < len(self.names):
+                    self.begin(pool)
+                    # A signal that comes right before a wait is seen at its end, so that this has one.
+                    for it in concurrent.futures.wait(self.running, 1, concurrent.futures.FIRST_COMPLETED).done:
+                        if not self.end(self.running.pop(it)[0], it.result()):
+                            return False
             finally:
                 self.is_over.set()
                 commands.end_all()
-        if is_built:
-            say(f"built in {time.monotonic() - began:.0f} s")
-        return is_built
-
-    def prove_all(self, pool: concurrent.futures.Executor) -> bool:
-        """Proves crate after crate, up to the first that isn't proved."""
-        while len(self.finished) < len(self.names):
-            self.begin(pool)
-            # A signal that comes right before a wait is seen at its end, so that this has one.
-            for it in concurrent.futures.wait(self.running, 1, concurrent.futures.FIRST_COMPLETED).done:
-                if not self.end(self.running.pop(it)[0], it.result()):
-                    return False
+        say(f"built in {time.monotonic() - began:.0f} s")
         return True
 
     def begin(self, pool: concurrent.futures.Executor) -> None:
