@@ -95,7 +95,7 @@ def taken(path: pathlib.Path) -> Entry:
 def of_options(version: str, seconds: int) -> Files:
     """Man pages and completions."""
     coord = [options.read("coord", ANSWERS["--help",]), *(options.read(f"coord {it}", ANSWERS[it, "--help"]) for it in SUBCOMMANDS)]
-    document = (TOP / "docs/COMMANDS.md").read_text()
+    document = as_installed((TOP / "docs/COMMANDS.md").read_text())
     parts = {"coord": "\n\n".join(document.split("\n\n")[1:3]) + "\n" + "".join(f"### {it}\n{manual.section(document, it)}" for it in ("Lines", "Reasons"))}
     parts.update({f"coord {it}": manual.section(document, f"`coord {it}`") for it in SUBCOMMANDS})
     others = []
@@ -104,7 +104,7 @@ def of_options(version: str, seconds: int) -> Files:
         words = {**os.environ, "COLUMNS": "1000", "BROKER_NAME": command}
         ran = subprocess.run([sys.executable, "-B", "-m", name, "--help"], cwd=TOP, env=words, stdout=subprocess.PIPE, text=True, check=True)
         others.append(options.read(command, ran.stdout.replace(f"python3 -m {name}", command)))
-        text = (TOP / path).read_text().replace(f"python3 -m {name} ", f"{command} ")
+        text = as_installed((TOP / path).read_text())
         parts[command] = "".join(manual.section(text, it) for it in titles) or text.partition("\n")[2]
     pages = [it.command.replace(" ", "-") for it in (*coord, *others)]
     files: Files = {}
@@ -112,6 +112,13 @@ def of_options(version: str, seconds: int) -> Files:
         text = manual.page(it, version, seconds, parts[it.command], [name for name in pages if name != own])
         files[f"share/man/man1/{own}.1.gz"] = Entry(zipped(text.encode()))
     return {**files, **completions_of([coord, *([it] for it in others)])}
+
+
+def as_installed(text: str) -> str:
+    """A document with the commands of the package in place of those of the repository."""
+    for here, there in (("./coord", "coord"), *((f"python3 -m {it} ", f"migwelun-{it} ") for it in PROGRAMS), *((f"tools/{it}", f"migwelun-{it}") for it in TOOLS)):
+        text = text.replace(here, there)
+    return text
 
 
 def programs() -> List[str]:

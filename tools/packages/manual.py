@@ -41,7 +41,7 @@ def section(document: str, title: str) -> str:
 
 def blocks(text: str) -> Iterator[str]:
     """Markdown as roff: paragraphs, lists, tables as lists of their first column, and code."""
-    text = re.sub(r"^!\[.*\n", "", text.replace("./coord", "coord"), flags=re.M)
+    text = re.sub(r"^!\[.*\n", "", text, flags=re.M)
     for fenced, indented, table, points, heading, paragraph in BLOCK.findall(text):
         if fenced or indented:
             yield from (".PP", ".RS 4", ".nf", *(guarded(literal(re.sub("^    ", "", it))) for it in (fenced or indented).splitlines()), ".fi", ".RE")
