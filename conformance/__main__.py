@@ -3,6 +3,7 @@
 from __future__ import annotations
 
 import argparse
+import os
 import re
 import signal
 import sys
@@ -113,6 +114,8 @@ def main(words: List[str]) -> int:
     runner = Runner(starter, settings, options.timeout, options.heartbeat, options.topics)
     try:
         return run(runner, chosen(cases, options.only, options.slow), options)
+    except BrokenPipeError:
+        raise
     except (NoBroker, OSError) as why:
         print(f"conformance: {why}", file=sys.stderr)
         return NO_BROKER
@@ -134,4 +137,11 @@ def run(runner: Runner, cases: Sequence[Case], options: argparse.Namespace) -> i
 
 
 if __name__ == "__main__":
-    sys.exit(main(sys.argv[1:]))
+    try:
+        status = main(sys.argv[1:])
+        sys.stdout.flush()
+    except BrokenPipeError:
+        # Nobody reads the report any more, as in `.. | head`.
+        os.dup2(os.open(os.devnull, os.O_WRONLY), sys.stdout.fileno())
+        status = FAILED_STATUS
+    sys.exit(status)

@@ -15,10 +15,11 @@ from typing import Dict, List, NamedTuple, Sequence
 
 from conformance.case import FREE, MUST, SHOULD, Case
 from conformance.cases import load, topic_of
-from conformance.planted.faults import TOP, read
+from conformance.planted.faults import TOP, Fault, found_before, read
 from conformance.runner import FAILED, NOT_RUN, NOTED, PASSED
 
 DOCUMENT = TOP / "docs/CONFORMANCE.md"
+MOST_OTHERS = 4
 PEERS = pathlib.Path(__file__).resolve().parent / "peers"
 # The files in PEERS, with the heads of their columns.
 COLUMNS = {"migwelun": "Migwelun", "librdkafka-mock": "librdkafka's mock"}
@@ -108,9 +109,25 @@ def document() -> str:
         parts.append("| Case | Level, section | It sends | What must hold | " + " | ".join(columns) + " |")
         parts.append("|---" * (4 + len(columns)) + "|")
         parts += [row(case, list(columns.values())) for case in cases if topic_of(case) == topic]
-    parts += ["\n## Planted faults\n", (PEERS / "planted.md").read_text(encoding="utf-8"), "| Fault | What is wrong | Found by |", "|---|---|---|"]
-    parts += [f"| {fault.name} | {cell(fault.words['is'])} | {fault.case} |" for fault in faults]
-    return "\n".join(parts) + "\n"
+    return "\n".join([*parts, *planted(cases, faults)]) + "\n"
+
+
+def planted(cases: Sequence[Case], faults: Sequence[Fault]) -> List[str]:
+    """The planted faults, and the cases that found none."""
+    found = found_before()
+    finders = {name for names in found.values() for name in names}
+    idle = ", ".join(case.name for case in cases if case.name not in finders and case.level != FREE)
+    text = (PEERS / "planted.md").read_text(encoding="utf-8").replace("@IDLE@", idle).replace("@FAULTS@", str(len(faults)))
+    rows = [f"| {fault.name} | {cell(fault.words['is'])} | {fault.case} | {also(fault, found.get(fault.name, []))} |" for fault in faults]
+    return ["\n## Planted faults\n", text, "| Fault | What is wrong | Found by | Found too by |", "|---|---|---|---|", *rows]
+
+
+def also(fault: Fault, found: Sequence[str]) -> str:
+    """The other cases that found a fault, the first of many."""
+    if fault.case not in found:
+        return "**not found**"
+    others = [name for name in found if name != fault.case]
+    return ", ".join(others[:MOST_OTHERS]) + (f" and {len(others) - MOST_OTHERS} more" if len(others) > MOST_OTHERS else "")
 
 
 def row(case: Case, columns: Sequence[Dict[str, Kept]]) -> str:

@@ -15,7 +15,7 @@ from typing import List, NamedTuple, Sequence, Set
 from conformance.broker import NoBroker
 from conformance.case import FREE, Case
 from conformance.cases import load
-from conformance.planted.faults import RULES, BadFault, Fault, plant, read
+from conformance.planted.faults import RULES, BadFault, Fault, found_before, plant, read, write_found
 from conformance.planted.known import KNOWN
 from conformance.planted.stand import SESSION_SECONDS, Broken, end_all, over_rules
 from conformance.play import Settings
@@ -41,6 +41,7 @@ def main(words: Sequence[str]) -> int:
     parser = argparse.ArgumentParser(prog="python3 -m conformance.planted", description=__doc__)
     parser.add_argument("--only", nargs="+", metavar="FAULT", help="these faults alone")
     parser.add_argument("--named", action="store_true", help="plays only the case that has to find the fault")
+    parser.add_argument("--write", action="store_true", help="writes what was found into found.json, of which docs/CONFORMANCE.md is made")
     parser.add_argument("--jobs", type=int, default=2, metavar="N", help="so many at once (%(default)d)")
     parser.add_argument(
         "--serve",
@@ -57,7 +58,7 @@ def main(words: Sequence[str]) -> int:
     signal.signal(signal.SIGTERM, end_all)
     if options.serve is not None:
         return serve([faults[options.serve]] if options.serve else [])
-    return show([faults[name] for name in options.only or faults], load(), options.named, options.jobs)
+    return show([faults[name] for name in options.only or faults], load(), options)
 
 
 def serve(faults: Sequence[Fault]) -> int:
@@ -70,19 +71,22 @@ def serve(faults: Sequence[Fault]) -> int:
     return 0
 
 
-def show(faults: Sequence[Fault], cases: Sequence[Case], named: bool, jobs: int) -> int:
+def show(faults: Sequence[Fault], cases: Sequence[Case], options: argparse.Namespace) -> int:
     """Status 0 where each fault is found by the case that names it."""
     finders: Set[str] = set()
-    unfound = 0
-    with concurrent.futures.ThreadPoolExecutor(max(1, jobs)) as pool:
-        for found in pool.map(lambda fault: try_fault(fault, cases, named), faults):
+    unfound, kept = 0, found_before()
+    with concurrent.futures.ThreadPoolExecutor(max(1, options.jobs)) as pool:
+        for found in pool.map(lambda fault: try_fault(fault, cases, options.named), faults):
             is_found = found.fault.case in found.cases
             unfound += not is_found
             finders |= {*found.cases}
             others = [name for name in found.cases if name != found.fault.case]
+            kept[found.fault.name] = found.cases
             print(f"{'found' if is_found else 'NOT FOUND'}  {found.fault.name}: {found.fault.words['is']}")
             print(f"    by {found.fault.case}; {len(found.cases)} of {found.played} cases fail{': ' if others else ''}{' '.join(others)}", flush=True)
-    if not named:
+    if options.write:
+        write_found(kept)
+    if not options.named:
         print("cases that found none of these: " + " ".join(case.name for case in cases if case.name not in finders))
     print(f"{len(faults) - unfound} of {len(faults)} planted faults are found by the case that names them")
     return int(unfound > 0)
@@ -92,7 +96,8 @@ def try_fault(fault: Fault, cases: Sequence[Case], named: bool) -> Found:
     """Plays the case that has to find the fault, and then the others in any order; the slow ones too where one of them has to find it."""
     is_slow = next(case.is_slow for case in cases if case.name == fault.case)
     first = [case for case in cases if case.name == fault.case]
-    others = [case for case in cases if case.name != fault.case and not named and (is_slow or not case.is_slow) and case.level != FREE]
+    # (With a session that ends soon a busy machine may lose a fast case.)
+    others = [case for case in cases if case.name != fault.case and not named and case.is_slow == is_slow and case.level != FREE]
     random.Random(fault.name).shuffle(others)
     session = SHORT_SESSION if is_slow else SESSION_SECONDS
     with tempfile.TemporaryDirectory() as folder:
@@ -102,9 +107,9 @@ def try_fault(fault: Fault, cases: Sequence[Case], named: bool) -> Found:
             host, _, port = stand.addresses[0].rpartition(":")
             runner = Runner(Starter((host, int(port)), None, TIMEOUT), settings, TIMEOUT, None, None)
             results = runner.run(first, lambda _: None)
-            results += runner.run_side_by_side([case for case in others if case.is_slow])
-            for case in others:
-                if not case.is_slow and sum(result.status == FAILED for result in results) < MOST_FAILED:
+            results += runner.run_side_by_side(others) if is_slow else []
+            for case in [] if is_slow else others:
+                if sum(result.status == FAILED for result in results) < MOST_FAILED:
                     results.append(runner.run_one(case))
     return Found(fault, [result.case.name for result in results if result.status == FAILED and result.case.name not in KNOWN], len(results))
 

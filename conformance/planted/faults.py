@@ -3,11 +3,13 @@
 from __future__ import annotations
 
 import dataclasses
+import json
 import pathlib
 import shutil
 from typing import Dict, List
 
 FILE = pathlib.Path(__file__).resolve().parent / "faults.txt"
+FOUND = FILE.with_name("found.json")
 TOP = FILE.parents[2]
 RULES = TOP / "tools/rules"
 
@@ -55,6 +57,16 @@ def read() -> List[Fault]:
         else:
             raise BadFault(f"{FILE.name}, line {number}: {line}")
     return faults
+
+
+def found_before() -> Dict[str, List[str]]:
+    """By which cases each fault was found when `--write` was said."""
+    return dict(json.loads(FOUND.read_text(encoding="utf-8"))) if FOUND.is_file() else {}
+
+
+def write_found(found: Dict[str, List[str]]) -> None:
+    rows = ",\n".join(f" {json.dumps(fault.name)}: {json.dumps(found[fault.name])}" for fault in read() if fault.name in found)
+    FOUND.write_text(f"{{\n{rows}\n}}\n", encoding="utf-8")
 
 
 def plant(fault: Fault, folder: pathlib.Path) -> None:
