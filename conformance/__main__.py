@@ -11,7 +11,7 @@ import time
 from typing import List, NoReturn, Optional, Sequence
 
 from conformance import report
-from conformance.broker import NoBroker
+from conformance.broker import NoBroker, want_coordinator
 from conformance.case import Case
 from conformance.cases import load
 from conformance.connection import Address
@@ -127,6 +127,7 @@ def main(words: List[str]) -> int:
 
 def run(runner: Runner, cases: Sequence[Case], options: argparse.Namespace) -> int:
     broker, began = runner.look(), time.monotonic()
+    want_coordinator(broker)
     results = runner.run(cases, tell)
     print(report.text(broker, results, time.monotonic() - began, options.only is not None))
     for path, written in ((options.json, report.as_json(broker, results)), (options.junit, report.as_junit(results))):

@@ -96,6 +96,18 @@ def look(address: Address, seconds: float, wanted: Optional[int], names: Optiona
     return broker
 
 
+def want_coordinator(broker: Broker) -> None:
+    """Raises NoBroker where a coordinator isn't found, or can't be reached."""
+    try:
+        address = broker.coordinator_of("conformance")
+    except (Lost, Unreadable) as why:
+        raise NoBroker(f"it names no coordinator: {why}") from None
+    try:
+        broker.connect(address).close()
+    except Lost as why:
+        raise NoBroker(f"it names a coordinator, and {why}; the addresses that brokers advertise have to be reachable from here") from None
+
+
 def ask_versions(connection: Connection) -> Dict[int, Tuple[int, int]]:
     """Version 0 is asked for, which every broker answers."""
     code, offered = read_api_versions_reply(connection.ask(API_VERSIONS, 0, api_versions_fields(0)), 0)

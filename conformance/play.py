@@ -262,9 +262,9 @@ class Play:
 
     def close(self) -> None:
         """The members leave, so that the broker has nothing left of the case. What goes wrong here is no matter of the case."""
-        for member in self.members:
-            if member.is_in or member.may_be_in:
-                with contextlib.suppress(Exception):
+        with contextlib.suppress(Exception):
+            for member in self.members:
+                if member.is_in or member.may_be_in:
                     member.leave_quietly()
         for connection in self._connections:
             connection.close()

@@ -29,7 +29,7 @@ CODES = {
 }
 ACTS = {JOIN: "joins", LEAVE: "leaves", AWAY: "leaves for a while"}
 MOST_LINES = 4_000
-LONGEST_VALUE = 60
+LONGEST_VALUE, MOST_NAMES = 60, 6
 # Of so many lines a block may have that is shown once where it comes again at once.
 LONGEST_BLOCK = 24
 
@@ -88,12 +88,17 @@ class Story:
         topics = by_topic(partitions)
         return " ".join(f"{self._names.get(topic, topic.hex())}[{runs(indexes)}]" for topic, indexes in topics.items()) or "nothing"
 
+    @staticmethod
+    def names(names: Sequence[str]) -> str:
+        shown = " ".join(map(short, names[:MOST_NAMES])) or "nothing"
+        return shown + (f" and {len(names) - MOST_NAMES} more" if len(names) > MOST_NAMES else "")
+
     def asked(self, who: str, request: Heartbeat, lost: bool) -> None:
         act = ACTS.get(request.epoch, f"beats at epoch {request.epoch}")
         words = [act, f"under member id {short(request.member)}" if request.member else "without a member id"]
         words += [f"instance {short(request.instance)}"] if request.instance is not None else []
         words += [f"rebalance timeout {request.timeout} ms"] if request.timeout != -1 else []
-        words += ["subscribes " + (" ".join(map(short, request.names)) or "nothing")] if request.names is not None else []
+        words += [f"subscribes {self.names(request.names)}"] if request.names is not None else []
         words += [f"regular expression {short(request.regex)!r}"] if request.regex is not None else []
         words += [f"assignor {short(request.assignor)}"] if request.assignor is not None else []
         words += [f"owns {self.partitions(request.owned)}"] if request.owned is not None else []
