@@ -1,4 +1,4 @@
-"""The planted faults, and copies of the rules that have one."""
+"""The planted faults, and copies of the rules and of the front end that have one."""
 
 from __future__ import annotations
 
@@ -11,12 +11,12 @@ from typing import Dict, List
 FILE = pathlib.Path(__file__).resolve().parent / "faults.txt"
 FOUND = FILE.with_name("found.json")
 TOP = FILE.parents[2]
-RULES = TOP / "tools/rules"
+RULES, BROKER = TOP / "tools/rules", TOP / "broker"
 
 
 @dataclasses.dataclass
 class Edit:
-    """Lines of a file that stand there once, and what stands in their place."""
+    """Lines of a file of tools/rules, or of broker/, that stand there once, and what stands in their place."""
 
     file: str
     old: List[str] = dataclasses.field(default_factory=list)
@@ -70,13 +70,14 @@ def write_found(found: Dict[str, List[str]]) -> None:
 
 
 def plant(fault: Fault, folder: pathlib.Path) -> None:
-    """Makes a copy of the rules with the fault in a folder."""
-    shutil.copytree(RULES, folder / RULES.name, ignore=shutil.ignore_patterns("__pycache__"))
+    """Makes copies of the rules and of the front end with the fault in a folder."""
+    for source in (RULES, BROKER):
+        shutil.copytree(source, folder / source.name, ignore=shutil.ignore_patterns("__pycache__", "tests"))
     for edit in fault.edits:
-        path = folder / RULES.name / edit.file
+        path = folder / (edit.file if edit.file.startswith(BROKER.name + "/") else f"{RULES.name}/{edit.file}")
         text = path.read_text(encoding="utf-8")
         # (The last line may be the beginning of one.)
         old, new = ("\n".join(lines) for lines in (edit.old, edit.new))
         if text.count(old) != 1:
-            raise BadFault(f"{fault.name}: its old lines stand {text.count(old)} times in tools/rules/{edit.file}")
+            raise BadFault(f"{fault.name}: its old lines stand {text.count(old)} times in {edit.file}")
         path.write_text(text.replace(old, new), encoding="utf-8")

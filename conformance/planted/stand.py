@@ -11,10 +11,10 @@ import subprocess
 import sys
 from typing import IO, Iterator, List, NamedTuple, Sequence, Set, Tuple
 
-from conformance.planted.faults import TOP
+from conformance.planted.faults import BROKER, TOP
 
 # The folder in which `python3 -m broker` finds the front end.
-FRONT_END = TOP
+FRONT_END = BROKER.parent
 SERVE = pathlib.Path(__file__).resolve().parent / "serve.py"
 TOPICS = (
     "orders:11111111-1111-1111-1111-111111111111:4",
@@ -83,11 +83,12 @@ def end(process: subprocess.Popen[bytes]) -> None:
 
 @contextlib.contextmanager
 def over_rules(rules: pathlib.Path, session: float = SESSION_SECONDS) -> Iterator[Stand]:
-    """A broker over the rules in a folder."""
+    """A broker over the rules in a folder, with the front end that is there, if one is."""
     with contextlib.ExitStack() as stack:
         pid, lines = begin(stack, [sys.executable, str(SERVE), str(rules), str(session), *TOPICS], TOP)
         port = lines[0].split()[1]
-        yield Stand(front_end(stack, ["--coordinator", f"127.0.0.1:{port}"], 1), [pid])
+        folder = rules if (rules / BROKER.name).is_dir() else FRONT_END
+        yield Stand(front_end(stack, ["--coordinator", f"127.0.0.1:{port}"], 1, folder), [pid])
 
 
 @contextlib.contextmanager
@@ -97,6 +98,6 @@ def over_program(program: str, count: int = 1) -> Iterator[Stand]:
         yield Stand(front_end(stack, ["--program", program, *["--start"] * count], count), [])
 
 
-def front_end(stack: contextlib.ExitStack, words: Sequence[str], count: int) -> List[str]:
-    _, lines = begin(stack, [sys.executable, "-m", "broker", "--port", "0", *words, *TOPICS], FRONT_END, count)
+def front_end(stack: contextlib.ExitStack, words: Sequence[str], count: int, folder: pathlib.Path = FRONT_END) -> List[str]:
+    _, lines = begin(stack, [sys.executable, "-m", "broker", "--port", "0", *words, *TOPICS], folder, count)
     return [re.split(r"\s+", line)[1] for line in lines]
