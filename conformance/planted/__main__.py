@@ -17,7 +17,7 @@ from conformance.case import FREE, Case
 from conformance.cases import load
 from conformance.planted.faults import RULES, BadFault, Fault, found_before, plant, read, write_found
 from conformance.planted.known import KNOWN
-from conformance.planted.stand import SESSION_SECONDS, Broken, end_all, over_rules
+from conformance.planted.stand import SESSION_SECONDS, Broken, over_rules, stop
 from conformance.play import Settings
 from conformance.runner import FAILED, Runner
 from conformance.starter import Starter
@@ -55,7 +55,8 @@ def main(words: Sequence[str]) -> int:
     missing = [name for name in [*(options.only or ()), *([options.serve] if options.serve else ())] if name not in faults]
     if missing:
         parser.error(f"there is no fault {missing[0]}")
-    signal.signal(signal.SIGTERM, end_all)
+    signal.signal(signal.SIGTERM, stop)
+    signal.signal(signal.SIGINT, stop)
     if options.serve is not None:
         return serve([faults[options.serve]] if options.serve else [])
     return show([faults[name] for name in options.only or faults], load(), options)
@@ -75,21 +76,28 @@ def show(faults: Sequence[Fault], cases: Sequence[Case], options: argparse.Names
     """Status 0 where each fault is found by the case that names it."""
     finders: Set[str] = set()
     unfound, kept = 0, found_before()
-    with concurrent.futures.ThreadPoolExecutor(max(1, options.jobs)) as pool:
+    with contextlib.ExitStack() as stack:
+        pool = concurrent.futures.ThreadPoolExecutor(max(1, options.jobs))
+        # (Where this is stopped, what isn't begun yet never is.)
+        stack.callback(pool.shutdown, cancel_futures=True)
         for found in pool.map(lambda fault: try_fault(fault, cases, options.named), faults):
-            is_found = found.fault.case in found.cases
-            unfound += not is_found
+            unfound += found.fault.case not in found.cases
             finders |= {*found.cases}
-            others = [name for name in found.cases if name != found.fault.case]
             kept[found.fault.name] = found.cases
-            print(f"{'found' if is_found else 'NOT FOUND'}  {found.fault.name}: {found.fault.words['is']}")
-            print(f"    by {found.fault.case}; {len(found.cases)} of {found.played} cases fail{': ' if others else ''}{' '.join(others)}", flush=True)
+            tell(found)
     if options.write:
         write_found(kept)
     if not options.named:
         print("cases that found none of these: " + " ".join(case.name for case in cases if case.name not in finders))
     print(f"{len(faults) - unfound} of {len(faults)} planted faults are found by the case that names them")
     return int(unfound > 0)
+
+
+def tell(found: Found) -> None:
+    others = [name for name in found.cases if name != found.fault.case]
+    print(f"{'found' if found.fault.case in found.cases else 'NOT FOUND'}  {found.fault.name}: {found.fault.words['is']}")
+    of_all = f"{len(found.cases)} of {found.played} cases fail"
+    print(f"    by {found.fault.case}; {of_all}{': ' if others else ''}{' '.join(others)}", flush=True)
 
 
 def try_fault(fault: Fault, cases: Sequence[Case], named: bool) -> Found:
@@ -120,3 +128,5 @@ if __name__ == "__main__":
     except (BadFault, Broken, NoBroker) as why:
         print(f"conformance.planted: {why}", file=sys.stderr)
         sys.exit(2)
+    except KeyboardInterrupt:
+        sys.exit(130)

@@ -6,10 +6,9 @@ import contextlib
 import os
 import pathlib
 import re
-import signal
 import subprocess
 import sys
-from typing import IO, Iterator, List, NamedTuple, Sequence, Set, Tuple
+from typing import IO, Iterator, List, NamedTuple, NoReturn, Sequence, Set, Tuple
 
 from conformance.planted.faults import BROKER, TOP
 
@@ -64,11 +63,11 @@ def drain(stack: contextlib.ExitStack, output: IO[bytes]) -> None:
     stack.callback(end, sink)
 
 
-def end_all(*_: object) -> None:
-    """Ends what was started, and this process: as the handler of a signal."""
+def stop(*_: object) -> NoReturn:
+    """Ends what was started, so that nobody waits for it, and goes on as after an interrupt: as the handler of a signal."""
     for process in list(LIVE):
         process.terminate()
-    os._exit(128 + signal.SIGTERM)
+    raise KeyboardInterrupt
 
 
 def end(process: subprocess.Popen[bytes]) -> None:
