@@ -61,7 +61,7 @@ def as_json(broker: Broker, results: Sequence[Result]) -> str:
             "section": result.case.section,
             "level": result.case.level,
             "status": result.status,
-            "failed level": result.level if result.status == FAILED else None,
+            "failed_level": result.level if result.status == FAILED else None,
             "says": result.says,
             "seconds": round(result.seconds, 3),
             "story": list(result.story) if result.status == FAILED else [],
@@ -70,7 +70,7 @@ def as_json(broker: Broker, results: Sequence[Result]) -> str:
     ]
     it: Dict[str, Any] = {
         "broker": f"{broker.address[0]}:{broker.address[1]}",
-        "heartbeat version": broker.version(HEARTBEAT),
+        "heartbeat_version": broker.version(HEARTBEAT),
         "topics": {topic.name: topic.count for topic in broker.topics},
         "cases": cases,
     }

@@ -61,7 +61,7 @@ def take(peer: str, files: Sequence[str]) -> None:
     for file in files:
         for case in json.loads(pathlib.Path(file).read_text(encoding="utf-8"))["cases"]:
             if kept.get(case["name"], [NOT_RUN])[0] == NOT_RUN:
-                kept[case["name"]] = [case["status"], case["failed level"] or case["level"], case["says"]]
+                kept[case["name"]] = [case["status"], case["failed_level"] or case["level"], case["says"]]
     lines = ",\n".join(f" {json.dumps(name)}: {json.dumps(row, ensure_ascii=False)}" for name, row in kept.items())
     (PEERS / f"{peer}.json").write_text(f"{{\n{lines}\n}}\n", encoding="utf-8")
 

@@ -8,14 +8,16 @@ import random
 import signal
 import subprocess
 import sys
+import time
 from typing import Callable, Dict, Iterable, List, NamedTuple, Optional, Sequence, Tuple
 
 from rules.decode import Fields
 
 SEED = 848
 RUN_SECONDS = 60
-# How many runs of the program the cutting down of one script may take, and how many lines and characters of it are shown.
-MOST_RUNS, MOST_LINES, MOST_TEXT = 600, 40, 400
+# How many runs of the program, and how many seconds, the cutting down of one script may take; how many lines and characters of it are shown.
+MOST_RUNS, CUT_SECONDS, MOST_LINES, MOST_TEXT = 600, 120, 40, 400
+HANGS = f"the program hasn't ended after {RUN_SECONDS} s"
 Lines = List[str]
 
 
@@ -50,7 +52,7 @@ class Tool:
             given = "".join(f"{line}\n" for line in lines).encode()
             ran = subprocess.run(self.command, input=given, capture_output=True, timeout=RUN_SECONDS, check=False)
         except subprocess.TimeoutExpired:
-            return Difference(0, None, None, f"the program hasn't ended after {RUN_SECONDS} s")
+            return Difference(0, None, None, HANGS)
         found = ran.stdout.decode(errors="replace").split("\n")[:-1]
         for at in range(max(len(wanted), len(found))):
             number, want = wanted[at] if at < len(wanted) else (0, None)
@@ -71,11 +73,11 @@ class Tool:
 
     def shortest(self, lines: Lines, cause: Tuple[object, ...]) -> Lines:
         """The lines without all those that the difference doesn't need."""
-        runs = 0
+        runs, end = 0, time.monotonic() + CUT_SECONDS
 
         def still(some: Lines) -> bool:
             nonlocal runs
-            runs += 1
+            runs += 1 if time.monotonic() < end else MOST_RUNS
             try:
                 difference = self.difference(some)
             except Exception:  # pylint: disable=broad-except
@@ -147,6 +149,11 @@ def compare(tool: Tool, seed: int, scripts: int, count: int) -> int:
         if difference is None:
             continue
         differ += 1
+        if difference.what == HANGS:
+            # No other script is tried: each could take as long.
+            print("\n".join([f"script {number} of seed {seed}:", *shown(lines), f"  {HANGS}\n"]))
+            scripts = number + 1
+            break
         cause = tool.cause(lines, difference)
         if cause not in causes:
             lines = tool.shortest(lines, cause)
@@ -158,12 +165,16 @@ def compare(tool: Tool, seed: int, scripts: int, count: int) -> int:
     return int(differ > 0)
 
 
-def report(tool: Tool, lines: Lines) -> Iterable[str]:
-    """A script that differs, and how."""
-    difference = tool.difference(lines)
+def shown(lines: Lines) -> Iterable[str]:
     yield from (f"    {number:3}  {cut(line)}" for number, line in enumerate(lines[:MOST_LINES], 1))
     if len(lines) > MOST_LINES:
         yield f"         .. and {len(lines) - MOST_LINES} more"
+
+
+def report(tool: Tool, lines: Lines) -> Iterable[str]:
+    """A script that differs, and how."""
+    difference = tool.difference(lines)
+    yield from shown(lines)
     if difference is None:
         yield "  it doesn't always differ"
         return
