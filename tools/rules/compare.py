@@ -157,10 +157,13 @@ def compare(tool: Tool, seed: int, scripts: int, count: int) -> int:
         cause = tool.cause(lines, difference)
         if cause not in causes:
             lines = tool.shortest(lines, cause)
-            told[cause] = "\n".join([f"script {number} of seed {seed}, cut down to {len(lines)} lines:", *report(tool, lines)])
+            told[cause] = "\n".join(
+                [f"script {number} of seed {seed}, cut down to {len(lines)} line{'s' * (len(lines) != 1)}:", *report(tool, lines)],
+            )
         causes[cause] = causes.get(cause, 0) + 1
     for cause, text in told.items():
-        print(text + (f"\n    ({causes[cause] - 1} more scripts differ in this way)" if causes[cause] > 1 else "") + "\n")
+        more = causes[cause] - 1
+        print(text + (f"\n    ({more} more script{'s' * (more > 1)} in which the same differs)" if more else "") + "\n")
     print(f"{scripts} scripts, {differ} differ")
     return int(differ > 0)
 
