@@ -55,7 +55,7 @@ module _ (c : Coordinator) (name : Text) (answer : group.Answer) (new : Coordina
         made = λ _. (
           o.left,
           ap (λ (x : Coordinator). finite.get x.groups name) leaves
-          ∙ ap (λ (k : Text). finite.get (finite.insert c.groups k o.left) name) same ∙ get-inserted c.groups name o.left,
+              ∙ ap (λ (k : Text). finite.get (finite.insert c.groups k o.left) name) same ∙ get-inserted c.groups name o.left,
         );
         kept_out = λ never. absurd (never (o.reply, is, is_no_error o.reply.code so));
       }
