@@ -23,12 +23,14 @@ returns-in-Some-clause-response c =
     subst (λ answer. IfSome answer (λ outcome. IsResponse (answer_of outcome) (group_of c.beat_steadily.new.state) c.args.image.now (vec_capacity c.beat_steadily.new.out - length c.beat_steadily.new.out.items))) c.in-Some.is
     (c.in_ok-outcome.ensures.response c.args.image.now (c.requires.current c.if-is_current.true))
 
-pub answer-requires-clause-group : goal.answer-requires-clause-group
-answer-requires-clause-group c =
-    elim c.if-is_current.branch [
-      | then-is_current+then-is_steady_beat+in_ok-outcome+in_default w ↦ subst IsGroup (sym (w.state-is ∙ subst (λ o. IfNone o (w.beat_steadily.new.state ≡ c.args.state.now)) w.in_default.is w.in_ok-outcome.ensures.none)) c.requires.group
-      | else-is_current w ↦ subst IsGroup (sym w.state-is) c.requires.group
-    ]
+pub answer-requires : goal.answer-requires
+answer-requires c =
+    record {
+      group = elim c.if-is_current.branch [
+        | then-is_current+then-is_steady_beat+in_ok-outcome+in_default w ↦ subst IsGroup (sym (w.state-is ∙ subst (λ o. IfNone o (w.beat_steadily.new.state ≡ c.args.state.now)) w.in_default.is w.in_ok-outcome.ensures.none)) c.requires.group
+        | else-is_current w ↦ subst IsGroup (sym w.state-is) c.requires.group
+      ];
+    }
 
 pub returns-clause-step : goal.returns-clause-step
 returns-clause-step c =
