@@ -7,9 +7,11 @@ use Rattle.coord_node.proofs.KeptLemmas.{HasRightNumber-heartbeat, current_if_sa
 use Rattle.coord_node.proofs.ShortIds.{HasShortId-step}
 use Rattle.coord_node.proofs.kept.Kept.heartbeat.Goals as goal
 
-pub heartbeat_over-requires-clause-current : goal.heartbeat_over-requires-clause-current
-heartbeat_over-requires-clause-current c = λ is.
-    current_if_same c.args.generation c.args.image.now c.args.self.now c.requires.kept (sym c.is_current-is_current.ensures ∙ is)
+pub heartbeat_over-requires : goal.heartbeat_over-requires
+heartbeat_over-requires c =
+    record {
+      current = λ is. current_if_same c.args.generation c.args.image.now c.args.self.now c.requires.kept (sym c.is_current-is_current.ensures ∙ is);
+    }
 
 pub returns-clause-sendable : goal.returns-clause-sendable
 returns-clause-sendable c =
