@@ -1,4 +1,4 @@
-use Rattle.std.proofs.Common.{option_map, sym, ap, ◌∙◌}
+use Rattle.std.proofs.Common.{rules, ◌≡◌, option_map, sym, ap, ◌∙◌, to_z, of_z, w32}
 use Rattle.std.specs.FinMap as finite
 use Rattle.coord_node.specs.declared.kept.Kept.{Kept}
 use Rattle.coord_node.specs.Coordinator.{Coordinator, committed_at}
@@ -7,10 +7,12 @@ use Rattle.coord_node.proofs.node.Node.committed.Goals as goal
 
 pub returns-in-Some : goal.returns-in-Some
 returns-in-Some c =
+    let index : to_z w32 (of_z w32 c.args.index) ≡ c.args.index = search rules in
     c.committed.ensures
-    ∙ ap (λ o. committed_at o (c.args.name.now, c.args.index)) (ap (option_map (λ (k : Kept). k.group.state)) c.in-Some.ensures.value
+    ∙ ap (λ o. committed_at o (c.args.name.now, to_z w32 (of_z w32 c.args.index))) (ap (option_map (λ (k : Kept). k.group.state)) c.in-Some.ensures.value
     ∙ sym (get-as_map (λ (k : Kept). k.group.state) c.self.inside.groups.entries c.args.group.now)
     ∙ ap (λ (n : Coordinator). finite.get n.groups c.args.group.now) c.self.view_is)
+    ∙ ap (λ i. committed_at (finite.get c.args.self.now.groups c.args.group.now) (c.args.name.now, i)) index
 
 pub returns-in-None : goal.returns-in-None
 returns-in-None c =
