@@ -137,10 +137,10 @@ def late(t: Trial) -> None:
     t.check(told == "codes [0]", f"a commit 12 s late, at its member's present epoch: {told}")
     t.stand.tell_relay("hold c3 heartbeat 12")
     third = t.start("c3", socket_timeout_ms=4_000)
-    # The late one has come by then. Of 2.8.0 it makes a second member, whose partitions nobody reads until its session is over.
-    time.sleep(LATE + 2)
+    # Of 2.8.0 the late one makes a second member, whose partitions nobody reads until its session is over.
+    t.wait_for(lambda: len({it.connection for it in t.exchanges("c3")}) > 1, 120, "the late join has come, and another one before it")
     t.quiet(BOTH, "a join is late", third.started, limit=150)
-    first = min((it for it in t.exchanges("c3") if it.sent >= third.started + LATE - 1), key=lambda it: it.connection)
+    first = min(t.exchanges("c3"), key=lambda it: it.connection)
     wanted = "code 0" if t.is_old() else "closes"
     t.check(outcome(first) == wanted, f"a join 12 s late, overtaken by another one: {outcome(first)}")
 

@@ -16,7 +16,7 @@ TOP = HERE.parent.parent
 HOST = "127.0.0.1"
 # Below the ports that Linux gives to clients, so that none takes one of them meanwhile. A stand has a block of them.
 PORTS, BLOCK = range(20_000, 32_000), 16
-START_SECONDS = 60
+START_SECONDS = 180
 END_SECONDS = 5
 
 
