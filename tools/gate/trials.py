@@ -13,8 +13,8 @@ from typing import Dict, List, Optional, Set
 
 from gate import cases, commands, crates, functions, wrong
 
-# How long a build with its run may take, in seconds.
-LIMIT = 2400
+# How long a build with its run may take, in seconds: beside `rt ci` it has what proofs leave of the processors.
+LIMIT = 5_400
 
 
 class NotRun(Exception):
