@@ -114,11 +114,11 @@ class Client:
     def send(self, text: str) -> None:
         self.writer.write(framed(data(text)))
 
-    async def body(self) -> Optional[bytes]:
+    async def body(self, seconds: float = SECONDS) -> Optional[bytes]:
         """The next reply's body, or None where the connection is closed."""
         try:
-            size = struct.unpack(">i", await asyncio.wait_for(self.reader.readexactly(4), SECONDS))[0]
-            return await asyncio.wait_for(self.reader.readexactly(size), SECONDS)
+            size = struct.unpack(">i", await asyncio.wait_for(self.reader.readexactly(4), seconds))[0]
+            return await asyncio.wait_for(self.reader.readexactly(size), seconds)
         except (asyncio.IncompleteReadError, ConnectionError):
             return None
 

@@ -26,6 +26,8 @@ PARTITIONS = 50_000
 ENTRIES = 20_000
 # So many heartbeats are answered meanwhile at least. Where nobody gives others a turn it is none, or one that came before.
 BEATS = 4
+# How long a busy machine may take for a long request.
+LONG_SECONDS = 180
 
 
 def cluster_of_many() -> Cluster:
@@ -97,7 +99,7 @@ class Long(unittest.IsolatedAsyncioTestCase):
             long, short = await it.client(), await it.client()
             for name, request in LONG.items():
                 long.writer.write(framed(request))
-                beats[name] = await beats_during(short, long.body())
+                beats[name] = await beats_during(short, long.body(LONG_SECONDS))
         self.assertEqual([name for name, count in beats.items() if count < BEATS], [], beats)
 
     async def test_others_go_on_while_the_page_is_made(self) -> None:
