@@ -52,14 +52,18 @@ class Log:
             low, high = (low, middle) if self.timestamp(middle) >= timestamp else (middle + 1, high)
         return low
 
+    def most_records(self, offset: int) -> int:
+        """How many a batch from this offset on may have."""
+        return max(0, min(self.end_offset() - offset, MOST_RECORDS_OF_A_BATCH))
+
     def batch(self, topic: str, partition: int, offset: int, most_bytes: int) -> bytes:
         """A batch of the records from this offset on: of one at least, or nothing at the end."""
-        there = self.end_offset() - offset
-        if there <= 0:
+        there = self.most_records(offset)
+        if not there:
             return b""
         each = len(self.value(topic, partition, self.end_offset())) + MOST_RECORD_OVERHEAD
         fitting = max(1, (most_bytes - HEADER_SIZE) // each)
-        offsets = range(offset, offset + min(there, fitting, MOST_RECORDS_OF_A_BATCH))
+        offsets = range(offset, offset + min(there, fitting))
         return record_batch(offset, [Record(self.timestamp(at), None, self.value(topic, partition, at)) for at in offsets])
 
     @staticmethod

@@ -12,12 +12,13 @@ from __future__ import annotations
 import asyncio
 import heapq
 import itertools
-import time
 from typing import Iterable, List, Tuple, TypeVar
 
 Item = TypeVar("Item")
-# How long a piece and the pause behind it take, and how long work goes on before it has to take turns. An item takes some microseconds.
-PIECE_SECONDS, PAUSE_SECONDS, FREE_SECONDS = 0.002, 0.001, 0.0002
+# How many entries or records a piece has, each of which takes some ten microseconds, and how many work may have before it has to take turns.
+# (They are counted, since a clock goes on while the machine does other things.) And how long the pause behind a piece is.
+PIECE, FREE = 200, 100
+PAUSE_SECONDS = 0.001
 ITEMS = 16
 # So many pieces are few.
 FEW = 2
@@ -59,16 +60,16 @@ class Pace:
 
     def __init__(self, turns: Turns) -> None:
         self._turns, self._number = turns, next(turns.numbers)
-        self._pieces = 0
-        self._until = time.monotonic() + FREE_SECONDS
+        self._pieces, self._left = 0, FREE
 
-    async def pause(self) -> None:
-        if time.monotonic() < self._until:
+    async def pause(self, entries: int = 1) -> None:
+        """Takes a turn, where that is due for so many entries more."""
+        self._left -= entries
+        if self._left >= 0:
             return
         is_long = self._pieces >= FEW
         await self._turns.wait((is_long, self._number if is_long else next(self._turns.numbers)))
-        self._pieces += 1
-        self._until = time.monotonic() + PIECE_SECONDS
+        self._pieces, self._left = self._pieces + 1, PIECE
 
     async def all(self, items: Iterable[Item]) -> List[Item]:
         """A list of what is made one after the other."""
@@ -76,5 +77,5 @@ class Pace:
         for item in items:
             made.append(item)
             if len(made) % ITEMS == 0:
-                await self.pause()
+                await self.pause(ITEMS)
         return made

@@ -15,6 +15,8 @@ from broker.log import FIRST_OFFSET
 # Whatever the client allows.
 MOST_WAIT_SECONDS = 5.0
 MOST_BYTES = 256 << 10
+# What a record has about, to tell how many are made.
+RECORD_BYTES = 32
 # There are no fetch sessions: every request says all that it wants.
 NO_SESSION = int32(0)
 NO_OFFSET = -1
@@ -97,9 +99,10 @@ async def _topic_reply(call: Call, room: Room) -> bytes:
     name = fields.string()
 
     async def reply() -> bytes:
-        # (A partition has up to 200 records, which take as long as a piece of work may.)
-        await call.request.pace.pause()
-        return _partition_reply(call.cluster, _partition(fields, name, version), room, version)
+        asked = _partition(fields, name, version)
+        fitting = max(0, min(asked.most_bytes, room.left)) // RECORD_BYTES
+        await call.request.pace.pause(1 + min(fitting, call.cluster.log.most_records(asked.offset)))
+        return _partition_reply(call.cluster, asked, room, version)
 
     return string(name) + array(await fields.nested_array(reply))
 
