@@ -27,7 +27,7 @@ use Rattle.group_types.proofs.Lookups.{get-inserted, get-insert_other}
 use Rattle.group_types.proofs.Orders.{partition_cmp_total}
 use Rattle.group_types.proofs.SetLemmas.{has-in_order}
 use Rattle.group_epochs.proofs.Senders.{record_under-get}
-use Rattle.group_core.proofs.Views.{view_for-insert}
+use Rattle.group_types.proofs.ViewsFor.{view_for-insert}
 use Rattle.member_core.specs.Settings.{Settings}
 use Rattle.world_sim.specs.Turn.{Holds, IsLater}
 use Rattle.world_sim.specs.Invariant.{IsOfSettings}

@@ -18,7 +18,7 @@ use Rattle.group_types.proofs.MadeIds.{length-made_id}
 use Rattle.group_types.proofs.Orders.{text_cmp_total, text_cmp-IsAntisymmetric}
 use Rattle.group_epochs.proofs.Senders.{record_under-get}
 use Rattle.group_core.proofs.Single.{get-inserted, insert-insert}
-use Rattle.group_core.proofs.Views.{view_for-insert}
+use Rattle.group_types.proofs.ViewsFor.{view_for-insert}
 use Rattle.world_sim.proofs.FullBeats.{first_none}
 use Rattle.world_sim.proofs.Newcomers.{Newcomer, heartbeat_at, id_of, number_of, record_of, reply_at, set_of, stamp_at}
 use Rattle.world_sim.proofs.TwoNewcomers.{AfterTwo, OneTopic}

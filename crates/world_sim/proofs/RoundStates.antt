@@ -23,7 +23,7 @@ use Rattle.group_types.proofs.Orders.{text_cmp_total, partition_cmp_total, parti
 use Rattle.group_types.proofs.SetLemmas.{common-nothing, has-common, has-minus, has-nothing, has-of_list, has-with_one, is_nothing-Decides, same_set}
 use Rattle.group_types.proofs.SpreadLemmas.{has-share_of, owns-get}
 use Rattle.group_core.proofs.Single.{get-inserted, retain_keys-empty}
-use Rattle.group_core.proofs.Views.{view_for-insert}
+use Rattle.group_types.proofs.ViewsFor.{view_for-insert}
 use Rattle.world_sim.proofs.NewcomerJoin.{grown_view, grown_wants}
 use Rattle.world_sim.proofs.Newcomers.{id_of, kept_of, partition_of, set_of, stamp_at, topic_of}
 use Rattle.world_sim.proofs.QuietBeats.{CanBeat, TARGET, told}
