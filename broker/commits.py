@@ -1,13 +1,15 @@
-"""The messages of OffsetCommit version 9, as far as they are read here."""
+"""The messages of OffsetCommit version 9, as far as they are read and written here."""
 
 from __future__ import annotations
 
 import dataclasses
 from typing import List, NamedTuple
 
-from broker.fields import Reader
-from broker.offsets import Committed
+from broker.fields import NO_TAGS, NULL, Reader, compact_array, compact_string, int16, int32, int64, nullable_string
+from broker.frames import Request
+from broker.offsets import NOTHING, Committed
 from broker.turns import Pace
+from broker.versions import OFFSET_COMMIT, SPOKEN
 
 
 class Partition(NamedTuple):
@@ -63,6 +65,15 @@ def _partition(fields: Reader, topic: str) -> Partition:
     metadata = fields.compact_nullable_string()
     fields.tags()
     return Partition(topic, index, Committed(offset, leader_epoch, metadata or ""))
+
+
+def of_nothing(request: Request, group: str, epoch: int, member: str) -> bytes:
+    """A commit of a partition that no topic has, for a request: nothing is stored, and the code tells whether this member may commit."""
+    header = int16(OFFSET_COMMIT) + int16(SPOKEN[OFFSET_COMMIT].highest) + int32(request.correlation) + nullable_string(request.client) + NO_TAGS
+    partition = int32(-1) + int64(NOTHING.offset) + int32(NOTHING.leader_epoch) + NULL + NO_TAGS
+    topics = compact_array([compact_string("") + compact_array([partition]) + NO_TAGS])
+    no_instance = NULL
+    return header + compact_string(group) + int32(epoch) + compact_string(member) + no_instance + topics + NO_TAGS
 
 
 async def read_reply(body: bytes, pace: Pace) -> List[Result]:

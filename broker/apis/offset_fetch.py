@@ -1,14 +1,20 @@
-"""OffsetFetch (key 9, version 9): what a group has committed. A member begins to read a partition there."""
+"""OffsetFetch (key 9, version 9): what a group has committed. A member begins to read a partition there.
+
+The coordinator judges a member that is named. It has no such API, so it is asked by a commit that stores nothing.
+"""
 
 from __future__ import annotations
 
 from typing import List, NamedTuple, Optional, Sequence
 
-from broker import codes
+from broker import codes, commits
 from broker.call import Call
 from broker.fields import NO_TAGS, Reader, Unreadable, compact_array, compact_nullable_string, compact_string, int16, int32, int64, unsigned_varint
 from broker.frames import Reply
 from broker.offsets import NOTHING, Committed, OfTopic
+
+# What a code of that commit means here, where it isn't the answer itself.
+MEANINGS = {codes.UNKNOWN_TOPIC_OR_PARTITION: codes.NONE, codes.GROUP_ID_NOT_FOUND: codes.UNKNOWN_MEMBER_ID}
 
 
 class AskedTopic(NamedTuple):
@@ -17,9 +23,11 @@ class AskedTopic(NamedTuple):
 
 
 class AskedGroup(NamedTuple):
-    """A group, and of which topics its offsets are asked for: None for all that it has."""
+    """A group, who asks, and of which topics its offsets are asked for: None for all that it has."""
 
     name: str
+    member: Optional[str]
+    epoch: int
     topics: Optional[List[AskedTopic]]
 
 
@@ -36,12 +44,11 @@ async def answer(call: Call) -> Reply:
 
 async def _group(fields: Reader) -> AskedGroup:
     name = fields.compact_string()
-    # (The coordinator alone could judge these two, which librdkafka leaves out.)
-    _member, _member_epoch = fields.compact_nullable_string(), fields.int32()
+    member, epoch = fields.compact_nullable_string(), fields.int32()
     topics = await fields.compact_nullable_array(lambda: _topic(fields))
     _want_apart([topic.name for topic in topics or ()])
     fields.tags()
-    return AskedGroup(name, topics)
+    return AskedGroup(name, member, epoch, topics)
 
 
 def _topic(fields: Reader) -> AskedTopic:
@@ -59,13 +66,26 @@ def _want_apart(keys: Sequence[object]) -> None:
 
 async def _group_reply(call: Call, group: AskedGroup) -> List[bytes]:
     await call.request.pace.pause()
-    if not call.is_coordinator_of(group.name):
-        return [compact_string(group.name) + compact_array([]) + int16(codes.NOT_COORDINATOR) + NO_TAGS]
+    refusal = await _refusal(call, group)
+    if refusal != codes.NONE:
+        return [compact_string(group.name) + compact_array([]) + int16(refusal) + NO_TAGS]
     topics = group.topics
     if topics is None:
         topics = [AskedTopic(topic, sorted(stored.entries)) for topic, stored in sorted(call.cluster.offsets.of_group(group.name).items())]
     pieces = [await _topic_reply(call, group.name, topic) for topic in topics]
     return [compact_string(group.name) + unsigned_varint(len(topics) + 1), *pieces, int16(codes.NONE) + NO_TAGS]
+
+
+async def _refusal(call: Call, group: AskedGroup) -> int:
+    if not call.is_coordinator_of(group.name):
+        return codes.NOT_COORDINATOR
+    # (librdkafka names no member.)
+    if not group.member or group.epoch < 0:
+        return codes.NONE
+    reply = await call.link.ask(commits.of_nothing(call.request, group.name, group.epoch, group.member))
+    results = await commits.read_reply(reply, call.request.pace)
+    code = results[0].code if results else codes.COORDINATOR_NOT_AVAILABLE
+    return MEANINGS.get(code, code)
 
 
 async def _topic_reply(call: Call, group: str, topic: AskedTopic) -> bytes:

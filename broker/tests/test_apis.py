@@ -68,7 +68,7 @@ class Apis(unittest.TestCase):
         asked = [
             "0044 0000 00000007 ffff 00 06 'hello' 01 00000000 00 00 0000ea60 02 07 'orders' 00 01 00",
             "0008 0009 00000008 ffff 00 06 'hello' 00000002 02 'm' 00 02 07 'orders' 02 00000001 0000000000000005 ffffffff 00 00 00 00",
-            "0009 0009 00000005 ffff 00 02 06 'hello' 00 ffffffff 00 00 01 00",
+            "0009 0009 00000005 ffff 00 02 06 'hello' 02 'm' 00000002 00 00 01 00",
         ]
         refused = [
             "00000007 00 00000000 0010 26 'another broker coordinates this group' 00 00000000 00000000 ff 00",

@@ -24,6 +24,21 @@ FETCH = "0001 0004 {:08x} 0001 'c' ffffffff 000000c8 00000001 00100000 00 000000
 ALL_TOPICS = "0003 0009 00000001 0001 'c' 00 00 00 00 00 00"
 COMMIT = "0008 0009 {:08x} 0001 'c' 00 02 'g' 00000001 02 'm' 00 02 07 'orders' 02 00000000 0000000000000009 00000000 02 'x' 00 00 00"
 OFFSETS = "0009 0009 {:08x} 0001 'c' 00 02 02 'g' 00 ffffffff 02 07 'orders' 02 00000000 00 00 01 00"
+# OffsetFetch of group `g`, in which 7 is committed in orders[1], under a member's id and epoch; and the commit that the coordinator is asked by.
+FETCH_OFFSETS = "0009 0009 00000001 0001 'c' 00 02 02 'g' {} 02 07 'orders' 02 00000001 00 00 01 00"
+OF_NOTHING = "0008 0009 00000001 0001 'c' 00 02 'g' 00000002 02 'm' 00 02 01 02 ffffffff ffffffffffffffff ffffffff 00 00 00 00"
+STORED = "00000001 00 00000000 02 02 'g' 02 07 'orders' 02 00000001 0000000000000007 00000000 02 'm' 0000 00 00 0000 00 00"
+# The member; the coordinator's code for it, where it is asked; and the reply.
+FETCHERS = [
+    ("02 'm' 00000002", "0003", STORED),
+    ("02 'm' 00000002", "0019", "00000001 00 00000000 02 02 'g' 01 0019 00 00"),
+    ("02 'm' 00000002", "0071", "00000001 00 00000000 02 02 'g' 01 0071 00 00"),
+    ("02 'm' 00000002", "0045", "00000001 00 00000000 02 02 'g' 01 0019 00 00"),
+    ("00 ffffffff", "", STORED),
+    ("00 00000002", "", STORED),
+    ("01 00000002", "", STORED),
+    ("02 'm' ffffffff", "", STORED),
+]
 # What librdkafka 2.14.2 sent: version 1, with an empty regular expression behind the names; and the same request in version 0.
 JOIN_1 = "0044 0001 00000003 0005 'c-sid' 00 06 'g-sid' 17 '/3dPginAT4eUZTkRfdoe0w' 00000000 00 00 000493e0 02 07 'orders' 01 00 01 00"
 JOIN_0 = "0044 0000 00000003 0005 'c-sid' 00 06 'g-sid' 17 '/3dPginAT4eUZTkRfdoe0w' 00000000 00 00 000493e0 02 07 'orders' 00 01 00"
@@ -76,6 +91,16 @@ class Relay(unittest.IsolatedAsyncioTestCase):
             sent = [(0, data(HEARTBEAT.format(1))), (0, data(COMMIT.format(2)))]
             self.assertEqual(it.coordinator.bodies, sent)
             self.assertEqual(replies, [accept_commits(*body) for body in sent])
+
+    async def test_the_coordinator_judges_a_member_that_fetches_offsets(self) -> None:
+        codes = [code for _, code, _ in FETCHERS if code]
+        left = iter(codes)
+        async with front(lambda _, body: body[4:8] + data(f"00 00000000 02 01 02 ffffffff {next(left)} 00 00 00")) as it:
+            client = await it.client()
+            replies = [await client.ask(FETCH_OFFSETS.format(member)) for member, _, _ in FETCHERS]
+            # (The watch has seen no commit.)
+            found = replies, it.coordinator.bodies, it.lines, it.watch.revision
+        self.assertEqual(found, ([data(reply) for _, _, reply in FETCHERS], [(0, data(OF_NOTHING))] * len(codes), [], 0))
 
     async def test_version_1_goes_on_as_version_0(self) -> None:
         async with front() as it:
