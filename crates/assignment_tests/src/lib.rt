@@ -6,6 +6,8 @@
 #[cfg(test)]
 mod grants;
 #[cfg(test)]
+mod limits;
+#[cfg(test)]
 mod members;
 #[cfg(test)]
 mod owners;
