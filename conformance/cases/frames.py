@@ -248,7 +248,7 @@ def frame_long_names(play: Play) -> None:
 @case(
     "frame-many-subscriptions", GUIDE + ", primitive types", SHOULD,
     "a member that subscribes a topic and 2,000 others that aren't there",
-    "an array may have so many: it is a member, and gets the one topic's partitions",
+    "an array may have 2,001 entries: it is a member, and gets the one topic's partitions",
 )
 def frame_many_subscriptions(play: Play) -> None:
     names = [f"{NO_SUCH_TOPIC}-{number}" for number in range(2_000)]
