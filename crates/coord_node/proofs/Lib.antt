@@ -2,6 +2,7 @@ pub mod LengthLemmas
 pub mod ReplyLemmas
 pub mod RunLemmas
 pub mod GroupLemmas
+pub mod RestoredGroups
 pub mod KeptLemmas
 pub mod ShortIds
 pub mod OneAnswer

@@ -11,3 +11,4 @@ pub mod Events
 pub mod Parsed
 pub mod Existence
 pub mod EachGroup
+pub mod Restored

@@ -8,6 +8,7 @@ use Rattle.std.specs.String.{string_bytes}
 use Rattle.group_types.specs.declared.code.Code.TheVariants.{CoordinatorNotAvailable}
 use Rattle.group_types.specs.Limits.{MOST_GROUPS}
 use Rattle.group_types.specs.Text.{Text}
+use Rattle.group_types.specs.Group.{Group}
 use Rattle.group_types.specs.HeartbeatStep as group
 use Rattle.coord_node.specs.declared.kept.Kept.{Kept}
 use Rattle.coord_node.specs.declared.node.Node.TheInside.{Inside}
@@ -19,9 +20,13 @@ use Rattle.coord_node.specs.Kept.{HasRightNumber, group_in}
 abbrev pub Entries : Type 0
 Entries = List (String Global × Kept)
 
+-- a group's state by the bytes of its name
+abbrev pub entry_in : String Global × Kept → Text × Group
+entry_in e = (string_bytes e.0, group_in e.1)
+
 -- the groups by the bytes of their names
 abbrev pub groups_of : Entries → Groups
-groups_of entries = finite.from_entries (map (λ e. (string_bytes e.0, group_in e.1)) entries)
+groups_of entries = finite.from_entries (map entry_in entries)
 
 abbrev pub node_view : Inside → Coordinator
 node_view n = record { salt = n.salt; groups = groups_of n.groups.entries; image = n.image }

@@ -1,5 +1,5 @@
 //! New groups among those that a node keeps.
-ghost use Rattle.std.specs.Prelude.{◌≡◌, ◌<◌, ◌≤◌, ◌++◌, ◌∷◌, [], true, IfOk, None, OnErr, OnOk, length};
+ghost use Rattle.std.specs.Prelude.{◌≡◌, ◌↔◌, ◌<◌, ◌≤◌, ◌++◌, ◌∷◌, [], false, true, IfOk, IsTrue, None, OnErr, OnOk, length};
 ghost use Rattle.std.specs.FinMap as finite;
 ghost use Rattle.std.specs.String.{string_bytes};
 ghost use Rattle.indexmap.specs.IndexMap.{spare};
@@ -7,12 +7,13 @@ ghost use Rattle.group_types.specs.Limits.{MOST_GROUPS as MOST};
 ghost use Rattle.group_core.specs.Outcome.{answer_of};
 ghost use Rattle.coord_node.specs.Answers.{succeeds as success};
 ghost use Rattle.coord_node.specs.NodeView.{groups_of, IsAdmitted, IsOneMore};
+ghost use Rattle.coord_node.specs.Restored.{CanBeKept, IsGroupId};
 
 use crate::kept::Kept;
 use crate::success::succeeds;
 use group_core::{Outcome, Reply};
 use group_types::Code;
-use group_types::limits::MOST_GROUPS;
+use group_types::limits::{LONGEST_STRING, MOST_GROUPS};
 use indexmap::IndexMap;
 use std::alloc::{AllocError, Global};
 use std::collections::hash_map::RandomState;
@@ -69,6 +70,45 @@ fn admit_success(
         Err(NotKept::Full) => Ok(Outcome::Reply(Reply::refusal(Code::CoordinatorNotAvailable))),
         Err(NotKept::NoMemory) => Err(AllocError),
     }
+}
+
+/// Keeps a group that was restored under its name, and says whether it did: the name is a group id's and no group's, and the node has
+/// room for one more. Where it isn't kept the groups are the same. Fails where memory is short.
+pub(crate) fn restore(
+    alloc: Global,
+    groups: &mut IndexMap<String, Kept, RandomState>,
+    name: &str,
+    kept: Kept,
+) -> Result<bool, AllocError>
+    ensures can { IfOk result (λ yes. IsTrue yes ↔ CanBeKept (groups_of groups.old.entries) name.now) }
+    ensures kept { IfOk result (λ yes. IsTrue yes → IsOneMore groups.old.entries name.now kept groups.new.entries) }
+    ensures refused { IfOk result (λ yes. yes ≡ false → groups.new.entries ≡ groups.old.entries) }
+    ensures few { length groups.old.entries ≤ MOST → length groups.new.entries ≤ MOST }
+    ensures err { OnErr result (groups.new.entries ≡ groups.old.entries) }
+{
+    if !is_free(groups, name) {
+        drop(kept);
+        return Ok(false);
+    }
+    match keep(alloc, groups, name, kept) {
+        Ok(()) => Ok(true),
+        Err(NotKept::Full) => Ok(false),
+        Err(NotKept::NoMemory) => Err(AllocError),
+    }
+}
+
+/// Whether the name is a group id's and no group's.
+fn is_free(groups: &IndexMap<String, Kept, RandomState>, name: &str) -> bool
+    ensures { IsTrue result ↔ (IsGroupId name.now × (finite.get (groups_of groups.now.entries) name.now ≡ None)) }
+{
+    is_group_id(name) && !groups.contains_key(name)
+}
+
+/// Whether a join may name the group so.
+fn is_group_id(name: &str) -> bool
+    ensures { IsTrue result ↔ IsGroupId name.now }
+{
+    !name.is_empty() && name.len() <= LONGEST_STRING
 }
 
 /// Keeps a new group under its name. Where it isn't kept the groups are the same.

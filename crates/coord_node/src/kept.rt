@@ -40,6 +40,14 @@ impl Kept {
         }
     }
 
+    /// A group that was restored, of whose view nothing is known. Takes no memory.
+    pub(crate) fn of(group: Group) -> Kept
+        ensures group { group_in result ≡ group.state }
+        ensures known { result.known ≡ None }
+    {
+        Kept { group, known: None }
+    }
+
     /// One heartbeat, over the node's image and its number. Where it replies there is room for the reply's frame behind the bytes
     /// of `out`, which stay. Where memory is short nothing has changed.
     pub(crate) fn heartbeat(

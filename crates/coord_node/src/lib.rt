@@ -15,6 +15,7 @@ mod kept;
 mod laws;
 mod node;
 mod parsed;
+mod restored;
 mod run;
 mod success;
 mod tick;
@@ -28,3 +29,4 @@ pub use laws::{
 };
 pub use node::Node;
 pub use parsed::ParsedBody;
+pub use restored::NamedGroup;

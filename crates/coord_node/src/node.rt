@@ -1,5 +1,5 @@
 //! The node and its answers.
-ghost use Rattle.std.specs.Prelude.{◌≡◌, ◌↔◌, ◌+◌, ◌-◌, ◌≤◌, IfOk, OnOk, OnErr, IsTrue, None, length, vec_capacity};
+ghost use Rattle.std.specs.Prelude.{◌≡◌, ◌↔◌, ◌+◌, ◌-◌, ◌≤◌, IfOk, OnOk, OnErr, IsTrue, None, length, map, vec_capacity};
 ghost use Rattle.std.specs.Option.{option_copied, option_map};
 ghost use Rattle.std.specs.FinMap as finite;
 ghost use Rattle.kip_msgs.specs.Values.{RequestValue};
@@ -12,12 +12,14 @@ ghost use Rattle.group_core.specs.Outcome.{answer_of};
 ghost use Rattle.coord_node.specs.Coordinator.{opening, Done, Frame, Tick, committed_at, is_remembered_at};
 ghost use Rattle.coord_node.specs.Steps.{HeartbeatAt, Step};
 ghost use Rattle.coord_node.specs.Answers.{Answers, AnswersRequest, AnswersHeartbeat, ClosesAtOnce, CommitsIn, IsCommitted, IsSendable, IsSent};
+ghost use Rattle.coord_node.specs.Restored.{CanBeKept, named_group, with_group_if};
 
 use crate::absent::reply_of_absent;
-use crate::admission::admit;
+use crate::admission::{admit, restore};
 use crate::event::Answered;
 use crate::kept::Kept;
 use crate::parsed::ParsedBody;
+use crate::restored::{NamedGroup, listed};
 use crate::tick::tick_all;
 use crate::{commit_frame, heartbeat_frame};
 use group_core::{Committed, Group, Outcome};
@@ -103,6 +105,45 @@ impl Node {
             Some(number) => number.checked_add(1),
             None => None,
         };
+    }
+
+    /// The salt: the first half of the ids that the groups make.
+    pub fn salt(&self) -> u64
+        ensures { result ≡ self.now.salt }
+    {
+        self.salt
+    }
+
+    /// The image of the topics.
+    pub fn image(&self) -> &Image
+        ensures { result.now ≡ self.now.image }
+    {
+        &self.image
+    }
+
+    /// How many groups the node has.
+    pub fn group_count(&self) -> usize
+        ensures { result ≡ finite.len self.now.groups }
+    {
+        self.groups.len()
+    }
+
+    /// All groups with their names, each once, in the order of their making. Fails where memory is short.
+    pub fn groups(&self) -> Result<Vec<NamedGroup<'_>>, AllocError>
+        ensures groups { IfOk result (λ list. finite.from_entries (map named_group list.items) ≡ self.now.groups) }
+        ensures once { IfOk result (λ list. length list.items ≡ finite.len self.now.groups) }
+    {
+        listed(self.alloc, &self.groups)
+    }
+
+    /// Adds a group that was restored under a name, behind the others, and says whether it did: the name is one that a join may have,
+    /// the node has no group of it, and has room for one more. If not, or where memory is short, nothing changes.
+    pub fn restore_group(&mut self, name: &str, group: Group) -> Result<bool, AllocError>
+        ensures can { IfOk result (λ yes. IsTrue yes ↔ CanBeKept self.old.groups name.now) }
+        ensures kept { IfOk result (λ yes. self.new ≡ with_group_if yes self.old name.now group.state) }
+        ensures err { OnErr result (self.new ≡ self.old) }
+    {
+        restore(self.alloc, &mut self.groups, name, Kept::of(group))
     }
 
     /// The group of a name, where the node has it.

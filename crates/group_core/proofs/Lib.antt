@@ -27,3 +27,6 @@ pub mod Ticking
 pub mod SomeTarget
 pub mod SomeStep
 pub mod Sinces
+pub mod Begun
+pub mod RestoringSteps
+pub mod Finishing

@@ -10,4 +10,5 @@ pub mod Laws
 pub mod Stages
 pub mod Steady
 pub mod Since
+pub mod Restoring
 pub mod Existence

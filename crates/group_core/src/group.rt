@@ -1,5 +1,5 @@
 //! A group and its heartbeats.
-ghost use Rattle.std.specs.Prelude.{◌≡◌, ◌-◌, IfOk, OnErr, true, length, vec_capacity, unwrap_or, option_map};
+ghost use Rattle.std.specs.Prelude.{◌≡◌, ◌-◌, IfOk, OnErr, true, suc, length, vec_capacity, unwrap_or, option_map};
 ghost use Rattle.std.specs.Option.{option_copied};
 ghost use Rattle.std.specs.FinMap as finite;
 ghost use Rattle.group_types.specs.Sets.{nothing};
@@ -16,7 +16,7 @@ use group_reconcile::Grants;
 use group_target::Target;
 use group_types::{Epoch, EpochNumber, Moment, PartSet, Stamp};
 use kip_msgs::{CommitReply, CommitRequest, HeartbeatRequest};
-use offset_guard::Committed;
+use offset_guard::{Committed, Offsets};
 use std::alloc::{AllocError, Global};
 use std::collections::hash_map::RandomState;
 use std::marker::Model;
@@ -57,7 +57,9 @@ impl Group {
     ghost use Rattle.group_epochs.specs.Request.{commit_of};
     ghost use Rattle.group_core.specs.Commits.{Commits};
     ghost use Rattle.group_core.specs.Outcome.{answer_of, IsCurrent, IsResponse};
+    ghost use Rattle.group_core.specs.GroupView.{group_of};
     ghost use Rattle.group_core.specs.Since.{KeepsSinceOr};
+    ghost use Rattle.group_core.specs.Steady.{AreMarked};
     ghost use Rattle.group_reconcile.specs.Offers.{KeepsSince};
 
     /// A new group: epoch 0, and no members. The salt is the first half of the ids that it makes. Takes no memory.
@@ -80,12 +82,65 @@ impl Group {
         }
     }
 
+    /// The group that is stored so. Takes no memory.
+    pub(crate) fn of(state: State) -> Group
+        requires sound { IsSound (group_of state) }
+        requires marks { AreMarked (group_of state) state.records.marks }
+        ensures state { result.state ≡ group_of state }
+        ensures holders { result.holders ≡ state.grants }
+    {
+        Group { state }
+    }
+
     /// The group epoch.
     pub fn epoch(&self) -> EpochNumber
         ensures value { result ≡ self.now.state.epoch }
         ensures sound { IsSound self.now.state }
     {
         self.state.epoch
+    }
+
+    /// The first half of the ids that the group makes.
+    pub fn salt(&self) -> u64
+        ensures { result ≡ self.now.state.salt }
+    {
+        self.state.salt
+    }
+
+    /// The greatest moment that was used.
+    pub fn clock(&self) -> Moment
+        ensures { result ≡ self.now.state.clock }
+    {
+        self.state.clock
+    }
+
+    /// The serial of the last id that was made.
+    pub fn ids_made(&self) -> u64
+        ensures { self.now.state.serial ≡ suc result }
+    {
+        self.state.ids_made
+    }
+
+    /// The view: the topics that the group knows.
+    pub fn view(&self) -> &View
+        ensures { result.now ≡ self.now.state.view }
+    {
+        &self.state.view
+    }
+
+    /// The members' records, and the former members.
+    pub fn records(&self) -> &Records
+        ensures records { result.now.records ≡ self.now.state.records }
+        ensures past { result.now.past ≡ self.now.state.past }
+    {
+        &self.state.records
+    }
+
+    /// What the members have committed.
+    pub fn offsets(&self) -> &Offsets
+        ensures { result.now ≡ self.now.state.offsets }
+    {
+        &self.state.offsets
     }
 
     /// How many members the group has.

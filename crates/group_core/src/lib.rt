@@ -14,6 +14,7 @@ mod carry;
 mod change;
 mod checks;
 mod draft;
+mod fitting;
 mod group;
 mod heartbeat;
 mod judge;
@@ -23,9 +24,11 @@ mod listing;
 mod mark;
 mod naming;
 mod outcome;
+mod owners;
 mod place;
 mod plan;
 mod reported;
+mod restoring;
 mod settle;
 mod shown;
 mod state;
@@ -34,7 +37,7 @@ mod taking;
 mod tick;
 
 pub use group::Group;
-pub use group_epochs::Records;
+pub use group_epochs::{Record, RecordFields, Records};
 pub use group_reconcile::Grants;
 pub use group_target::Target;
 pub use group_types::{Code, Epoch, EpochNumber, MemberId, Moment, PartSet, Partition, Stamp};
@@ -43,7 +46,9 @@ pub use laws::{
     assignors_are_lawful, first_joins_are_answered, heartbeats_have_an_answer,
     heartbeats_have_one_answer, targets_exist, targets_follow_members,
 };
-pub use offset_guard::Committed;
+pub use offset_guard::{Committed, Offsets};
 pub use outcome::{Outcome, Reply};
+pub use range_assign::Share;
+pub use restoring::{GroupNumbers, Restoring};
 pub use shown::Shown;
-pub use topic_meta::Image;
+pub use topic_meta::{Image, View};

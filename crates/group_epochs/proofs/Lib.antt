@@ -14,3 +14,4 @@ pub mod Halves
 pub mod Found
 pub mod Senders
 pub mod Verdicts
+pub mod Restoring

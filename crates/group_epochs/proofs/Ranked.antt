@@ -321,12 +321,11 @@ module _ {Y : Type 0} (rows : List (String Y × Entry)) (places : List ℕ) (ord
 
   -- ---- who is at a rank
 
-  pub nobody_at : (r : ℕ) → length places ≤ r → None ≡ option_map (λ (m : Text × Record). m.0) (member_at (records_in rows) r)
-  nobody_at r past =
-      sym (ap (option_map (λ (m : Text × Record). m.0)) (member_at_is r ∙ ap (λ o. option_map pair (option_and_then (slice_get rows) o)) (nothing_past places r past)))
+  pub no_member_at : (r : ℕ) → length places ≤ r → None ≡ member_at (records_in rows) r
+  no_member_at r past = sym (member_at_is r ∙ ap (λ o. option_map pair (option_and_then (slice_get rows) o)) (nothing_past places r past))
 
-  pub somebody_at : (r p : ℕ) (k : String Y) (e : Entry) → slice_get places r ≡ Some p → slice_get rows p ≡ Some (k, e)
-      → ((m : Text) (e : Entry) → lookup (λ k. bytes_eq m (string_bytes k)) rows ≡ Some e → e.id ≡ m) → Some e.id ≡ option_map (λ (m : Text × Record). m.0) (member_at (records_in rows) r)
-  somebody_at r p k e at is named =
-      ap Some (named (string_bytes k) e (lookup_from_place string_eq_equiv rows p k e distinct is))
-      ∙ sym (ap (option_map (λ (m : Text × Record). m.0)) (member_at_is r ∙ ap (λ o. option_map pair (option_and_then (slice_get rows) o)) at ∙ ap (option_map pair) is))
+  pub is_member_at : (r p : ℕ) (k : String Y) (e : Entry) → slice_get places r ≡ Some p → slice_get rows p ≡ Some (k, e)
+      → ((m : Text) (e : Entry) → lookup (λ k. bytes_eq m (string_bytes k)) rows ≡ Some e → e.id ≡ m) → Some (e.id, e.kept) ≡ member_at (records_in rows) r
+  is_member_at r p k e at is named =
+      ap (λ m. Some (m, e.kept)) (named (string_bytes k) e (lookup_from_place string_eq_equiv rows p k e distinct is))
+      ∙ sym (member_at_is r ∙ ap (λ o. option_map pair (option_and_then (slice_get rows) o)) at ∙ ap (option_map pair) is)

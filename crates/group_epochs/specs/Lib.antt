@@ -10,3 +10,4 @@ pub mod Counts
 pub mod Whole
 pub mod Checks
 pub mod Drafts
+pub mod Restored

@@ -1,6 +1,6 @@
 //! The ids of former members.
 
-ghost use Rattle.std.specs.Prelude.{◌≡◌, ◌+◌, ◌≤◌, ◌==◌, [], length, map, position, None, IsOk, OnOk};
+ghost use Rattle.std.specs.Prelude.{◌≡◌, ◌+◌, ◌≤◌, ◌==◌, [], length, map, option_map, position, slice_get, None, IsOk, OnOk};
 ghost use Rattle.std.specs.List.{list_any};
 ghost use Rattle.std.specs.Ordering.{eq_by_cmp};
 ghost use Rattle.std.specs.Str.{bytes_eq};
@@ -63,6 +63,16 @@ impl Past {
         ensures apart { AreApart self.now.past }
     {
         self.entries.len()
+    }
+
+    /// The id at a place, from the oldest on, and its last stamp; none past the last. Takes no memory.
+    pub fn at(&self, place: usize) -> Option<(&MemberId, Stamp)>
+        ensures { option_map (λ found. (found.0.now, found.1)) result ≡ slice_get self.now.past place }
+    {
+        match self.entries.get(place) {
+            Some((id, stamp)) => Some((id, *stamp)),
+            None => None,
+        }
     }
 
     /// The last stamp of a former member, or none where the id isn't remembered. Takes no memory.

@@ -15,6 +15,7 @@ ghost use Rattle.range_assign.specs.Members.{subscriber_of};
 ghost use Rattle.group_epochs.specs.Records.{beaten};
 ghost use Rattle.group_epochs.specs.Seen.{is_instance};
 ghost use Rattle.group_epochs.specs.Deadlines.{first_deadline};
+ghost use Rattle.group_epochs.specs.Restored.{record_with};
 
 use crate::deadlines::earlier;
 use crate::{given, sets};
@@ -41,6 +42,27 @@ pub struct Record {
     sent: Option<PartSet>,
     session_deadline: Moment,
     release_deadline: Option<Moment>,
+}
+
+/// What a record is made of.
+#[derive(Drop)]
+pub struct RecordFields {
+    /// The instance id of a static member.
+    pub instance: Option<String>,
+    pub rack: Option<String>,
+    /// The topics that the member subscribes.
+    pub names: NameSet,
+    pub assignor: Option<AssignorName>,
+    /// In milliseconds.
+    pub rebalance_timeout: u32,
+    pub epoch: Epoch,
+    pub previous_epoch: EpochNumber,
+    /// The stamp of the last heartbeat that was accepted.
+    pub stamp: Stamp,
+    /// The set that the member was last sent.
+    pub sent: Option<PartSet>,
+    pub session_deadline: Moment,
+    pub release_deadline: Option<Moment>,
 }
 
 impl Model for Record {
@@ -89,11 +111,50 @@ impl Record {
         self.updated(alloc, request, instance, sent, stamp, now)
     }
 
+    /// The record with these fields. Takes no memory.
+    pub fn of(fields: RecordFields) -> Record
+        ensures { result ≡ record_with fields }
+    {
+        let RecordFields {
+            instance,
+            rack,
+            names,
+            assignor,
+            rebalance_timeout,
+            epoch,
+            previous_epoch,
+            stamp,
+            sent,
+            session_deadline,
+            release_deadline,
+        } = fields;
+        Record {
+            instance,
+            rack,
+            names,
+            assignor,
+            rebalance_timeout,
+            epoch,
+            previous_epoch,
+            stamp,
+            sent,
+            session_deadline,
+            release_deadline,
+        }
+    }
+
     /// The instance id of a static member, or none.
     pub fn instance(&self) -> Option<&str>
         ensures { option_copied result ≡ self.now.instance }
     {
         given::text_in(&self.instance)
+    }
+
+    /// The rack of the member's client, or none.
+    pub fn rack(&self) -> Option<&str>
+        ensures { option_copied result ≡ self.now.rack }
+    {
+        given::text_in(&self.rack)
     }
 
     /// The topics that the member subscribes.
@@ -108,6 +169,13 @@ impl Record {
         ensures { result ≡ self.now.assignor }
     {
         self.assignor
+    }
+
+    /// How long a rebalance waits for the member, in milliseconds.
+    pub fn rebalance_timeout(&self) -> u32
+        ensures { result ≡ self.now.rebalance_timeout }
+    {
+        self.rebalance_timeout
     }
 
     /// The member epoch, or that the member is away.
@@ -129,6 +197,27 @@ impl Record {
         ensures { result ≡ self.now.stamp }
     {
         self.stamp
+    }
+
+    /// The set that the member was last sent, or none.
+    pub fn sent(&self) -> Option<&PartSet>
+        ensures { option_copied result ≡ self.now.sent }
+    {
+        self.sent.as_ref()
+    }
+
+    /// When the member's session ends.
+    pub fn session_deadline(&self) -> Moment
+        ensures { result ≡ self.now.session_deadline }
+    {
+        self.session_deadline
+    }
+
+    /// By when the member is to give up what isn't its target any more, or none.
+    pub fn release_deadline(&self) -> Option<Moment>
+        ensures { result ≡ self.now.release_deadline }
+    {
+        self.release_deadline
     }
 
     /// Whether a release deadline is set: the member is yet to give up what isn't its target any more.

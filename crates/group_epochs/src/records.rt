@@ -1,6 +1,6 @@
 //! The records of a group's members.
 
-ghost use Rattle.std.specs.Prelude.{◌≡◌, ◌↔◌, ◌≢◌, ◌<◌, ◌≤◌, [], false, IsTrue, IsSome, IfOk, OnOk, MatchOption, Some, None};
+ghost use Rattle.std.specs.Prelude.{◌≡◌, ◌↔◌, ◌≢◌, ◌<◌, ◌≤◌, ◌++◌, ◌∷◌, [], false, length, slice_get, IsTrue, IsSome, IfOk, OnErr, OnOk, MatchOption, Some, None};
 ghost use Rattle.std.specs.Option.{option_copied, option_map};
 ghost use Rattle.group_types.specs.Tick.{NoneIsDue};
 ghost use Rattle.group_epochs.specs.Table.{IsFirstRank, member_at};
@@ -9,6 +9,7 @@ ghost use Rattle.group_types.specs.Sets.{size};
 ghost use Rattle.group_types.specs.Text.{Text};
 ghost use Rattle.group_types.specs.Fencing.{stamp_kept};
 ghost use Rattle.group_types.specs.Group.{Record as Kept};
+ghost use Rattle.group_types.specs.Limits.{MOST_PAST_MEMBERS};
 ghost use Rattle.group_types.specs.Members.{HasInstance, is_remembered, past_stamp, taken_over, with_record, without_record};
 ghost use Rattle.group_types.specs.Leave.{away};
 ghost use Rattle.group_types.specs.Renewal.{AreMembers, view_for};
@@ -459,11 +460,49 @@ impl Records {
     pub fn id_at(&self, rank: usize) -> Option<&MemberId>
         ensures { option_copied result ≡ option_map (λ m. m.0) (member_at self.now.records rank) }
     {
+        let (id, _) = self.member_at(rank)?;
+        Some(id)
+    }
+
+    /// The member at a rank, in the order of the members' ids, and its record; none past the last. Takes no memory, and no walk over
+    /// the members.
+    pub fn member_at(&self, rank: usize) -> Option<(&MemberId, &Record)>
+        ensures { option_map (λ found. (found.0.now, found.1.now)) result ≡ member_at self.now.records rank }
+    {
         let place = self.by_id.get(rank)?;
         match self.members.get_index(*place) {
-            Some((_, entry)) => Some(&entry.id),
+            Some((_, entry)) => Some((&entry.id, &entry.kept)),
             None => None,
         }
+    }
+
+    /// How many former members are remembered. Takes no memory.
+    pub fn past_len(&self) -> usize
+        ensures { result ≡ length self.now.past }
+    {
+        self.past.len()
+    }
+
+    /// A former member that is remembered and its last stamp, by its place from the oldest on; none past the last. Takes no memory.
+    pub fn past_at(&self, place: usize) -> Option<(&MemberId, Stamp)>
+        ensures { option_map (λ found. (found.0.now, found.1)) result ≡ slice_get self.now.past place }
+    {
+        self.past.at(place)
+    }
+
+    /// Remembers one former member more, behind the others. Where memory is short, nothing changes but the room.
+    pub(crate) fn remember(&mut self, id: MemberId, stamp: Stamp) -> Result<(), AllocError>
+        requires new { is_remembered (members_in self.old) id ≡ false }
+        requires few { length self.old.past < MOST_PAST_MEMBERS }
+        ensures past { OnOk result (self.new.past ≡ self.old.past ++ (id, stamp) ∷ []) }
+        ensures err { OnErr result (self.new.past ≡ self.old.past) }
+        ensures records { self.new.records ≡ self.old.records }
+        ensures marks { self.new.marks ≡ self.old.marks }
+    {
+        self.past
+            .make_room(self.members.len() + self.past.len() + 1)?;
+        self.past.remember(id, stamp);
+        Ok(())
     }
 
     /// Makes room for one member more with these names. The members stay as they are, also where memory is short.

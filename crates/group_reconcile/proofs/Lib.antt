@@ -13,3 +13,4 @@ pub mod Settles
 pub mod Shown
 pub mod Stays
 pub mod Emptied
+pub mod Restored

@@ -1,5 +1,5 @@
 -- KIP-848, "Current Assignment": who holds which partition, as a map from partitions to their holders and as pairs.
-use Rattle.std.specs.Prelude.{◌≡◌, ℕ, Bool, true, false, [], map, Option, Some, None, if◌then◌else◌, refl}
+use Rattle.std.specs.Prelude.{◌≡◌, ℕ, ℤ, pos, negsuc, Bool, true, false, ◌&&◌, [], map, Option, Some, None, is_none, if◌then◌else◌, refl}
 use Rattle.std.specs.Coded.{Coded, code_by, coded×, coded_ℕ, coded_list}
 use Rattle.std.specs.Option.{option_map, option_map_or}
 use Rattle.std.specs.Ordering.{eq_by_cmp}
@@ -66,3 +66,16 @@ other_holder m (Some d) = if eq_by_cmp text_cmp m d.member then None else Some d
 -- the new holders are the old ones but for the member, which holds nothing
 abbrev pub LetsGo : Holders → Text → Holders → Type 0
 LetsGo h m n = (p : Partition) → finite.get n p ≡ other_holder m (finite.get h p)
+
+-- whether an index isn't below 0
+abbrev pub is_from_zero : ℤ → Bool
+is_from_zero (pos n) = true
+is_from_zero (negsuc n) = false
+
+-- whether the partition is free and may be held: no topic has an index below 0
+abbrev pub is_grantable : Holders → Partition → Bool
+is_grantable h p = is_from_zero p.index && is_none (finite.get h p)
+
+-- the holders with one more grant, where the partition may be granted
+abbrev pub with_grant : Holders → Partition → Held → Holders
+with_grant h p d = if is_grantable h p then finite.insert h p d else h

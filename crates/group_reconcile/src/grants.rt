@@ -1,14 +1,15 @@
 //! Who may read which partition.
 
-ghost use Rattle.std.specs.Prelude.{◌≡◌, IfOk, IsTrue, OnErr, OnOk, is_none, unwrap_or};
+ghost use Rattle.std.specs.Prelude.{◌≡◌, IfOk, IsTrue, None, OnErr, OnOk, is_none, unwrap_or};
 ghost use Rattle.std.specs.Option.{option_copied, option_map};
 ghost use Rattle.std.specs.FinMap as finite;
 ghost use Rattle.group_types.specs.Sets.{common, in_order, nothing};
 ghost use Rattle.group_types.specs.Group.{held};
 ghost use Rattle.group_types.specs.Settle.{granting, grants_after, grants_of_others, may_settle};
-ghost use Rattle.group_reconcile.specs.Holders.{Settles, granted_at, holds, pairs};
+ghost use Rattle.group_reconcile.specs.Holders.{Settles, granted_at, holds, is_grantable, pairs, with_grant};
 ghost use Rattle.group_reconcile.specs.Offers.{IsSince, KeepsSince, handed_over, verdict_of};
 
+use crate::cell::Cell;
 use crate::members::Members;
 use crate::settle::{clear_each, make_room_for, may_move, next_of, settle};
 use crate::table::Table;
@@ -195,6 +196,55 @@ impl Grants {
         let mut set = target.copy_set(self.alloc)?;
         set.retain_common(held);
         Ok(set)
+    }
+
+    /// Grants a free partition to the member since an epoch, and says whether it did: not where somebody may read it, and not
+    /// where its index is below 0, which no topic has. So grants that were read out are built again. Where memory is short,
+    /// nothing has changed. The time is that of a search for the member, where its partitions come rising.
+    pub fn restore(
+        &mut self,
+        member: &MemberId,
+        p: &Partition,
+        since: EpochNumber,
+    ) -> Result<bool, AllocError>
+        ensures granted { IfOk result (λ granted. granted ≡ is_grantable self.old p.now) }
+        ensures holders { OnOk result (self.new ≡ with_grant self.old p.now (record { member = member.now; since = since })) }
+        ensures err { OnErr result (self.new ≡ self.old) }
+    {
+        if !self.is_grantable(p) {
+            return Ok(false);
+        }
+        self.grant(member, p, since)?;
+        Ok(true)
+    }
+
+    /// Whether the partition is free and may be held.
+    fn is_grantable(&self, p: &Partition) -> bool
+        ensures { result ≡ is_grantable self.now p.now }
+    {
+        p.index >= 0 && self.free(p)
+    }
+
+    /// Grants a free partition to the member. Where memory is short, nothing has changed.
+    fn grant(
+        &mut self,
+        member: &MemberId,
+        p: &Partition,
+        since: EpochNumber,
+    ) -> Result<(), AllocError>
+        requires { finite.get self.old p.now ≡ None }
+        ensures holders { OnOk result (self.new ≡ finite.insert self.old p.now (record { member = member.now; since = since })) }
+        ensures err { OnErr result (self.new ≡ self.old) }
+    {
+        self.table.make_room(self.alloc, p)?;
+        let number = self.members.number_for(self.alloc, member)?;
+        self.members.add_part(number, *p)?;
+        let cell = Cell {
+            holder: number,
+            since,
+        };
+        self.table.put(p, cell);
+        Ok(())
     }
 
     /// Takes all that the member with this id may read from it. Takes no memory, and no walk over the other members.

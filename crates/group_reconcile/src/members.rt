@@ -1,14 +1,15 @@
 //! The members that were offered a target, by their numbers.
 
-ghost use Rattle.std.specs.Prelude.{ℕ, ◌≡◌, ◌<◌, IfOk, IsSome, IsTrue, None};
+ghost use Rattle.std.specs.Prelude.{ℕ, ◌≡◌, ◌<◌, IfOk, IsSome, IsTrue, None, OnErr, OnOk};
 ghost use Rattle.std.specs.Option.{option_copied, option_map};
 ghost use Rattle.std.specs.List.Sorted.{IsStrictlySortedBy};
 ghost use Rattle.std.specs.VecDeque.{deque_capacity, deque_len};
 ghost use Rattle.slab.specs.Slab.{HasRoomFor, get};
+ghost use Rattle.group_types.specs.Sets.{with_one};
 ghost use Rattle.group_types.specs.Text.{text_cmp};
-ghost use Rattle.group_reconcile.specs.Members.{Changes, IsIdOrder, IsIdOrderBut, IsNumberOf, IsPlace, KeepsMembers, KeepsParts, RenamesMember, SetsParts, TakesMember, by_id, id_of, with_id};
+ghost use Rattle.group_reconcile.specs.Members.{Changes, IsIdOrder, IsIdOrderBut, IsNumberOf, IsPlace, KeepsMembers, KeepsParts, RenamesMember, SetsParts, TakesMember, by_id, id_of, parts_of, with_id};
 
-use group_types::{MemberId, PartSet};
+use group_types::{MemberId, PartSet, Partition};
 use slab::Slab;
 use std::alloc::{AllocError, Global};
 use std::cmp::Ordering;
@@ -141,6 +142,17 @@ impl Members {
         if let Some(member) = self.members.get_mut(number) {
             member.parts = parts;
         }
+    }
+
+    /// Adds a partition to those that the member with this number holds. Where memory is short, no member has changed.
+    pub fn add_part(&mut self, number: usize, p: Partition) -> Result<(), AllocError>
+        ensures added { OnOk result (SetsParts self.old self.new number (with_one (parts_of self.old number) p)) }
+        ensures err { OnErr result ((k : ℕ) → get self.new k ≡ get self.old k) }
+    {
+        if let Some(member) = self.members.get_mut(number) {
+            member.parts.insert(p)?;
+        }
+        Ok(())
     }
 }
 

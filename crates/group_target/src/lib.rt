@@ -7,6 +7,6 @@
 mod target;
 
 pub use group_types::{AssignorName, EpochNumber, MemberId, PartSet, Wanted};
-pub use range_assign::{Subs, Subscriber};
+pub use range_assign::{Share, Subs, Subscriber};
 pub use target::Target;
 pub use topic_meta::View;

@@ -1,14 +1,15 @@
 //! Who is to own which partition, and since which epoch.
 
-ghost use Rattle.std.specs.Prelude.{◌≡◌, IfOk, Some};
+ghost use Rattle.std.specs.Prelude.{◌≡◌, IfOk, MatchOption, Some};
 ghost use Rattle.std.specs.FinMap as finite;
 ghost use Rattle.group_types.specs.declared.partition.Partition.{Partition as Key};
 ghost use Rattle.group_types.specs.Assignors.{assignor_of};
 ghost use Rattle.group_types.specs.Owners.{IsLawful, renamed, share_of, without_owner};
 ghost use Rattle.group_types.specs.Renewal.{AreOwners};
+ghost use Rattle.range_assign.specs.Shares.{AreShares, shares_in, spread_of};
 
 use group_types::{AssignorName, EpochNumber, MemberId, Wanted};
-use range_assign::{Assignor, Range, Spread, Subs};
+use range_assign::{Assignor, Range, Share, Spread, Subs};
 use std::alloc::{AllocError, Global};
 use std::marker::Model;
 use topic_meta::View;
@@ -41,6 +42,22 @@ impl Target {
         Target {
             spread: Spread::empty(alloc),
             epoch,
+        }
+    }
+
+    /// The target of this epoch in which each member is to own the partitions of its share, or none where two shares have one
+    /// id or one partition. So a target that was read out is built again. Fails where memory is short.
+    pub fn of_shares(
+        alloc: Global,
+        shares: Vec<Share>,
+        epoch: EpochNumber,
+    ) -> Result<Option<Target>, AllocError>
+        ensures { IfOk result (λ target. MatchOption target (¬ AreShares (shares_in shares.items))
+            (λ t. AreShares (shares_in shares.items) × (t.owners ≡ spread_of (shares_in shares.items)) × (t.epoch ≡ epoch))) }
+    {
+        match Spread::try_of(alloc, shares)? {
+            Some(spread) => Ok(Some(Target { spread, epoch })),
+            None => Ok(None),
         }
     }
 

@@ -11,3 +11,5 @@ mod groups;
 mod nodes;
 #[cfg(test)]
 mod offsets;
+#[cfg(test)]
+mod restored;

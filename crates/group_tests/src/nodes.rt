@@ -6,6 +6,7 @@
 //! try. Of offsets a group shows nothing; they are looked at where they are kept, in the table of offsets.
 
 use crate::groups::{image_of, tell_group, tell_member};
+use crate::restored::rebuilt;
 use coord_node::{Moment, Node, NodeEvent, Stamp};
 use std::alloc::{AllocError, Global};
 use std::collections::VecDeque;
@@ -345,6 +346,43 @@ fn node_over(alloc: Global, hasher: RandomState) -> Result<Node, AllocError> {
     let mut node = Node::new(alloc, 0, hasher);
     node.set_image(image_of(alloc, 2)?);
     Ok(node)
+}
+
+#[test]
+fn a_node_that_is_built_anew_answers_alike(rt: HostRuntime) -> Result<(), Fail> {
+    let alloc = rt.alloc();
+    let hasher = RandomState::new(&rt)?;
+    let wrong = wrong_rebuilt(alloc, hasher).or_else(|_| wrong_rebuilt(alloc, hasher))?;
+    assert_eq!(rt; wrong.as_str(), "");
+    Ok(())
+}
+
+/// The steps that are answered otherwise where the node is built anew of what is read of it before each of them.
+fn wrong_rebuilt(alloc: Global, hasher: RandomState) -> Result<String, AllocError> {
+    let mut wrong = String::new(alloc);
+    for steps in [SHARED, TAKEN_OVER] {
+        take_rebuilt(alloc, hasher, steps, &mut wrong)?;
+    }
+    Ok(wrong)
+}
+
+fn take_rebuilt(
+    alloc: Global,
+    hasher: RandomState,
+    steps: &[Step],
+    wrong: &mut String,
+) -> Result<(), AllocError> {
+    let mut node = node_over(alloc, hasher)?;
+    let mut ends: &[u64] = &[];
+    for step in steps {
+        let Some(new) = rebuilt(alloc, hasher, &node)? else {
+            return wrong.push_str("refused\n");
+        };
+        node = new;
+        is_taken(alloc, &mut node, step, Refused::SendAgain, wrong)?;
+        ends = step.ends;
+    }
+    pass_time(&mut node, ends, wrong)
 }
 
 #[test]

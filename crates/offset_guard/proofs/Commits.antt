@@ -14,21 +14,13 @@ use Rattle.group_types.specs.Group.{Offsets, place_cmp}
 use Rattle.group_types.specs.Commit.{Commit, Commitment, is_stored, named_commitments, with_offset, with_offsets, offsets_after}
 use Rattle.group_epochs.specs.Request.{commitment_of}
 use Rattle.offset_guard.specs.Requests.{topic_of}
-use Rattle.offset_guard.proofs.Places.{place_cmp_total, place_cmp-IsAntisymmetric}
+use Rattle.group_types.proofs.OffsetLemmas.{or_assoc, place_cmp_total, place_cmp-IsAntisymmetric, with_offsets-append}
 
 abbrev pub partition_commitments : Text → List CommitRequestPartition → List (Text × Commitment)
 partition_commitments name ps = map (λ x. (name, x)) (map commitment_of (map commit_request_partition_value ps))
 
 abbrev pub topic_commitments : List CommitRequestTopic → List (Text × Commitment)
 topic_commitments ts = flat_map named_commitments (map topic_of (map commit_request_topic_value ts))
-
-pub with_offsets-append : (image : Topics) (offsets : Offsets) (xs ys : List (Text × Commitment)) → with_offsets image offsets (xs ++ ys) ≡ with_offsets image (with_offsets image offsets xs) ys
-with_offsets-append image offsets [] ys = refl
-with_offsets-append image offsets (x ∷ xs) ys = with_offsets-append image (with_offset (is_stored image x.0 x.1) offsets x.0 x.1) xs ys
-
-or_assoc : {A : Type 0} (a b c : Option A) → option_or a (option_or b c) ≡ option_or (option_or a b) c
-or_assoc None b c = refl
-or_assoc (Some x) b c = refl
 
 get-with_offset : (stored : Bool) (offsets : Offsets) (name : Text) (x : Commitment) (place : Text × ℤ)
     → finite.get (with_offset stored offsets name x) place ≡ option_or (finite.get (with_offset stored finite.empty name x) place) (finite.get offsets place)

@@ -5,3 +5,5 @@ pub mod Rooms
 pub mod News
 pub mod Commits
 pub mod Answers
+pub mod InOrder
+pub mod Listings

@@ -1,33 +1,16 @@
 -- The offsets of all topics, by a topic's name and an index.
 use Rattle.std.proofs.Common.{◌≡◌, ℤ, Bool, true, false, cond, not, ◌&&◌, List, [], ◌∷◌, Option, Some, None, refl, sym, ap, ◌∙◌, String, Global}
-use Rattle.std.specs.Cmp.{IsTotalOrder, eq_by_cmp_equiv, int_cmp_total, on_total, then_total}
 use Rattle.std.specs.FinMap as finite
-use Rattle.std.specs.FinMap.{IsAntisymmetric, int_cmp-IsAntisymmetric}
 use Rattle.std.specs.Map.{lookup}
 use Rattle.std.specs.Option.{option_or}
 use Rattle.std.specs.Ordering.{eq_by_cmp, int_cmp}
 use Rattle.std.specs.Str.{bytes_eq}
 use Rattle.std.specs.String.{string_bytes}
-use Rattle.std.proofs.lemmas.Map.Lookups.{exact_pairs}
 use Rattle.std.proofs.lemmas.Map.Text.{is_eq-slice_cmp}
 use Rattle.group_types.specs.Text.{Text, text_cmp}
 use Rattle.group_types.specs.Group.{Committed, Offsets, place_cmp}
-use Rattle.group_types.proofs.GrantLemmas.{both_equal}
-use Rattle.group_types.proofs.Orders.{text_cmp_total, text_cmp-IsAntisymmetric}
+use Rattle.group_types.proofs.OffsetLemmas.{place_cmp_total, place_cmp-IsAntisymmetric, eq-place}
 use Rattle.offset_guard.specs.Topics.{TopicState, offset_in, with_topic, offsets_in}
-
-pub place_cmp_total : IsTotalOrder place_cmp
-place_cmp_total = then_total (on_total (λ p. p.0) text_cmp_total) (on_total (λ p. p.1) int_cmp_total)
-
-pub place_cmp-IsAntisymmetric : IsAntisymmetric place_cmp
-place_cmp-IsAntisymmetric p q tie = exact_pairs text_cmp int_cmp text_cmp-IsAntisymmetric int_cmp-IsAntisymmetric p q tie
-
--- two places are one where the names and the indexes are
-pub eq-place : (p q : Text × ℤ) → eq_by_cmp place_cmp p q ≡ (eq_by_cmp text_cmp p.0 q.0 && eq_by_cmp int_cmp p.1 q.1)
-eq-place p q = both_equal (text_cmp p.0 q.0) (int_cmp p.1 q.1)
-
-pub eq-name : (name other : Text) → eq_by_cmp text_cmp other name ≡ bytes_eq name other
-eq-name name other = (eq_by_cmp_equiv text_cmp_total).symm other name ∙ is_eq-slice_cmp name other
 
 one_more : {A : Type 0} (a b : Bool) (x : A) (o p : Option A) → cond (a && b) (Some x) (cond a (option_or o p) p) ≡ cond a (option_or (cond b (Some x) o) p) p
 one_more true true x o p = refl

@@ -14,7 +14,8 @@ use Rattle.indexmap.specs.IndexMap.{get_by_text}
 use Rattle.group_types.specs.Text.{Text}
 use Rattle.group_types.specs.Group.{Committed, place_cmp}
 use Rattle.offset_guard.specs.Topics.{IndexOffsets, TopicState, TopicTable, offset_in, offset_at, offsets_in, KeepsOffsets}
-use Rattle.offset_guard.proofs.Places.{offset_in-cond, eq-place, eq-name, get-offsets_in, place_cmp_total, place_cmp-IsAntisymmetric}
+use Rattle.group_types.proofs.OffsetLemmas.{eq-place, eq-name, place_cmp_total, place_cmp-IsAntisymmetric}
+use Rattle.offset_guard.proofs.Places.{offset_in-cond, get-offsets_in}
 
 -- the new table has the topic's entry, and the other entries of the old one
 abbrev pub SetsTopic : TopicTable → TopicTable → Text → TopicState → Type 0

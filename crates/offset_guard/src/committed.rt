@@ -1,6 +1,6 @@
 //! What is committed for one partition.
 
-ghost use Rattle.std.specs.Prelude.{◌≡◌, IfOk};
+ghost use Rattle.std.specs.Prelude.{◌≡◌, IfOk, option_map, string_bytes};
 ghost use Rattle.std.specs.Option.{option_copied};
 ghost use Rattle.kip_msgs.specs.Views.{commit_request_partition_value};
 ghost use Rattle.group_epochs.specs.Request.{commitment_of};
@@ -31,6 +31,17 @@ impl Model for Committed {
 }
 
 impl Committed {
+    /// What is committed with this offset, leader epoch and metadata. Takes no memory.
+    pub fn new(offset: i64, leader_epoch: i32, metadata: Option<String>) -> Committed
+        ensures { result ≡ record { offset = offset; leader_epoch = leader_epoch; metadata = option_map string_bytes metadata } }
+    {
+        Committed {
+            offset,
+            leader_epoch,
+            metadata,
+        }
+    }
+
     /// What a request commits for a partition. Fails where memory is short.
     pub(crate) fn of(
         alloc: Global,

@@ -7,6 +7,7 @@
 
 mod checks;
 mod committed;
+mod listing;
 mod offsets;
 mod reply;
 mod store;
@@ -15,5 +16,6 @@ mod topic_offsets;
 pub use committed::Committed;
 pub use group_epochs::Records;
 pub use kip_msgs::{CommitReply, CommitRequest};
+pub use listing::CommittedAt;
 pub use offsets::Offsets;
 pub use topic_meta::Image;

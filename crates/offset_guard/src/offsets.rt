@@ -1,6 +1,6 @@
 //! The offsets of a group.
 
-ghost use Rattle.std.specs.Prelude.{ℤ, ◌≡◌, IfOk, OnErr, OnOk};
+ghost use Rattle.std.specs.Prelude.{ℤ, ◌≡◌, map, IfOk, OnErr, OnOk};
 ghost use Rattle.std.specs.Option.{option_copied, option_or};
 ghost use Rattle.std.specs.List.{flat_map};
 ghost use Rattle.std.specs.FinMap as finite;
@@ -10,9 +10,11 @@ ghost use Rattle.group_types.specs.Commit.{commit_reply, named_commitments, offs
 ghost use Rattle.group_epochs.specs.Request.{commit_of, commitment_of};
 ghost use Rattle.offset_guard.specs.Requests.{topic_of};
 ghost use Rattle.offset_guard.specs.Replies.{commit_reply_value};
+ghost use Rattle.offset_guard.specs.Listing.{entry_of};
 
 use crate::checks::{code_of_taken, partitions_of, refusal_of};
 use crate::committed::Committed;
+use crate::listing::{CommittedAt, add_topic, topics_in_order};
 use crate::reply::reply_to;
 use crate::store::{Topics, append, make_room, put};
 use group_epochs::Records;
@@ -122,8 +124,19 @@ impl Offsets {
         Committed::of(self.alloc, partition)
     }
 
-    /// Stores what is committed for an index of a topic. Fails where memory is short.
-    fn put(&mut self, name: &str, index: i32, committed: Committed) -> Result<(), AllocError>
+    /// All that is committed, in the order of the topics' names by their bytes, and of the indexes. Fails where memory is short.
+    pub fn in_order(&self) -> Result<Vec<CommittedAt<'_>>, AllocError>
+        ensures { IfOk result (λ list. map entry_of list.items ≡ finite.entries self.now) }
+    {
+        let mut list = Vec::new(self.alloc);
+        for (name, offsets) in topics_in_order(self.alloc, &self.topics)? {
+            add_topic(self.alloc, &mut list, name, offsets)?;
+        }
+        Ok(list)
+    }
+
+    /// Stores what is committed for an index of a topic. Where memory is short, the offsets are of no further use.
+    pub fn put(&mut self, name: &str, index: i32, committed: Committed) -> Result<(), AllocError>
         ensures { OnOk result (self.new ≡ finite.insert self.old (name.now, index) committed) }
     {
         put(

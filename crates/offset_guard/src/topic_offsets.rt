@@ -1,8 +1,9 @@
 //! The offsets of one topic.
 
-ghost use Rattle.std.specs.Prelude.{ℤ, ◌≡◌, ◌≤◌, OnOk};
+ghost use Rattle.std.specs.Prelude.{ℤ, ◌≡◌, ◌≤◌, map, IfOk, OnOk};
 ghost use Rattle.std.specs.Option.{option_copied, option_or};
 ghost use Rattle.std.specs.FinMap as finite;
+ghost use Rattle.offset_guard.specs.Listing.{indexed};
 
 use crate::committed::Committed;
 use indexmap::IndexMap;
@@ -43,6 +44,18 @@ impl TopicOffsets {
         ensures { option_copied result ≡ finite.get self.now.offsets index }
     {
         self.offsets.get(&index)
+    }
+
+    /// What was committed for each index, in the order of the indexes. Fails where memory is short.
+    pub fn in_order(&self, alloc: Global) -> Result<Vec<(i32, &Committed)>, AllocError>
+        ensures { IfOk result (λ list. map indexed list.items ≡ finite.entries self.now.offsets) }
+    {
+        let mut list = Vec::with_capacity(alloc, self.len())?;
+        for (index, committed) in self.offsets.iter() {
+            list.push((*index, committed))?;
+        }
+        list.sort_unstable_by_key(|entry| entry.0);
+        Ok(list)
     }
 
     /// How many offsets there are.

@@ -2,14 +2,16 @@
 use Rattle.std.proofs.Common.{◌≡◌, ◌≢◌, ℕ, zero, suc, ◌<◌, ◌≤◌, ◌+◌, ◌-◌, None, slice_get, false, List, [], ◌∷◌, map, length, get_or, refl, sym, ap, subst, ◌∙◌, arith, Result, Ok, Err, Some, true≢false, inl, inr}
 use Rattle.std.specs.FinMap as finite
 use Rattle.std.specs.declared.cmp.Ordering.TheVariants.{Less, Equal, Greater}
-use Rattle.std.specs.Cmp.{tied_itself}
+use Rattle.std.specs.Cmp.{IsTotalOrder, on_total, tied_itself}
 use Rattle.std.specs.List.{AllPairs, Contains, HoldsAt}
 use Rattle.std.specs.List.Sorted.{IsBinarySearchResult, IsSearchInRange, IsSortedBy}
-use Rattle.std.specs.Ordering.{is_lt, ordering_reverse}
+use Rattle.std.specs.Ordering.{is_lt, on, ordering_reverse}
 use Rattle.std.proofs.lemmas.Bool.{cases_lt}
 use Rattle.std.proofs.lemmas.List.{get_or_default, get_or-map}
 use Rattle.std.proofs.lemmas.List.Sorted.{ranks_by, searchable_from_sorted, sorted_far}
+use Rattle.std.proofs.lemmas.Map.Keys.{Less-from_sorted}
 use Rattle.std.proofs.lemmas.Option.{slice_get_within, get_or_from_slice_get}
+use Rattle.group_types.proofs.RisingLists.{RisesTo, sorted-RisesTo}
 use Rattle.group_types.proofs.Lookups.{not_none}
 use Rattle.std.proofs.Math.ListN.{length-map}
 use Rattle.group_types.specs.Text.{Text, text_cmp}
@@ -49,6 +51,22 @@ IdsRise-sorted shares apart sorted = λ i j d rise in_j.
 pub AreInIdOrder-sorted : (shares : List (Text × Partitions)) → AreShares shares → IsSortedBy (λ s t. is_lt (text_cmp s.0 t.0)) shares → AreInIdOrder shares
 AreInIdOrder-sorted shares are sorted = record { rise = IdsRise-sorted shares are.ids_apart sorted; sets_apart = are.sets_apart }
 
+-- ---- after a walk
+
+by_id_total : IsTotalOrder (on (λ (s : Share). s.id) text_cmp)
+by_id_total = on_total (λ (s : Share). s.id) text_cmp_total
+
+-- shares whose ids rise from each to the next
+pub IdsRise-walked : (xs : List Share) (n : ℕ) → length xs ≤ n → RisesTo (on (λ (s : Share). s.id) text_cmp) xs n → IdsRise (shares_in xs)
+IdsRise-walked [] n all rises = λ i j d before within. absurd (omega arith)
+IdsRise-walked (x ∷ xs) n all rises = λ i j d before within.
+    let ys : List Share = x ∷ xs in
+    let long = length-map ys share_in in
+    let shown : (k : ℕ) → k < length ys → get_or (shares_in ys) k d ≡ share_in (get_or ys k x) =
+    λ k below. get_or_default (shares_in ys) k d (share_in x) (omega arith) ∙ get_or-map share_in ys k x (share_in x) below in
+    (λ k. text_cmp (shown i (omega arith) k).0 (shown j (omega arith) k).0)
+    ∙ Less-from_sorted (on (λ (s : Share). s.id) text_cmp) ys i j x (sorted-RisesTo by_id_total ys n all rises) before (omega arith)
+
 -- ---- after a search
 
 at-map : {A B : Type 0} (f : A → B) (P : B → Type 0) (xs : List A) (i : ℕ) → i < length xs → HoldsAt (λ x. P (f x)) xs i → HoldsAt P (map f xs) i
@@ -81,7 +99,7 @@ IsPlace-searched xs id (Err i) rise bound found =
 
 -- ---- between two neighbours
 
-rises-far : (xs : List Share) → IdsRise (shares_in xs) → (i j : ℕ) (d : Share) → i < j → j < length xs → text_cmp (get_or xs i d).id (get_or xs j d).id ≡ Less
+pub rises-far : (xs : List Share) → IdsRise (shares_in xs) → (i j : ℕ) (d : Share) → i < j → j < length xs → text_cmp (get_or xs i d).id (get_or xs j d).id ≡ Less
 rises-far xs rise i j d before within =
     let long = length-map xs share_in in
     ap (λ s. text_cmp s.0 (get_or xs j d).id) (sym (get_or-map share_in xs i d (share_in d) (omega arith)))

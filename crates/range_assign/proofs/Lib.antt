@@ -8,3 +8,4 @@ pub mod Marked
 pub mod Dealt
 pub mod Lawful
 pub mod Changes
+pub mod PartsApart

@@ -27,6 +27,11 @@ abbrev pub owned_in : List (Text × Partitions) → List (Partition × Text)
 owned_in [] = []
 owned_in (s ∷ ss) = map (λ p. (p, s.0)) (in_order s.1) ++ owned_in ss
 
+-- the partitions of a list of shares, share by share
+abbrev pub partitions_in : List (Text × Partitions) → List Partition
+partitions_in [] = []
+partitions_in (s ∷ ss) = in_order s.1 ++ partitions_in ss
+
 -- KIP-848, "Target Assignment": the members own the partitions of their shares, and nobody owns any other
 abbrev pub spread_of : List (Text × Partitions) → Spread
 spread_of shares = finite.from_entries (owned_in shares)
@@ -35,6 +40,10 @@ spread_of shares = finite.from_entries (owned_in shares)
 pub record AreShares (shares : List (Text × Partitions)) : Type 0 where
   pub ids_apart : AllPairs (λ s t. s.0 ≢ t.0) shares
   pub sets_apart : AllPairs (λ s t. common s.1 t.1 ≡ nothing) shares
+
+-- no two shares have one partition
+abbrev pub SetsAreApart : List (Text × Partitions) → Type 0
+SetsAreApart = AllPairs (λ s t. common s.1 t.1 ≡ nothing)
 
 -- each share's id is before those of the shares after it
 abbrev pub IdsRise : List (Text × Partitions) → Type 0

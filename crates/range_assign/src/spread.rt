@@ -1,15 +1,16 @@
 //! Who owns which partition.
 
-ghost use Rattle.std.specs.Prelude.{◌≡◌, ◌<◌, ◌∷◌, Err, IfOk, IfSome, IsPermutation, MatchOption, Some, false, vec_capacity, vec_len};
+ghost use Rattle.std.specs.Prelude.{◌≡◌, ◌<◌, ◌∷◌, ◌++◌, ◌↔◌, Err, IfOk, IfSome, IsPermutation, IsTrue, MatchOption, OnOk, Some, false, vec_capacity, vec_len};
 ghost use Rattle.std.specs.Bool.{OnTrue};
 ghost use Rattle.std.specs.Ordering.{is_lt};
 ghost use Rattle.std.specs.FinMap as finite;
 ghost use Rattle.group_types.specs.declared.partition.Partition.{Partition as Key};
 ghost use Rattle.group_types.specs.Owners.{IsShare, renamed, without_owner};
+ghost use Rattle.group_types.specs.Sets.{in_order};
 ghost use Rattle.group_types.specs.Text.{Text, text_cmp};
-ghost use Rattle.range_assign.specs.Shares.{AreInIdOrder, AreShares, HasNoShare, IdsRise, IsPlace, TakesShare, share_in, shares_in, spread_of};
+ghost use Rattle.range_assign.specs.Shares.{AreInIdOrder, AreShares, HasNoShare, IdsRise, IsPlace, SetsAreApart, TakesShare, partitions_in, share_in, shares_in, spread_of};
 
-use group_types::{MemberId, PartSet};
+use group_types::{MemberId, PartSet, Partition};
 use std::alloc::{AllocError, Global};
 use std::marker::Model;
 
@@ -71,6 +72,24 @@ impl Spread {
         let mut shares = shares;
         shares.sort_unstable_by(|a, b| a.id.compare(b.id.as_str()));
         Spread { shares }
+    }
+
+    /// The spread of these shares, or none where two of them have one id or one partition. Fails where memory is short. The time
+    /// grows as n log n with the shares and with the partitions.
+    pub fn try_of(alloc: Global, shares: Vec<Share>) -> Result<Option<Spread>, AllocError>
+        ensures { IfOk result (λ spread. MatchOption spread (¬ AreShares (shares_in shares.items))
+            (λ s. AreShares (shares_in shares.items) × (s ≡ spread_of (shares_in shares.items)))) }
+    {
+        let mut shares = shares;
+        shares.sort_unstable_by(|a, b| a.id.compare(b.id.as_str()));
+        if !ids_rise(&shares) {
+            return Ok(None);
+        }
+        let apart = sets_are_apart(alloc, &shares)?;
+        if !apart {
+            return Ok(None);
+        }
+        Ok(Some(Spread { shares }))
     }
 
     /// The members' shares, in the order of their ids.
@@ -142,6 +161,48 @@ impl Spread {
             put_share(&mut self.shares, Share { id: new, set });
         }
     }
+}
+
+/// Whether each share's id is before that of the next.
+fn ids_rise(shares: &[Share]) -> bool
+    ensures { IsTrue result ↔ IdsRise (shares_in shares.now) }
+{
+    for at in 1..shares.len() {
+        if !shares[at - 1].id.compare(shares[at].id.as_str()).is_lt() {
+            return false;
+        }
+    }
+    true
+}
+
+/// Whether no two shares have one partition: as a set, the partitions of all are as many as in a list.
+fn sets_are_apart(alloc: Global, shares: &[Share]) -> Result<bool, AllocError>
+    ensures { IfOk result (λ apart. IsTrue apart ↔ SetsAreApart (shares_in shares.now)) }
+{
+    let all = partitions_of(alloc, shares)?;
+    let count = all.as_slice().len();
+    Ok(PartSet::of_vec(all).len() == count)
+}
+
+/// The partitions of all shares, share by share.
+fn partitions_of(alloc: Global, shares: &[Share]) -> Result<Vec<Partition>, AllocError>
+    ensures { IfOk result (λ all. all.items ≡ partitions_in (shares_in shares.now)) }
+{
+    let mut all = Vec::new(alloc);
+    for share in shares {
+        add_each(&mut all, &share.set)?;
+    }
+    Ok(all)
+}
+
+/// Adds the partitions of a set, in their order.
+fn add_each(all: &mut Vec<Partition>, set: &PartSet) -> Result<(), AllocError>
+    ensures { OnOk result (all.new.items ≡ all.old.items ++ in_order set.now) }
+{
+    for p in set.iter() {
+        all.push(*p)?;
+    }
+    Ok(())
 }
 
 /// Gives back the room of the shares where none is left. Takes no memory.

@@ -124,3 +124,16 @@ found-IsView image names are = record {
 pub found-end : (image : Topics) (so_far : List (Text × Topic)) (names : Names) (rest : List Text) → rest ≡ []
     → so_far ++ found image rest ≡ found image (in_order names) → so_far ≡ found image (in_order names)
 found-end image so_far names rest none h = sym (append-nil so_far) ∙ ap (λ ns. so_far ++ found image ns) (sym none) ∙ h
+
+-- ---- a view of all that an image has
+
+pub shown-entries : (topics : Topics) → shown (entries topics) ≡ topics
+shown-entries topics =
+    finite.same_map text_cmp_total text_cmp-IsAntisymmetric _ _
+    (λ q. finite.get-from_sorted text_cmp (entries topics) q (finite.entries_sorted topics) ∙ sym (finite.get-entries topics q))
+
+pub IsView-entries : (topics : Topics) → AreImageTopics topics → IsView (entries topics)
+IsView-entries topics are = record {
+  rising = true_from_T _ (finite.entries_sorted topics);
+  sound = subst AreImageTopics (sym (shown-entries topics)) are;
+}

@@ -3,9 +3,11 @@
 ghost use Rattle.std.specs.Prelude.{◌≡◌, ◌⊎◌, ◌≤◌, ◌↔◌, length, map, option_map, pos, string_bytes, String, Some, None, IfOk, IfErr, IsTrue, true};
 ghost use Rattle.std.specs.declared.alloc.Global.{Global as Heap};
 ghost use Rattle.std.specs.FinMap as finite;
-ghost use Rattle.std.specs.Map.Iter.{ShowsInOrder, deref};
+ghost use Rattle.std.specs.Map.Iter.{ShowsInOrder, deref, deref_pair};
 ghost use Rattle.group_types.specs.Topics.{view_of};
 ghost use Rattle.topic_meta.specs.Images.{topics_of, entries_of, first_fault, is_too_many, partitions_in};
+ghost use Rattle.topic_meta.specs.Stored.{shown_entries};
+ghost use Rattle.topic_meta.specs.declared.topic.StoredTopic.{StoredTopic as Stored};
 ghost use Rattle.group_types.specs.Images.{AreImageTopics};
 ghost use Rattle.topic_meta.specs.declared.image_fault.ImageFault.TheVariants.{NoMemory};
 
@@ -18,7 +20,7 @@ use group_types::NameSet;
 use group_types::limits::{MOST_PARTITIONS, MOST_TOPICS};
 use std::alloc::{AllocError, Global};
 use std::collections::BTreeMap;
-use std::collections::btree_map::Keys;
+use std::collections::btree_map::{Iter, Keys};
 use std::marker::Model;
 use uuid::Uuid;
 
@@ -94,6 +96,30 @@ impl Image {
             }
         }
         Ok(View::in_order(topics))
+    }
+
+    /// The view of all topics of the image, as a group knows them whose members subscribe each of them. Fails where memory is
+    /// short.
+    pub fn whole_view(&self, alloc: Global) -> Result<View, AllocError>
+        ensures { IfOk result (λ view. view ≡ self.now) }
+    {
+        let mut topics = Vec::with_capacity(alloc, self.len())?;
+        for (name, topic) in self.topics() {
+            topics.push(ViewTopic {
+                name: name.clone()?,
+                id: topic.id,
+                count: topic.count,
+            })?;
+        }
+        Ok(View::in_order(topics))
+    }
+
+    /// The topics with their names, in the order of the names' bytes. Takes no memory.
+    pub fn topics(&self) -> Iter<'_, String, StoredTopic>
+        ensures rest { shown_entries result ≡ finite.entries self.now }
+        ensures runs { ShowsInOrder (deref_pair {K = String Heap} {X = Stored}) }
+    {
+        self.topics.iter()
     }
 
     /// The names of the topics, rising. Takes no memory.

@@ -2,8 +2,9 @@ use Rattle.std.proofs.Common.{arith, ◌∷◌, ◌+◌, drop, sym, ap, ◌∙�
 use Rattle.std.proofs.lemmas.List.{at_drop_more}
 use Rattle.kip_msgs.specs.Views.{commit_request_topic_value}
 use Rattle.group_types.specs.Commit.{named_commitments, with_offsets}
+use Rattle.group_types.proofs.OffsetLemmas.{with_offsets-append}
 use Rattle.offset_guard.specs.Requests.{topic_of}
-use Rattle.offset_guard.proofs.Commits.{topic_commitments, with_offsets-append}
+use Rattle.offset_guard.proofs.Commits.{topic_commitments}
 use Rattle.offset_guard.proofs.offsets.Offsets.news_of.Goals as goal
 
 pub loop-topic-preserved : goal.loop-topic-preserved

@@ -1,0 +1,39 @@
+//! The groups of a node as they are read out.
+ghost use Rattle.std.specs.Prelude.{◌≡◌, IfOk, length, map};
+ghost use Rattle.std.specs.FinMap as finite;
+ghost use Rattle.coord_node.specs.NodeView.{groups_of};
+ghost use Rattle.coord_node.specs.Restored.{named_group};
+
+use crate::kept::Kept;
+use group_core::Group;
+use indexmap::IndexMap;
+use std::alloc::{AllocError, Global};
+use std::collections::hash_map::RandomState;
+
+/// A group and its name.
+#[derive(Clone, Copy)]
+pub struct NamedGroup<'a> {
+    pub name: &'a str,
+    pub group: &'a Group,
+}
+
+/// The groups with their names, in their order. Fails where memory is short.
+pub(crate) fn listed(
+    alloc: Global,
+    groups: &IndexMap<String, Kept, RandomState>,
+) -> Result<Vec<NamedGroup<'_>>, AllocError>
+    ensures groups { IfOk result (λ list. finite.from_entries (map named_group list.items) ≡ groups_of groups.now.entries) }
+    ensures once { IfOk result (λ list. length list.items ≡ finite.len (groups_of groups.now.entries)) }
+{
+    let mut list = Vec::new(alloc);
+    for place in 0..groups.len() {
+        let Some((name, kept)) = groups.get_index(place) else {
+            unreachable!()
+        };
+        list.push(NamedGroup {
+            name: name.as_str(),
+            group: &kept.group,
+        })?;
+    }
+    Ok(list)
+}
