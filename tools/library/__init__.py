@@ -1,7 +1,6 @@
 """Checks of the C library.
 
     checks    what is checked, and how it is run
-    reply.c   answers the lines of `coord reply` through the library, also with allocations refused
+    reply.c   answers the lines of `coord reply` through the library, also with allocations refused, and times heartbeats
     edges.c   short bodies, short buffers, empty slots, faults of topics
-    beats.c   times heartbeats
 """

@@ -10,10 +10,8 @@ from typing import Iterator, List, Optional, Sequence, Tuple
 
 from clients import conversation, replay
 from gate import commands
+from gate.checks import TOP, Check, Failed
 
-Check = Tuple[str, str]
-# Before the reason why a check was not run.
-NOT_RUN = "\0"
 AT_ONCE = 4
 SECONDS, BUILD_SECONDS = 300, 1_500
 SCRIPTS, REFUSED_SCRIPTS, WATCHED_SCRIPTS = 2_000, 100, 4
@@ -25,21 +23,16 @@ COMPILE = ("cc", "-std=c11", "-O2", "-Wall", "-Wextra", "-Werror")
 class Library:
     """The library, and the programs over it."""
 
-    def __init__(self, top: pathlib.Path, folder: pathlib.Path, archive: pathlib.Path) -> None:
-        self.top, self.folder, self.archive = top, folder, archive
-        self.shared = archive.with_suffix(".so")
+    def __init__(self, folder: pathlib.Path, archive: pathlib.Path) -> None:
+        self.folder, self.archive = folder, archive
 
     def compiled(self, source: str, *words: str) -> pathlib.Path:
         """The program of a source."""
         made = self.folder / pathlib.Path(source).stem
-        ran = run([*COMPILE, "-I", str(self.top / "include"), "-o", str(made), str(self.top / source), str(self.archive), *words])
+        ran = run([*COMPILE, "-I", str(TOP / "include"), "-o", str(made), str(TOP / source), str(self.archive), *words])
         if ran:
             raise Failed(ran)
         return made
-
-
-class Failed(Exception):
-    """Why a check can't go on."""
 
 
 def run(words: Sequence[str], folder: Optional[pathlib.Path] = None, given: bytes = b"", limit: float = SECONDS) -> str:
@@ -48,17 +41,16 @@ def run(words: Sequence[str], folder: Optional[pathlib.Path] = None, given: byte
     return "\n".join([*ran.lines()[-20:], f"{words[0]} ended with status {ran.status}"]) if ran.status else ""
 
 
-def all_checks(top: pathlib.Path, folder: pathlib.Path, archive: Optional[pathlib.Path]) -> Iterator[Check]:
+def all_checks(folder: pathlib.Path, given: Optional[str]) -> Iterator[Check]:
     if shutil.which("cc") is None:
-        yield "the C library", f"{NOT_RUN}there is no cc"
+        yield "the C library", f"{commands.NOT_RUN}there is no cc"
         return
-    if archive is None:
-        why = run([str(top / "tools/build-library"), str(folder)], limit=BUILD_SECONDS)
+    if given is None:
+        why = run([str(TOP / "tools/build-library"), str(folder)], limit=BUILD_SECONDS)
         yield "tools/build-library", why
         if why:
             return
-        archive = folder / "libmigwelun.a"
-    library = Library(top, folder, archive)
+    library = Library(folder, pathlib.Path(given or folder / "libmigwelun.a"))
     for some in (of_c, of_examples):
         try:
             yield from some(library)
@@ -73,19 +65,19 @@ def of_c(library: Library) -> Iterator[Check]:
     edges = library.compiled("tools/library/edges.c")
     reply = library.compiled("tools/library/reply.c", "-Wl,--wrap=malloc,--wrap=realloc")
     yield "edges", run([str(edges)])
-    yield from conversations(library.top, [str(reply)])
-    yield from cases(library.top, reply)
-    yield from random_scripts(library.top, [str(reply)], SCRIPTS)
+    yield from conversations([str(reply)])
+    yield from cases(reply)
+    yield from random_scripts([str(reply)], SCRIPTS)
     refusing = library.folder / "refusing"
     refusing.write_text(f'#!/bin/sh\nexec "{reply}" --refuse 2>/dev/null\n')
     refusing.chmod(0o755)
-    yield "allocations are refused", refusals(library.top, reply)
-    yield from random_scripts(library.top, [str(refusing)], REFUSED_SCRIPTS)
+    yield "allocations are refused", refusals(reply)
+    yield from random_scripts([str(refusing)], REFUSED_SCRIPTS)
     yield from watched(library, edges, reply)
 
 
-def conversations(top: pathlib.Path, command: List[str]) -> Iterator[Check]:
-    for path in sorted((top / "cases/conversations").glob("*.txt")):
+def conversations(command: List[str]) -> Iterator[Check]:
+    for path in sorted((TOP / "cases/conversations").glob("*.txt")):
         try:
             replay.play_coordinator(conversation.read(path), command)
             yield path.stem, ""
@@ -93,28 +85,28 @@ def conversations(top: pathlib.Path, command: List[str]) -> Iterator[Check]:
             yield path.stem, str(why)
 
 
-def cases(top: pathlib.Path, reply: pathlib.Path) -> Iterator[Check]:
+def cases(reply: pathlib.Path) -> Iterator[Check]:
     """The cases of `coord reply` whose lines can all be read."""
-    for path in sorted((top / "cases/reply").glob("*.in")):
+    for path in sorted((TOP / "cases/reply").glob("*.in")):
         if not path.with_suffix(".err").is_file():
             ran = commands.run([str(reply)], given=path.read_bytes(), limit=SECONDS)
             is_same = ran.status == 0 and ran.output == path.with_suffix(".out").read_bytes()
             yield f"cases/reply/{path.name}", "" if is_same else f"status {ran.status}, and the output differs"
 
 
-def random_scripts(top: pathlib.Path, command: List[str], count: int) -> Iterator[Check]:
+def random_scripts(command: List[str], count: int) -> Iterator[Check]:
     """Random scripts, in as many parts as there are processors for, each from a seed of its own."""
-    part = [str(top / "tools/reply-lines"), "check", "--scripts", str(count // AT_ONCE), "--seed"]
+    part = [str(TOP / "tools/reply-lines"), "check", "--scripts", str(count // AT_ONCE), "--seed"]
     with concurrent.futures.ThreadPoolExecutor(AT_ONCE) as pool:
         tried = pool.map(lambda seed: run([*part, str(seed), *command]), range(1, AT_ONCE + 1))
     for number, why in enumerate(tried, 1):
         yield f"{count // AT_ONCE} scripts of seed {number} through {os.path.basename(command[0])}", why
 
 
-def refusals(top: pathlib.Path, reply: pathlib.Path) -> str:
+def refusals(reply: pathlib.Path) -> str:
     """A rebalance in which allocations were refused."""
-    ran = commands.run([str(reply), "--refuse"], given=(top / "examples/reply/rebalance.txt").read_bytes(), merged=False)
-    wanted = (top / "examples/reply/rebalance.out").read_bytes()
+    ran = commands.run([str(reply), "--refuse"], given=(TOP / "examples/reply/rebalance.txt").read_bytes(), merged=False)
+    wanted = (TOP / "examples/reply/rebalance.out").read_bytes()
     if ran.status or ran.output != wanted:
         return f"status {ran.status}, and the output differs: {ran.errors.decode()}"
     return "" if int(ran.errors.split()[0]) > 0 else "no allocation was refused"
@@ -123,14 +115,14 @@ def refusals(top: pathlib.Path, reply: pathlib.Path) -> str:
 def watched(library: Library, edges: pathlib.Path, reply: pathlib.Path) -> Iterator[Check]:
     """The same under valgrind: no bad access, and all memory is freed."""
     if shutil.which(WATCH[0]) is None:
-        yield "no leak and no bad access", f"{NOT_RUN}there is no valgrind"
+        yield "no leak and no bad access", f"{commands.NOT_RUN}there is no valgrind"
         return
     yield "edges under valgrind", run([*WATCH, str(edges)])
     script = library.folder / "watched"
     script.write_text(f'#!/bin/sh\nexec {" ".join(WATCH)} "{reply}"\n')
     script.chmod(0o755)
-    yield from random_scripts(library.top, [str(script)], WATCHED_SCRIPTS)
-    lines = (library.top / "examples/reply/rebalance.txt").read_bytes()
+    yield from random_scripts([str(script)], WATCHED_SCRIPTS)
+    lines = (TOP / "examples/reply/rebalance.txt").read_bytes()
     yield "refusals under valgrind", run([*WATCH, str(reply), "--refuse"], given=lines)
 
 
@@ -138,27 +130,29 @@ def watched(library: Library, edges: pathlib.Path, reply: pathlib.Path) -> Itera
 
 
 def of_examples(library: Library) -> Iterator[Check]:
-    embed = library.top / "examples/embed"
-    yield "examples/embed/broker.c", serves(library.top, library.compiled("examples/embed/broker.c", "-D_GNU_SOURCE"))
+    embed = TOP / "examples/embed"
+    yield "examples/embed/broker.c", serves(library.compiled("examples/embed/broker.c", "-D_GNU_SOURCE"))
     python = [sys.executable, "-B", "-m", "unittest"]
-    os.environ["MIGWELUN_LIBRARY"] = os.environ["BROKER_TEST_LIBRARY"] = str(library.shared)
+    os.environ["MIGWELUN_LIBRARY"] = os.environ["BROKER_TEST_LIBRARY"] = str(library.archive.with_suffix(".so"))
+    os.environ["MIGWELUN_JOURNAL"] = str(library.compiled("examples/embed/journal.c", "-D_GNU_SOURCE"))
+    yield "examples/embed/journal.c, killed", run([*python, "test_journal"], embed / "python")
     yield "examples/embed/python", run([*python, "test_migwelun"], embed / "python")
-    yield "broker --embedded", run([*python, "broker.tests.test_program.Program.test_two_members_of_another_hand_embedded"], library.top)
+    yield "broker --embedded", run([*python, "broker.tests.test_program.Program.test_two_members_of_another_hand_embedded"], TOP)
     if shutil.which("cargo") is None:
-        yield "examples/embed/rust", f"{NOT_RUN}there is no cargo"
+        yield "examples/embed/rust", f"{commands.NOT_RUN}there is no cargo"
         return
     os.environ["MIGWELUN_LIBRARY"], os.environ["CARGO_TARGET_DIR"] = str(library.archive.parent), str(library.folder / "target")
     shutil.copytree(embed / "rust", library.folder / "rust", ignore=shutil.ignore_patterns("target"))
     yield "examples/embed/rust", run(["cargo", "test", "--offline"], library.folder / "rust")
 
 
-def serves(top: pathlib.Path, program: pathlib.Path) -> str:
+def serves(program: pathlib.Path) -> str:
     """The server takes the two members of examples/client.py through a rebalance."""
     process = subprocess.Popen([program, "0", TOPIC], stdout=subprocess.PIPE, text=True)
     try:
         assert process.stdout is not None
         port = process.stdout.readline().split()[1]
-        ran = commands.run([sys.executable, str(top / "examples/client.py"), f"127.0.0.1:{port}"], limit=SECONDS)
+        ran = commands.run([sys.executable, str(TOP / "examples/client.py"), f"127.0.0.1:{port}"], limit=SECONDS)
     finally:
         process.kill()
         process.wait()

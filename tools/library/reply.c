@@ -1,5 +1,5 @@
 /*
- * usage: reply [--refuse]
+ * usage: reply [--refuse | --time COUNT]
  *
  * Answers the lines of `coord reply` through the C library, and prints what `coord reply` prints. A line that it can't read ends it with
  * status 2; whatever the library refuses, with 1.
@@ -9,21 +9,30 @@
  * With --refuse each call is made with its first allocation refused, then with its second, and so on until it finds enough memory. A refused
  * call must say so and leave no reply; that it has changed nothing else shows in what is printed. It is linked with
  * -Wl,--wrap=malloc,--wrap=realloc, and says on standard error how many allocations were refused.
+ *
+ * With --time it prints nothing of the lines, whose last COUNT requests are heartbeats in which nothing is new, as those of
+ * `tools/reply-lines steady`. It makes these again, and prints the nanoseconds of one with the take of its reply, and what two calls cost
+ * beside the coordinator's own work: a body of one byte, which closes before anything is looked at, and a take where nothing waits. Each
+ * is the fastest of five runs.
  */
 #define _GNU_SOURCE
 #include <inttypes.h>
 #include <stdio.h>
 #include <stdlib.h>
 #include <string.h>
+#include <time.h>
 #include "migwelun.h"
 
-enum { SIZE = 4, UUID = 16, FIRST_ROOM = 8, NEVER = -1 };
+enum { SIZE = 4, UUID = 16, FIRST_ROOM = 8, NEVER = -1, RUNS = 5 };
 
 static migwelun_slot slot;
 static uint64_t now, requests, connection, frame;
 static int has_stamp;
 static uint8_t *replies;
 static size_t room = FIRST_ROOM;
+/* What is timed: how many requests, and these, one behind the other, with their lengths. */
+static size_t timed, at_timed;
+static struct { uint8_t *bytes; size_t length; } *beats;
 
 static void fail(int status, const char *why) {
     fprintf(stderr, "reply: %s\n", why);
@@ -170,9 +179,43 @@ static void request(char *line) {
     size_t size = take();
     if (code != MIGWELUN_DONE && code != MIGWELUN_CLOSES) fail(1, "a request is refused");
     if ((code == MIGWELUN_CLOSES) != (size == 0)) fail(1, "the reply isn't there, or there is one too many");
+    if (timed) {
+        free(beats[at_timed].bytes);
+        beats[at_timed].bytes = it, beats[at_timed].length = length;
+        at_timed = (at_timed + 1) % timed;
+        return;
+    }
     for (size_t at = 0; at < size; at++) printf("%02x", replies[at]);
     puts(code == MIGWELUN_CLOSES ? "close" : "");
     free(it);
+}
+
+static void take_any(size_t at) {
+    size_t size;
+    (void)at;
+    if (migwelun_take(&slot, replies, room, &size)) fail(1, "nothing can be taken");
+}
+
+static void beat(size_t at) {
+    if (migwelun_answer(&slot, beats[at].bytes + SIZE, beats[at].length - SIZE, 1, ++requests, now)) fail(1, "a request isn't answered");
+    take_any(at);
+}
+
+static void close_one(size_t at) {
+    if (migwelun_answer(&slot, beats[at].bytes, 1, 1, requests, now) != MIGWELUN_CLOSES) fail(1, "a byte is answered");
+}
+
+static double fastest(void (*call)(size_t at)) {
+    double least = 1e18;
+    for (int run = 0; run < RUNS; run++) {
+        struct timespec from, to;
+        clock_gettime(CLOCK_MONOTONIC, &from);
+        for (size_t at = 0; at < timed; at++) call(at);
+        clock_gettime(CLOCK_MONOTONIC, &to);
+        double taken = ((double)(to.tv_sec - from.tv_sec) * 1e9 + (double)(to.tv_nsec - from.tv_nsec)) / (double)timed;
+        least = taken < least ? taken : least;
+    }
+    return least;
 }
 
 static void act(char *line) {
@@ -191,8 +234,10 @@ int main(int count, char **words) {
     size_t size = 0;
     int32_t code;
     refuses = count == 2 && !strcmp(words[1], "--refuse");
-    if (count > 1 + refuses) fail(2, "usage: reply [--refuse]");
+    timed = count == 3 && !strcmp(words[1], "--time") ? number(words[2]) : 0;
+    if (count > 1 && !refuses && !timed) fail(2, "usage: reply [--refuse | --time COUNT]");
     replies = malloc(room);
+    beats = calloc(timed + 1, sizeof *beats);
     begin();
     do code = migwelun_make(&slot, 0, keys); while (again(code));
     if (code) fail(1, "no coordinator was made");
@@ -200,8 +245,14 @@ int main(int count, char **words) {
         if (line[length - 1] == '\n') line[length - 1] = 0;
         act(line);
     }
+    if (timed) {
+        printf("heartbeat and take %.0f ns", fastest(beat));
+        printf(", closing %.0f ns", fastest(close_one));
+        printf(", empty take %.0f ns\n", fastest(take_any));
+    }
     migwelun_drop(&slot);
     free(replies);
+    free(beats);
     free(line);
     if (refuses) fprintf(stderr, "%ld refused\n", refusals);
     return 0;

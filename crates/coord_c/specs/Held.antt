@@ -23,9 +23,9 @@ held p (Some x) = box_owns freed the_row p x
 abbrev pub kept_code : Coded (Option Embedded)
 kept_code = coded_option the_row.coded
 
--- there is a coordinator
-abbrev pub HasCoordinator : Option Embedded → Type 0
-HasCoordinator kept = is_some kept ≡ true
+-- there is a coordinator or a replica
+abbrev pub HasEmbedded : Option Embedded → Type 0
+HasEmbedded kept = is_some kept ≡ true
 
 -- what the box has, where there is one
 abbrev pub unboxed : Option (Box Embedded) → Option Embedded

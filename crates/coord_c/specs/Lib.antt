@@ -1,3 +1,4 @@
+pub mod Machines
 pub mod Held
 pub mod Slots
 pub mod Reads

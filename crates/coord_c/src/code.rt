@@ -1,6 +1,6 @@
 //! What the exports return.
 
-/// It was done: a coordinator was made, a reply appended, bytes taken, topics set.
+/// It was done: a coordinator was made, a reply appended, bytes taken, topics set, an entry proposed or applied.
 pub(crate) const DONE: i32 = 0;
 
 /// Nothing is replied, and the connection is to be closed.
@@ -12,13 +12,13 @@ pub(crate) const NO: i32 = 0;
 /// The group has the member, or remembers it.
 pub(crate) const YES: i32 = 1;
 
-/// The slot has no coordinator.
+/// The slot has nothing that the function is for.
 pub(crate) const EMPTY: i32 = -1;
 
 /// Memory is short.
 pub(crate) const NO_MEMORY: i32 = -2;
 
-/// The slot has a coordinator already.
+/// The slot has a coordinator or a replica already.
 pub(crate) const FULL: i32 = -3;
 
 /// The buffer is too short.
@@ -29,6 +29,9 @@ pub(crate) const NOT_TEXT: i32 = -5;
 
 /// There is no such group, or no such member in it.
 pub(crate) const NO_MEMBER: i32 = -6;
+
+/// Nothing was committed there.
+pub(crate) const NO_OFFSET: i32 = -7;
 
 /// The epoch of a static member that is away (KIP-848, "Static Membership").
 pub(crate) const AWAY: i32 = -2;

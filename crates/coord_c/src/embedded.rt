@@ -1,60 +1,88 @@
-//! What a slot is for: a coordinator, with the replies and the topics that wait.
-ghost use Rattle.std.specs.Prelude.{◌≡◌, ◌≢◌, ◌⊎◌, ◌≤◌, ◌<◌, ◌++◌, ◌∷◌, [], Some, None, IfOk, IfErr, OnErr, IsUtf8, length, take, pos};
+//! What lies behind a slot's pointer: a coordinator or a replica, with the replies, the topics and the entry that wait.
+ghost use Rattle.std.specs.Prelude.{◌≡◌, ◌≢◌, ◌⊎◌, ◌≤◌, ◌<◌, ◌++◌, ◌∷◌, [], true, false, Some, None, IfOk, IfErr, IfSome, OnErr, IsUtf8, length, take, pos};
 ghost use Rattle.std.specs.FinMap as finite;
+ghost use Rattle.std.specs.Option.{option_copied};
 ghost use Rattle.topic_meta.specs.Faults.{fault_number};
 ghost use Rattle.topic_meta.specs.Images.{entries_of, entry_of, first_fault, topics_of};
 ghost use Rattle.topic_meta.specs.declared.image_fault.ImageFault.TheVariants.{NoMemory};
 ghost use Rattle.coord_node.specs.Answers.{Answers, ClosesAtOnce};
-ghost use Rattle.coord_node.specs.Coordinator.{Done, Frame, Tick, is_remembered_at, opening};
+ghost use Rattle.coord_node.specs.Coordinator.{Done, Frame, Tick, committed_at, is_remembered_at};
 ghost use Rattle.coord_node.specs.Steps.{Step};
-ghost use Rattle.coord_c.specs.Reads.{epoch_shown, epochs_shown, fault_shown, yes_or_no};
+ghost use Rattle.coord_c.specs.Machines.{coordinator_of, is_replica};
+ghost use Rattle.coord_c.specs.Reads.{ShowsCommitted, epoch_shown, epochs_shown, fault_shown, size_shown, yes_or_no};
 
-use crate::code::{AWAY, CLOSES, DONE, NO, NO_MEMBER, NO_MEMORY, NOT_TEXT, SHORT, YES};
-use coord_node::{Answered, Image, Moment, Node, Stamp};
+use crate::code::{
+    AWAY, CLOSES, DONE, EMPTY, NO, NO_MEMBER, NO_MEMORY, NO_OFFSET, NOT_TEXT, SHORT, YES,
+};
+use crate::machine::Machine;
+use coord_node::{Answered, Image, Moment, Stamp};
 use group_types::Epoch;
 use std::alloc::{AllocError, Global};
-use std::collections::hash_map::RandomState;
 use topic_meta::{ImageFault, TopicEntry};
 use uuid::Uuid;
 
-/// A coordinator, the replies that were not taken yet, and the topics that were not set yet.
+/// A coordinator or a replica, the replies that were not taken yet, the topics that were not set yet, and the entry that was proposed
+/// last and not taken yet.
 #[derive(Drop)]
 pub struct Embedded {
-    pub(crate) node: Node,
+    pub(crate) machine: Machine,
     pub(crate) replies: Vec<u8>,
     pub(crate) topics: Vec<TopicEntry>,
+    pub(crate) entry: Vec<u8>,
 }
 
 impl Embedded {
-    /// A coordinator with no groups and no topics. Takes no memory.
-    pub(crate) fn new(alloc: Global, salt: u64, hasher: RandomState) -> Embedded
-        ensures node { result.node ≡ opening salt }
+    /// Nothing waits. Takes no memory.
+    pub(crate) fn new(alloc: Global, machine: Machine) -> Embedded
+        ensures machine { result.machine ≡ machine }
         ensures replies { result.replies.items ≡ [] }
         ensures topics { result.topics.items ≡ [] }
+        ensures entry { result.entry.items ≡ [] }
     {
         Embedded {
-            node: Node::new(alloc, salt, hasher),
+            machine,
             replies: Vec::new(alloc),
             topics: Vec::new(alloc),
+            entry: Vec::new(alloc),
         }
     }
 
-    /// Answers the body of a frame, as [`Node::answer`] does.
+    /// Answers the body of a frame, as [`coord_node::Node::answer`] does, where it is a coordinator by itself.
     pub(crate) fn answer(&mut self, body: &[u8], stamp: Stamp, now: Moment) -> i32
-        ensures replied { result ≡ DONE → Answers self.old.node (Frame body.now stamp now) Answered.Replied self.new.node
-            self.old.replies.items self.new.replies.items }
-        ensures closes { result ≡ CLOSES → Answers self.old.node (Frame body.now stamp now) Answered.Closes self.new.node
-            self.old.replies.items self.new.replies.items }
-        ensures no_memory { result ≡ NO_MEMORY → (self.new.node ≡ self.old.node) × (self.new.replies.items ≡ self.old.replies.items) }
-        ensures known { (result ≡ DONE) ⊎ ((result ≡ CLOSES) ⊎ (result ≡ NO_MEMORY)) }
-        ensures at_once { ClosesAtOnce body.now → result ≡ CLOSES }
-        ensures topics { self.new.topics ≡ self.old.topics }
+        ensures kind { is_replica self.new.machine ≡ is_replica self.old.machine }
+        ensures replica { is_replica self.old.machine ≡ true → (result ≡ EMPTY) × (self.new ≡ self.old) }
+        ensures replied { result ≡ DONE → Answers (coordinator_of self.old.machine) (Frame body.now stamp now) Answered.Replied
+            (coordinator_of self.new.machine) self.old.replies.items self.new.replies.items }
+        ensures closes { result ≡ CLOSES → Answers (coordinator_of self.old.machine) (Frame body.now stamp now) Answered.Closes
+            (coordinator_of self.new.machine) self.old.replies.items self.new.replies.items }
+        ensures no_memory { result ≡ NO_MEMORY → (self.new.machine ≡ self.old.machine) × (self.new.replies.items ≡ self.old.replies.items) }
+        ensures known { is_replica self.old.machine ≡ false → (result ≡ DONE) ⊎ ((result ≡ CLOSES) ⊎ (result ≡ NO_MEMORY)) }
+        ensures at_once { is_replica self.old.machine ≡ false → ClosesAtOnce body.now → result ≡ CLOSES }
+        ensures others { (self.new.topics ≡ self.old.topics) × (self.new.entry ≡ self.old.entry) }
     {
-        match self.node.answer(body, stamp, now, &mut self.replies) {
+        let Machine::Coordinator(node) = &mut self.machine else {
+            return EMPTY;
+        };
+        match node.answer(body, stamp, now, &mut self.replies) {
             Ok(Answered::Replied) => DONE,
             Ok(Answered::Closes) => CLOSES,
             Err(_) => NO_MEMORY,
         }
+    }
+
+    /// Tells the moment, where it is a coordinator by itself, and writes how many members were removed.
+    pub(crate) fn tick(&mut self, now: Moment, removed: &mut usize) -> i32
+        ensures kind { is_replica self.new.machine ≡ is_replica self.old.machine }
+        ensures replica { is_replica self.old.machine ≡ true → (result ≡ EMPTY) × (self.new ≡ self.old) × (removed.new ≡ removed.old) }
+        ensures ticked { is_replica self.old.machine ≡ false
+            → (result ≡ DONE) × Step (coordinator_of self.old.machine) (Tick now) (Done removed.new) (coordinator_of self.new.machine) }
+        ensures others { (self.new.replies ≡ self.old.replies) × (self.new.topics ≡ self.old.topics) × (self.new.entry ≡ self.old.entry) }
+    {
+        let Machine::Coordinator(node) = &mut self.machine else {
+            return EMPTY;
+        };
+        *removed = node.tick(now);
+        DONE
     }
 
     /// Moves the replies into a buffer, where it has room for them, and says how many bytes they are.
@@ -64,17 +92,9 @@ impl Embedded {
             → (result ≡ DONE) × (take size.new to.new ≡ self.old.replies.items) × (self.new.replies.items ≡ []) }
         ensures short { length to.old < length self.old.replies.items
             → (result ≡ SHORT) × (to.new ≡ to.old) × (self.new.replies.items ≡ self.old.replies.items) }
-        ensures node { self.new.node ≡ self.old.node }
-        ensures topics { self.new.topics ≡ self.old.topics }
+        ensures others { (self.new.machine ≡ self.old.machine) × (self.new.topics ≡ self.old.topics) × (self.new.entry ≡ self.old.entry) }
     {
-        let length = self.replies.len();
-        *size = length;
-        if to.len() < length {
-            return SHORT;
-        }
-        to[..length].copy_from_slice(self.replies.as_slice());
-        self.replies.clear();
-        DONE
+        take_bytes(&mut self.replies, to, size)
     }
 
     /// Adds a topic to those that will be set.
@@ -86,8 +106,7 @@ impl Embedded {
         ensures not_text { result ≡ NOT_TEXT → ¬ IsUtf8 name.now }
         ensures is_text { IsUtf8 name.now → result ≢ NOT_TEXT }
         ensures known { (result ≡ DONE) ⊎ ((result ≡ NO_MEMORY) ⊎ (result ≡ NOT_TEXT)) }
-        ensures node { self.new.node ≡ self.old.node }
-        ensures replies { self.new.replies ≡ self.old.replies }
+        ensures others { (self.new.machine ≡ self.old.machine) × (self.new.replies ≡ self.old.replies) × (self.new.entry ≡ self.old.entry) }
     {
         let Ok(name) = str::from_utf8(name) else {
             return NOT_TEXT;
@@ -109,26 +128,33 @@ impl Embedded {
         ensures added { IfOk result (λ _. entries_of self.new.topics.items
             ≡ entries_of self.old.topics.items ++ record { name = name.now; id = id; count = count } ∷ []) }
         ensures err { OnErr result (self.new.topics.items ≡ self.old.topics.items) }
-        ensures node { self.new.node ≡ self.old.node }
-        ensures replies { self.new.replies ≡ self.old.replies }
+        ensures others { (self.new.machine ≡ self.old.machine) × (self.new.replies ≡ self.old.replies) × (self.new.entry ≡ self.old.entry) }
     {
         let name = String::from_str(alloc, name)?;
         self.topics.push(TopicEntry { name, id, count })?;
         Ok(())
     }
 
-    /// Sets the topics that were added: 0, or the number of their fault. They are gone then. Where memory is short they stay.
+    /// Sets the topics that were added, where it is a coordinator by itself: 0, or the number of their fault. They are gone then. Where
+    /// memory is short they stay.
     pub(crate) fn set_topics(&mut self, alloc: Global) -> i32
-        ensures code { (result ≡ NO_MEMORY) ⊎ (result ≡ fault_shown (first_fault (entries_of self.old.topics.items))) }
-        ensures set { result ≡ DONE → self.new.node ≡ record self.old.node { image = topics_of (entries_of self.old.topics.items) } }
-        ensures refused { result ≢ DONE → self.new.node ≡ self.old.node }
-        ensures gone { result ≢ NO_MEMORY → self.new.topics.items ≡ [] }
+        ensures kind { is_replica self.new.machine ≡ is_replica self.old.machine }
+        ensures replica { is_replica self.old.machine ≡ true → (result ≡ EMPTY) × (self.new ≡ self.old) }
+        ensures code { is_replica self.old.machine ≡ false
+            → (result ≡ NO_MEMORY) ⊎ (result ≡ fault_shown (first_fault (entries_of self.old.topics.items))) }
+        ensures set { result ≡ DONE → coordinator_of self.new.machine
+            ≡ record (coordinator_of self.old.machine) { image = topics_of (entries_of self.old.topics.items) } }
+        ensures refused { result ≢ DONE → self.new.machine ≡ self.old.machine }
+        ensures gone { is_replica self.old.machine ≡ false → result ≢ NO_MEMORY → self.new.topics.items ≡ [] }
         ensures no_memory { result ≡ NO_MEMORY → self.new.topics.items ≡ self.old.topics.items }
-        ensures replies { self.new.replies ≡ self.old.replies }
+        ensures others { (self.new.replies ≡ self.old.replies) × (self.new.entry ≡ self.old.entry) }
     {
+        let Machine::Coordinator(node) = &mut self.machine else {
+            return EMPTY;
+        };
         match image_of(alloc, self.topics.as_slice()) {
             Ok(image) => {
-                self.node.set_image(image);
+                node.set_image(image);
                 self.topics.clear();
                 DONE
             }
@@ -137,12 +163,11 @@ impl Embedded {
     }
 
     /// The same code. The topics are gone, unless it is that memory is short.
-    fn keep_or_forget(&mut self, code: i32) -> i32
+    pub(crate) fn keep_or_forget(&mut self, code: i32) -> i32
         ensures code { result ≡ code }
         ensures gone { result ≢ NO_MEMORY → self.new.topics.items ≡ [] }
         ensures no_memory { result ≡ NO_MEMORY → self.new.topics.items ≡ self.old.topics.items }
-        ensures node { self.new.node ≡ self.old.node }
-        ensures replies { self.new.replies ≡ self.old.replies }
+        ensures others { (self.new.machine ≡ self.old.machine) × (self.new.replies ≡ self.old.replies) × (self.new.entry ≡ self.old.entry) }
     {
         if code != NO_MEMORY {
             self.topics.clear();
@@ -153,7 +178,7 @@ impl Embedded {
     /// Whether a group has a member, or remembers it: [`YES`] or [`NO`].
     pub(crate) fn remembers(&self, group: &[u8], member: &[u8]) -> i32
         ensures text { IsUtf8 group.now → IsUtf8 member.now
-            → result ≡ yes_or_no (is_remembered_at (finite.get self.now.node.groups group.now) member.now) }
+            → result ≡ yes_or_no (is_remembered_at (finite.get (coordinator_of self.now.machine).groups group.now) member.now) }
         ensures not_text { result ≡ NOT_TEXT → ¬ (IsUtf8 group.now × IsUtf8 member.now) }
         ensures known { (result ≡ YES) ⊎ ((result ≡ NO) ⊎ (result ≡ NOT_TEXT)) }
     {
@@ -163,7 +188,7 @@ impl Embedded {
         let Ok(member) = str::from_utf8(member) else {
             return NOT_TEXT;
         };
-        if self.node.remembers(group, member) {
+        if self.machine.node().remembers(group, member) {
             YES
         } else {
             NO
@@ -178,8 +203,8 @@ impl Embedded {
         epoch: &mut i32,
         previous: &mut i32,
     ) -> i32
-        ensures found { result ≡ DONE → epochs_shown (finite.get self.now.node.groups group.now) member.now ≡ Some (epoch.new, previous.new) }
-        ensures no_member { result ≡ NO_MEMBER → epochs_shown (finite.get self.now.node.groups group.now) member.now ≡ None }
+        ensures found { result ≡ DONE → epochs_shown (finite.get (coordinator_of self.now.machine).groups group.now) member.now ≡ Some (epoch.new, previous.new) }
+        ensures no_member { result ≡ NO_MEMBER → epochs_shown (finite.get (coordinator_of self.now.machine).groups group.now) member.now ≡ None }
         ensures not_text { result ≡ NOT_TEXT → ¬ (IsUtf8 group.now × IsUtf8 member.now) }
         ensures unchanged { result ≢ DONE → (epoch.new ≡ epoch.old) × (previous.new ≡ previous.old) }
         ensures known { (result ≡ DONE) ⊎ ((result ≡ NO_MEMBER) ⊎ (result ≡ NOT_TEXT)) }
@@ -202,12 +227,70 @@ impl Embedded {
 
     /// The member epoch of a member and the one before it, where a group has the member.
     fn epochs_of(&self, group: &str, member: &str) -> Option<(i32, i32)>
-        ensures { result ≡ epochs_shown (finite.get self.now.node.groups group.now) member.now }
+        ensures { result ≡ epochs_shown (finite.get (coordinator_of self.now.machine).groups group.now) member.now }
     {
-        let group = self.node.group(group)?;
+        let group = self.machine.node().group(group)?;
         let (epoch, previous) = group.epochs(member)?;
         Some((number_of(epoch), previous.as_i32()))
     }
+
+    /// Writes what was last committed in a group for an index of a topic: the offset, the leader's epoch, and the metadata with its size,
+    /// where the buffer has room for it. Without metadata the size is the greatest that there is.
+    pub(crate) fn committed(
+        &self,
+        group: &[u8],
+        topic: &[u8],
+        index: i32,
+        offset: &mut i64,
+        leader_epoch: &mut i32,
+        metadata: &mut [u8],
+        size: &mut usize,
+    ) -> i32
+        ensures found { result ≡ DONE → IfSome (committed_at (finite.get (coordinator_of self.now.machine).groups group.now) (topic.now, index))
+            (λ it. ShowsCommitted it (record { offset = offset.new; leader_epoch = leader_epoch.new; metadata = metadata.new; size = size.new })) }
+        ensures no_offset { result ≡ NO_OFFSET →
+            committed_at (finite.get (coordinator_of self.now.machine).groups group.now) (topic.now, index) ≡ None }
+        ensures short { result ≡ SHORT → IfSome (committed_at (finite.get (coordinator_of self.now.machine).groups group.now) (topic.now, index))
+            (λ it. (size.new ≡ size_shown it.metadata) × (length metadata.old < size.new)) }
+        ensures not_text { result ≡ NOT_TEXT → ¬ (IsUtf8 group.now × IsUtf8 topic.now) }
+        ensures unchanged { result ≢ DONE → (offset.new ≡ offset.old) × (leader_epoch.new ≡ leader_epoch.old) × (metadata.new ≡ metadata.old) }
+        ensures known { (result ≡ DONE) ⊎ ((result ≡ NO_OFFSET) ⊎ ((result ≡ SHORT) ⊎ (result ≡ NOT_TEXT))) }
+    {
+        let Ok(group) = str::from_utf8(group) else {
+            return NOT_TEXT;
+        };
+        let Ok(topic) = str::from_utf8(topic) else {
+            return NOT_TEXT;
+        };
+        let Some(found) = self.machine.node().committed(group, topic, index) else {
+            return NO_OFFSET;
+        };
+        let code = put_text(found.metadata(), metadata, size);
+        if code == DONE {
+            *offset = found.offset();
+            *leader_epoch = found.leader_epoch();
+        }
+        code
+    }
+}
+
+/// Writes a text into a buffer, where there is one and the buffer has room for it, and its size; without a text the greatest size that
+/// there is.
+fn put_text(text: Option<&str>, to: &mut [u8], size: &mut usize) -> i32
+    ensures size { size.new ≡ size_shown (option_copied text.entry) }
+    ensures written { result ≡ DONE → IfSome (option_copied text.entry) (λ bytes. take (length bytes) to.new ≡ bytes) }
+    ensures short { result ≢ DONE → (result ≡ SHORT) × (to.new ≡ to.old) × (length to.old < size.new) }
+{
+    let Some(text) = text else {
+        *size = usize::MAX;
+        return DONE;
+    };
+    *size = text.len();
+    if to.len() < text.len() {
+        return SHORT;
+    }
+    to[..text.len()].copy_from_slice(text.as_bytes());
+    DONE
 }
 
 /// The image of a list of topics, or the list's first fault, as [`Image::of`] gives it. The list stays.
@@ -222,7 +305,7 @@ fn image_of(alloc: Global, topics: &[TopicEntry]) -> Result<Image, ImageFault>
 }
 
 /// A copy of each topic, in their order.
-fn copies(alloc: Global, topics: &[TopicEntry]) -> Result<Vec<TopicEntry>, AllocError>
+pub(crate) fn copies(alloc: Global, topics: &[TopicEntry]) -> Result<Vec<TopicEntry>, AllocError>
     ensures { IfOk result (λ list. entries_of list.items ≡ entries_of topics.now) }
 {
     let mut list = Vec::with_capacity(alloc, topics.len())?;
@@ -266,4 +349,20 @@ fn number_of(epoch: Epoch) -> i32
         Epoch::At(number) => number.as_i32(),
         Epoch::Away => AWAY,
     }
+}
+
+/// Moves bytes into a buffer, where it has room for them, and says how many they are.
+pub(crate) fn take_bytes(from: &mut Vec<u8>, to: &mut [u8], size: &mut usize) -> i32
+    ensures size { size.new ≡ length from.old.items }
+    ensures taken { length from.old.items ≤ length to.old → (result ≡ DONE) × (take size.new to.new ≡ from.old.items) × (from.new.items ≡ []) }
+    ensures short { length to.old < length from.old.items → (result ≡ SHORT) × (to.new ≡ to.old) × (from.new.items ≡ from.old.items) }
+{
+    let length = from.len();
+    *size = length;
+    if to.len() < length {
+        return SHORT;
+    }
+    to[..length].copy_from_slice(from.as_slice());
+    from.clear();
+    DONE
 }

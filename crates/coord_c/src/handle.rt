@@ -1,7 +1,7 @@
 //! What C keeps of a coordinator on the heap.
 ghost use Rattle.std.specs.Prelude.{◌≡◌, Option, Some, None};
 ghost use Rattle.coord_c.specs.declared.embedded.Embedded.{Embedded};
-ghost use Rattle.coord_c.specs.Held.{held, kept_code, HasCoordinator};
+ghost use Rattle.coord_c.specs.Held.{held, kept_code, HasEmbedded};
 
 use crate::embedded::Embedded;
 use crate::loose::Loose;
@@ -43,7 +43,7 @@ impl Handle {
 
     /// The loose box of a handle that has something.
     pub(crate) fn into_loose(self, alloc: Global) -> Loose<Embedded, Global>
-        requires { HasCoordinator self.kept }
+        requires { HasEmbedded self.kept }
         ensures { Some result.value ≡ self.kept }
     {
         let Handle { at } = self;

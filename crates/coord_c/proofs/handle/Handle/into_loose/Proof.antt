@@ -29,7 +29,7 @@ use Rattle.std_heap.specs.contracts.GlobalAllocator.TheImpl.{ghosts}
 use Rattle.std_heap.proofs.Global.TheLaws as heap
 use Rattle.coord_c.specs.declared.embedded.Embedded.{Embedded}
 use Rattle.coord_c.specs.contracts.embedded.Embedded as embedded
-use Rattle.coord_c.specs.Held.{held, freed, HasCoordinator}
+use Rattle.coord_c.specs.Held.{held, freed, HasEmbedded}
 use Rattle.coord_c.specs.contracts.handle.Handle as handle
 use Rattle.coord_c.proofs.Pointers.{allocator, pair, pair_good, loose_in, word, handle_out}
 use Rattle.coord_c.specs.contracts.handle.Handle.into_loose.{ended, clauses}
@@ -37,7 +37,7 @@ use Rattle.coord_c.specs.contracts.handle.Handle.into_loose.Key.{name as #self}
 use Rattle.coord_c.proofs.handle.Handle.into_loose.Statement.{statement}
 use Rattle.coord_c.proofs.handle.Handle.into_loose.Code as code
 
-there : (kept : Option Embedded) → HasCoordinator kept → (x : Embedded) × (kept ≡ Some x)
+there : (kept : Option Embedded) → HasEmbedded kept → (x : Embedded) × (kept ≡ Some x)
 there (Some x) t = (x, refl)
 there None t = absurd (subst T (sym t) tt)
 
@@ -48,8 +48,8 @@ into_loose_spec 𝓤 𝓛 𝓜 𝓡 wired =
     let stays : Stays ended.signature.params ended.kept = (stay_dropped (plain (λ _. handle.the_row)) yes, (stay_dropped (plain (λ _. Z)) yes, tt)) in
     proved_at 𝓛 ended stays c 𝓜 𝓡 (Goes-blank 𝓛 0 (plain (λ _. handle.the_row)) yes (λ κs x f. tt), (Goes-blank 𝓛 0 (plain (λ _. Z)) yes (λ κs x f. tt), tt)) #self fn (code.unfolded 𝓤 H 𝓜 𝓡 wired) (λ z are.
     let v = z.0.3.0 in let a = z.0.3.1.0 in let Post : Val → SProp 𝓤 = (walk_of 𝓛 ended stays c).post z in let Run : List Val → SProp 𝓤 = λ ws. WpFn 𝓤 H 𝓣.C 𝓣.Λ fn ws Post in
-    qed 𝓛 ((raw (alive 𝓛 ended.signature z.0.0 z.0.1) ⊛ ‵ (owns (types_at ended.signature.params z.0.0) z.0.3 z.0.4)) ∷ raw (fact 𝓤 (HasCoordinator v.kept)) ∷ []) ∵
-    move ! (1 ∷ []) $ heard ! (HasCoordinator v.kept) (λ is_kept. let x : Embedded = (there v.kept is_kept).0 in let is : v.kept ≡ Some x = (there v.kept is_kept).1 in split ! $ move ! (1 ∷ []) $
+    qed 𝓛 ((raw (alive 𝓛 ended.signature z.0.0 z.0.1) ⊛ ‵ (owns (types_at ended.signature.params z.0.0) z.0.3 z.0.4)) ∷ raw (fact 𝓤 (HasEmbedded v.kept)) ∷ []) ∵
+    move ! (1 ∷ []) $ heard ! (HasEmbedded v.kept) (λ is_kept. let x : Embedded = (there v.kept is_kept).0 in let is : v.kept ≡ Some x = (there v.kept is_kept).1 in split ! $ move ! (1 ∷ []) $
     fsplit ! $ handle_out ! v z.0.4.0 (λ first. rewrite ! 0 (λ (kept : Option Embedded). ‵ (held v.at kept)) is refl $
     in_a_block ! v.at (λ p. box_owns freed R p x) (fst∗ 𝓤 (never 𝓤) (sem 𝓛 (freed (bare (lone R.mir)) null_ptr))) (λ b o e.
     move ! (1 ∷ []) $ fsplit ! $ handle_tells (allocator R Z L g) ! a z.0.4.1.0 (λ h second good.

@@ -1,0 +1,21 @@
+-- What a slot is for: a coordinator by itself, or a replica.
+use Rattle.std.specs.Prelude.{Bool, true, false, Option, Some, None}
+use Rattle.coord_node.specs.Coordinator.{Coordinator}
+use Rattle.coord_replica.specs.Replicas.{ReplicaState}
+use Rattle.coord_c.specs.declared.machine.Machine.{Machine}
+use Rattle.coord_c.specs.declared.machine.Machine.TheVariants as machines
+
+-- the coordinator by itself, or that of the replica
+abbrev pub coordinator_of : Machine → Coordinator
+coordinator_of (machines.Coordinator node) = node
+coordinator_of (machines.Replica replica) = replica.log.coordinator
+
+abbrev pub is_replica : Machine → Bool
+is_replica (machines.Coordinator node) = false
+is_replica (machines.Replica replica) = true
+
+-- what is said of a replica before and after a call, where there is one
+abbrev pub ForReplicas : Machine → Machine → (ReplicaState → ReplicaState → Type 0) → Type 0
+ForReplicas (machines.Replica r) (machines.Replica q) Said = Said r q
+ForReplicas (machines.Replica r) (machines.Coordinator d) Said = Unit {0}
+ForReplicas (machines.Coordinator c) q Said = Unit {0}

@@ -1,0 +1,225 @@
+//! The functions for replicas, and the one that makes them.
+ghost use Rattle.std.specs.Prelude.{◌≡◌, ◌≢◌, ◌⊎◌, ◌≤◌, ◌<◌, [], None, length, take};
+ghost use Rattle.topic_meta.specs.Images.{entries_of};
+ghost use Rattle.replica_entries.specs.Spelling.{entry_fields};
+ghost use Rattle.replica_entries.specs.Values.{image, tick};
+ghost use Rattle.coord_replica.specs.Applying.{refusal_at};
+ghost use Rattle.coord_replica.specs.Proposing.{ProposesBytes, begun, frame_proposed, moment_proposed, next_leadership};
+ghost use Rattle.coord_replica.specs.Replicas.{replica_opening};
+ghost use Rattle.coord_c.specs.Reads.{IsApplied, IsRefused, IsUnapplied, IsUnled, TellsApplied};
+ghost use Rattle.coord_c.specs.Slots.{in_slot, IsFull, Has, HasReplica, Becomes, BecomesReplica};
+
+use crate::code::{DONE, EMPTY, FULL, NO_MEMORY, SHORT};
+use crate::fill;
+use crate::keys::Keys;
+use crate::machine::Machine;
+use crate::slot::Slot;
+use coord_replica::Replica;
+use std::alloc::Global;
+use std::collections::hash_map::RandomState;
+
+/// Makes a replica in an empty slot. The salt is that of all replicas of its log; its tables are keyed by the random bytes.
+#[unsafe(no_mangle)]
+pub extern "C" fn migwelun_make_replica(
+    slot: &mut Slot,
+    alloc: Global,
+    salt: u64,
+    keys: &[u8; 16],
+) -> i32
+    ensures full { IsFull slot.old → (result ≡ FULL) × (in_slot slot.new ≡ in_slot slot.old) }
+    ensures made { result ≡ DONE → IsFull slot.new }
+    ensures opening { result ≡ DONE → Has slot.new (λ y. (y.machine ≡ Machine.Replica (replica_opening salt)) × (y.replies.items ≡ [])
+        × (y.topics.items ≡ []) × (y.entry.items ≡ [])) }
+    ensures no_memory { result ≡ NO_MEMORY → in_slot slot.new ≡ None }
+    ensures known { (result ≡ DONE) ⊎ ((result ≡ NO_MEMORY) ⊎ (result ≡ FULL)) }
+{
+    if slot.is_full() {
+        return FULL;
+    }
+    let Ok(hasher) = RandomState::new(&Keys { bytes: keys }) else {
+        return NO_MEMORY;
+    };
+    fill(
+        slot,
+        alloc,
+        Machine::Replica(Replica::new(alloc, salt, hasher)),
+    )
+}
+
+/// Writes how many entries a replica has applied, the number of the last leadership that began, and the greatest moment.
+#[unsafe(no_mangle)]
+pub extern "C" fn migwelun_place(
+    slot: &mut Slot,
+    alloc: Global,
+    applied: &mut u64,
+    leadership: &mut u32,
+    moment: &mut u64,
+) -> i32
+    ensures empty { ¬ HasReplica slot.old → (result ≡ EMPTY) × (applied.new ≡ applied.old) × (leadership.new ≡ leadership.old) × (moment.new ≡ moment.old) }
+    ensures known { HasReplica slot.old → result ≡ DONE }
+    ensures unchanged { in_slot slot.new ≡ in_slot slot.old }
+    ensures place { BecomesReplica slot.old slot.new (λ x y r q.
+        (applied.new ≡ r.log.applied) × (leadership.new ≡ r.log.leadership) × (moment.new ≡ r.log.moment)) }
+{
+    let Some(embedded) = slot.take(alloc) else {
+        return EMPTY;
+    };
+    let code = embedded.place(applied, leadership, moment);
+    slot.put(embedded);
+    code
+}
+
+/// Proposes the entry by which the next leadership begins: it waits for [`migwelun_take_entry`].
+#[unsafe(no_mangle)]
+pub extern "C" fn migwelun_lead(slot: &mut Slot, alloc: Global) -> i32
+    ensures empty { ¬ HasReplica slot.old → (result ≡ EMPTY) × (in_slot slot.new ≡ in_slot slot.old) }
+    ensures full { HasReplica slot.old → HasReplica slot.new × (result ≢ EMPTY) }
+    ensures proposed { BecomesReplica slot.old slot.new (λ x y r q. result ≡ DONE → y.entry.items ≡ entry_fields (next_leadership r)) }
+    ensures refused { BecomesReplica slot.old slot.new (λ x y r q. result ≢ DONE → (y.entry ≡ x.entry) × IsUnled r result) }
+    ensures others { Becomes slot.old slot.new (λ x y. (y.machine ≡ x.machine) × (y.replies ≡ x.replies) × (y.topics ≡ x.topics)) }
+{
+    let Some(mut embedded) = slot.take(alloc) else {
+        return EMPTY;
+    };
+    let code = embedded.lead(alloc);
+    slot.put(embedded);
+    code
+}
+
+/// Leads under the present leadership from here on: a replica whose own entry of it was applied.
+#[unsafe(no_mangle)]
+pub extern "C" fn migwelun_begin(slot: &mut Slot, alloc: Global, clock: u64) -> i32
+    ensures empty { ¬ HasReplica slot.old → (result ≡ EMPTY) × (in_slot slot.new ≡ in_slot slot.old) }
+    ensures full { HasReplica slot.old → HasReplica slot.new × (result ≡ DONE) }
+    ensures begun { BecomesReplica slot.old slot.new (λ x y r q. q ≡ begun r clock) }
+    ensures others { Becomes slot.old slot.new (λ x y. (y.replies ≡ x.replies) × (y.topics ≡ x.topics) × (y.entry ≡ x.entry)) }
+{
+    let Some(mut embedded) = slot.take(alloc) else {
+        return EMPTY;
+    };
+    let code = embedded.begin(clock);
+    slot.put(embedded);
+    code
+}
+
+/// Proposes the entry of a frame that came to this leader: it waits for [`migwelun_take_entry`].
+#[unsafe(no_mangle)]
+pub extern "C" fn migwelun_propose(
+    slot: &mut Slot,
+    alloc: Global,
+    body: &[u8],
+    connection: u32,
+    frame: u64,
+    clock: u64,
+) -> i32
+    ensures empty { ¬ HasReplica slot.old → (result ≡ EMPTY) × (in_slot slot.new ≡ in_slot slot.old) }
+    ensures full { HasReplica slot.old → HasReplica slot.new × (result ≢ EMPTY) }
+    ensures proposed { BecomesReplica slot.old slot.new (λ x y r q. result ≡ DONE →
+        ProposesBytes r (frame_proposed r clock connection frame body.now) q [] y.entry.items) }
+    ensures refused { BecomesReplica slot.old slot.new (λ x y r q. result ≢ DONE →
+        (q ≡ r) × (y.entry ≡ x.entry) × IsRefused r (frame_proposed r clock connection frame body.now) result) }
+    ensures others { Becomes slot.old slot.new (λ x y. (y.replies ≡ x.replies) × (y.topics ≡ x.topics)) }
+{
+    let Some(mut embedded) = slot.take(alloc) else {
+        return EMPTY;
+    };
+    let code = embedded.propose(alloc, body, connection, frame, clock);
+    slot.put(embedded);
+    code
+}
+
+/// Proposes the entry of a tick: it waits for [`migwelun_take_entry`].
+#[unsafe(no_mangle)]
+pub extern "C" fn migwelun_propose_tick(slot: &mut Slot, alloc: Global, clock: u64) -> i32
+    ensures empty { ¬ HasReplica slot.old → (result ≡ EMPTY) × (in_slot slot.new ≡ in_slot slot.old) }
+    ensures full { HasReplica slot.old → HasReplica slot.new × (result ≢ EMPTY) }
+    ensures proposed { BecomesReplica slot.old slot.new (λ x y r q. result ≡ DONE →
+        ProposesBytes r (tick (moment_proposed r clock)) q [] y.entry.items) }
+    ensures refused { BecomesReplica slot.old slot.new (λ x y r q. result ≢ DONE →
+        (q ≡ r) × (y.entry ≡ x.entry) × IsRefused r (tick (moment_proposed r clock)) result) }
+    ensures others { Becomes slot.old slot.new (λ x y. (y.replies ≡ x.replies) × (y.topics ≡ x.topics)) }
+{
+    let Some(mut embedded) = slot.take(alloc) else {
+        return EMPTY;
+    };
+    let code = embedded.propose_tick(alloc, clock);
+    slot.put(embedded);
+    code
+}
+
+/// Proposes the entry of the topics that were added: it waits for [`migwelun_take_entry`]. The topics are gone then; where memory is short
+/// they stay.
+#[unsafe(no_mangle)]
+pub extern "C" fn migwelun_propose_topics(slot: &mut Slot, alloc: Global) -> i32
+    ensures empty { ¬ HasReplica slot.old → (result ≡ EMPTY) × (in_slot slot.new ≡ in_slot slot.old) }
+    ensures full { HasReplica slot.old → HasReplica slot.new × (result ≢ EMPTY) }
+    ensures proposed { BecomesReplica slot.old slot.new (λ x y r q. result ≡ DONE →
+        ProposesBytes r (image (entries_of x.topics.items)) q [] y.entry.items) }
+    ensures refused { BecomesReplica slot.old slot.new (λ x y r q. result ≢ DONE →
+        (q ≡ r) × (y.entry ≡ x.entry) × ((result ≡ NO_MEMORY) ⊎ IsRefused r (image (entries_of x.topics.items)) result)) }
+    ensures gone { HasReplica slot.old → Becomes slot.old slot.new (λ x y. result ≢ NO_MEMORY → y.topics.items ≡ []) }
+    ensures no_memory { Becomes slot.old slot.new (λ x y. result ≡ NO_MEMORY → y.topics.items ≡ x.topics.items) }
+    ensures replies { Becomes slot.old slot.new (λ x y. y.replies ≡ x.replies) }
+{
+    let Some(mut embedded) = slot.take(alloc) else {
+        return EMPTY;
+    };
+    let code = embedded.propose_topics(alloc);
+    slot.put(embedded);
+    code
+}
+
+/// Moves the entry that was proposed last into a buffer, where it has room for it, and says how many bytes it has.
+#[unsafe(no_mangle)]
+pub extern "C" fn migwelun_take_entry(
+    slot: &mut Slot,
+    alloc: Global,
+    to: &mut [u8],
+    size: &mut usize,
+) -> i32
+    ensures empty { ¬ HasReplica slot.old → (result ≡ EMPTY) × (to.new ≡ to.old) × (size.new ≡ size.old) × (in_slot slot.new ≡ in_slot slot.old) }
+    ensures full { HasReplica slot.old → HasReplica slot.new }
+    ensures size { HasReplica slot.old → Has slot.old (λ x. size.new ≡ length x.entry.items) }
+    ensures taken { HasReplica slot.old → Becomes slot.old slot.new (λ x y. length x.entry.items ≤ length to.old →
+        (result ≡ DONE) × (take size.new to.new ≡ x.entry.items) × (y.entry.items ≡ [])) }
+    ensures short { HasReplica slot.old → Becomes slot.old slot.new (λ x y. length to.old < length x.entry.items →
+        (result ≡ SHORT) × (to.new ≡ to.old) × (y.entry.items ≡ x.entry.items)) }
+    ensures others { Becomes slot.old slot.new (λ x y. (y.machine ≡ x.machine) × (y.replies ≡ x.replies) × (y.topics ≡ x.topics)) }
+{
+    let Some(mut embedded) = slot.take(alloc) else {
+        return EMPTY;
+    };
+    let code = embedded.take_entry(to, size);
+    slot.put(embedded);
+    code
+}
+
+/// Applies the entry of a place of the log; the frame of a reply waits for [`migwelun_take`]. Writes the entry's leadership, the number of a
+/// frame's connection, and that of the frame on it; of a tick how many members it removed.
+#[unsafe(no_mangle)]
+pub extern "C" fn migwelun_apply(
+    slot: &mut Slot,
+    alloc: Global,
+    place: u64,
+    entry: &[u8],
+    leadership: &mut u32,
+    connection: &mut u32,
+    frame: &mut u64,
+) -> i32
+    ensures empty { ¬ HasReplica slot.old → (result ≡ EMPTY) × (in_slot slot.new ≡ in_slot slot.old) }
+    ensures full { HasReplica slot.old → HasReplica slot.new × (result ≢ EMPTY) }
+    ensures applied { BecomesReplica slot.old slot.new (λ x y r q. IsApplied result →
+        (refusal_at r.log place entry.now ≡ None) × TellsApplied r entry.now q x.replies.items y.replies.items
+        (record { code = result; leadership = leadership.new; connection = connection.new; frame = frame.new })) }
+    ensures refused { BecomesReplica slot.old slot.new (λ x y r q. ¬ IsApplied result →
+        (q ≡ r) × (y.replies.items ≡ x.replies.items) × IsUnapplied (refusal_at r.log place entry.now) result) }
+    ensures unchanged { ¬ IsApplied result → (leadership.new ≡ leadership.old) × (connection.new ≡ connection.old) × (frame.new ≡ frame.old) }
+    ensures others { Becomes slot.old slot.new (λ x y. (y.topics ≡ x.topics) × (y.entry ≡ x.entry)) }
+{
+    let Some(mut embedded) = slot.take(alloc) else {
+        return EMPTY;
+    };
+    let code = embedded.apply(place, entry, leadership, connection, frame);
+    slot.put(embedded);
+    code
+}

@@ -1,0 +1,64 @@
+-- Along a log neither leaderships nor moments fall.
+use Rattle.std.proofs.Common.{◌≡◌, ℕ, zero, suc, ◌+◌, ◌<◌, ◌≤◌, List, [], ◌∷◌, length, get_or, Option, Some, None, refl, sym, ap, subst, ◌∙◌, arith}
+use Rattle.std.specs.Prelude.{unwrap_or}
+use Rattle.std.specs.List.Sorted.{IsNonDecreasing}
+use Rattle.std.specs.List.{cons_option}
+use Rattle.coord_node.specs.Coordinator.{Answer}
+use Rattle.replica_entries.specs.Values.{EntryValue}
+use Rattle.coord_replica.specs.Applying.{Applies, LogRun, leadership_due, moment_after}
+use Rattle.coord_replica.specs.Entries.{leaderships_of, moment_in, moments_of}
+use Rattle.coord_replica.specs.Laws.{NeverFall}
+use Rattle.coord_replica.specs.Replicas.{LogState}
+use Rattle.coord_replica.proofs.Refusals.{IsDue-from_refusal_of, leadership_due-rises}
+
+-- each number is at least the one before it, and the first at least n
+abbrev RisesFrom : ℕ → List ℕ → Type 0
+RisesFrom n [] = Unit {0}
+RisesFrom n (x ∷ xs) = (n ≤ x) × RisesFrom x xs
+
+RisesFrom-least : (n k d : ℕ) (xs : List ℕ) → RisesFrom n xs → k < length xs → n ≤ get_or xs k d
+RisesFrom-least n k d [] rises within = absurd (omega arith)
+RisesFrom-least n zero d (x ∷ xs) rises within = rises.0
+RisesFrom-least n (suc k) d (x ∷ xs) rises within =
+    let further : k < length xs = omega arith in let rest = RisesFrom-least x k d xs rises.1 further in let first : n ≤ x = rises.0 in omega arith
+
+in_order : (n i j d : ℕ) (xs : List ℕ) → RisesFrom n xs → i ≤ j → j < length xs → get_or xs i d ≤ get_or xs j d
+in_order n i j d [] rises le within = absurd (omega arith)
+in_order n zero zero d (x ∷ xs) rises le within = omega arith
+in_order n zero (suc j) d (x ∷ xs) rises le within = let further : j < length xs = omega arith in RisesFrom-least x j d xs rises.1 further
+in_order n (suc i) zero d (x ∷ xs) rises le within = absurd (omega arith)
+in_order n (suc i) (suc j) d (x ∷ xs) rises le within =
+    let le' : i ≤ j = omega arith in let further : j < length xs = omega arith in in_order x i j d xs rises.1 le' further
+
+IsNonDecreasing-from_rises : (n : ℕ) (xs : List ℕ) → RisesFrom n xs → IsNonDecreasing xs
+IsNonDecreasing-from_rises n xs rises = λ i j d le within. in_order n i j d xs rises le within
+
+RisesFrom-front : (n : ℕ) (m : Option ℕ) (xs : List ℕ) → n ≤ unwrap_or m n → RisesFrom (unwrap_or m n) xs → RisesFrom n (cons_option m xs)
+RisesFrom-front n None xs le rises = rises
+RisesFrom-front n (Some m) xs le rises = (le, rises)
+
+leaderships_rise : (s t : LogState) (entries : List EntryValue) (answers : List (Option Answer))
+    → LogRun s entries answers t → RisesFrom s.leadership (leaderships_of entries)
+leaderships_rise s t [] answers run = tt
+leaderships_rise s t (e ∷ es) [] run = absurd run
+leaderships_rise s t (e ∷ es) (a ∷ answers) run =
+    let due = IsDue-from_refusal_of s e run.1.taken in
+    let least = leadership_due-rises s.leadership e.content in
+    let is : e.leadership ≡ leadership_due s.leadership e.content = due.leadership in
+    (omega arith, subst (λ (n : ℕ). RisesFrom n (leaderships_of es)) run.1.leadership (leaderships_rise run.0 t es answers run.2))
+
+moments_rise : (s t : LogState) (entries : List EntryValue) (answers : List (Option Answer))
+    → LogRun s entries answers t → RisesFrom s.moment (moments_of entries)
+moments_rise s t [] answers run = tt
+moments_rise s t (e ∷ es) [] run = absurd run
+moments_rise s t (e ∷ es) (a ∷ answers) run =
+    let due = IsDue-from_refusal_of s e run.1.taken in
+    RisesFrom-front s.moment (moment_in e.content) (moments_of es) due.moment
+    (subst (λ (n : ℕ). RisesFrom n (moments_of es)) run.1.moment (moments_rise run.0 t es answers run.2))
+
+pub logs_never_fall : (s : LogState) (entries : List EntryValue) (answers : List (Option Answer)) (t : LogState) → LogRun s entries answers t → NeverFall entries
+logs_never_fall s entries answers t run =
+    record {
+      leaderships = IsNonDecreasing-from_rises s.leadership (leaderships_of entries) (leaderships_rise s t entries answers run);
+      moments = IsNonDecreasing-from_rises s.moment (moments_of entries) (moments_rise s t entries answers run);
+    }

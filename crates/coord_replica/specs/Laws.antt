@@ -1,0 +1,74 @@
+-- What holds of every run over a log, and after every history of replicas (ours).
+use Rattle.std.specs.Prelude.{◌≡◌, ℕ, ◌<◌, ◌≤◌, ◌^◌, List, [], ◌∷◌, length, Contains, Option, None, IfSome}
+use Rattle.std.specs.List.Sorted.{IsNonDecreasing}
+use Rattle.coord_node.specs.Coordinator.{Answer, opening}
+use Rattle.coord_node.specs.Steps.{Run}
+use Rattle.replica_entries.specs.Values.{EntryValue}
+use Rattle.coord_replica.specs.Applying.{LogRun, answers_given, refusal_of}
+use Rattle.coord_replica.specs.Entries.{events_of, leaderships_of, moment_in, moments_of, stamp_under}
+use Rattle.coord_replica.specs.Histories.{Act, Cluster, FollowsLog, Given, History, IsAnswerAt, cluster_opening}
+use Rattle.coord_replica.specs.Proposing.{IsAboveEarlier, Proposes}
+use Rattle.coord_replica.specs.Replicas.{LogState, ReplicaState, log_opening}
+
+-- what the coordinator's run says of the entries that were applied
+pub record IsRunOf (salt : ℕ) (entries : List EntryValue) (answers : List (Option Answer)) (s : LogState) : Type 0 where
+  pub run : Run (opening salt) (events_of entries) (answers_given answers) s.coordinator
+  pub applied : s.applied ≡ length entries
+
+-- a replica that applied a list of entries since its opening has the state, and gave the answers, of the coordinator's run over their
+-- events
+abbrev pub ReplicasAreRuns : Type 0
+ReplicasAreRuns =
+    (salt : ℕ) (entries : List EntryValue) (answers : List (Option Answer)) (s : LogState)
+    → LogRun (log_opening salt) entries answers s → IsRunOf salt entries answers s
+
+-- replicas that applied the same entries are the same, and gave the same answers
+abbrev pub SameEntriesSameReplica : Type 0
+SameEntriesSameReplica =
+    (s : LogState) (entries : List EntryValue) (a b : List (Option Answer)) (t u : LogState)
+    → LogRun s entries a t → LogRun s entries b u → (a ≡ b) × (t ≡ u)
+
+-- a stamp is above all stamps of earlier leaderships
+abbrev pub StampsRise : Type 0
+StampsRise = (leadership connection number : ℕ) → IsAboveEarlier leadership (stamp_under leadership connection number)
+
+-- along a log no leadership falls, and no moment
+pub record NeverFall (entries : List EntryValue) : Type 0 where
+  pub leaderships : IsNonDecreasing (leaderships_of entries)
+  pub moments : IsNonDecreasing (moments_of entries)
+
+abbrev pub LogsNeverFall : Type 0
+LogsNeverFall = (s : LogState) (entries : List EntryValue) (answers : List (Option Answer)) (t : LogState) → LogRun s entries answers t → NeverFall entries
+
+-- what a leader proposed is the next entry of every log of its leadership that has come no further in time
+abbrev pub ProposalsAreTaken : Type 0
+ProposalsAreTaken =
+    (r new : ReplicaState) (e : EntryValue) (s : LogState)
+    → Proposes r e new → s.leadership ≡ e.leadership → IfSome (moment_in e.content) (λ moment. s.moment ≤ moment)
+    → refusal_of s e ≡ None
+
+-- ---- over failovers
+
+-- whatever leaders come and go, and whatever is proposed and lost: what a replica has is what a beginning of the log comes to
+abbrev pub ReplicasFollowTheLog : Type 0
+ReplicasFollowTheLog =
+    (salt : ℕ) (acts : List Act) (c : Cluster) → History (cluster_opening salt) acts c
+    → (number : ℕ) → FollowsLog (log_opening salt) c.log (c.replicas number).log
+
+-- .. so replicas that have come to one place are the same: one that leads from there on has all groups as the former leader left them
+abbrev pub OneStateAPlace : Type 0
+OneStateAPlace =
+    (salt : ℕ) (acts : List Act) (c : Cluster) → History (cluster_opening salt) acts c
+    → (one other : ℕ) → (c.replicas one).log.applied ≡ (c.replicas other).log.applied → (c.replicas one).log ≡ (c.replicas other).log
+
+-- .. every answer that any replica gave for a place of the log is the one that the run over the log gives there
+abbrev pub AnswersAreTheLogs : Type 0
+AnswersAreTheLogs =
+    (salt : ℕ) (acts : List Act) (c : Cluster) → History (cluster_opening salt) acts c
+    → (given : Given) → Contains c.given given → IsAnswerAt (log_opening salt) c.log given.place given.answer
+
+-- .. and so no two replicas ever give different answers to one entry
+abbrev pub OneAnswerAPlace : Type 0
+OneAnswerAPlace =
+    (salt : ℕ) (acts : List Act) (c : Cluster) → History (cluster_opening salt) acts c
+    → (one other : Given) → Contains c.given one → Contains c.given other → one.place ≡ other.place → one.answer ≡ other.answer

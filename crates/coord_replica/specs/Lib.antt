@@ -1,0 +1,9 @@
+pub mod Replicas
+pub mod Stored
+pub mod ReplicaView
+pub mod Faults
+pub mod Entries
+pub mod Applying
+pub mod Proposing
+pub mod Histories
+pub mod Laws

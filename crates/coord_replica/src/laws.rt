@@ -1,0 +1,59 @@
+//! Laws of logs and replicas, proved where nothing runs.
+ghost use Rattle.coord_replica.specs.Laws.{AnswersAreTheLogs, LogsNeverFall, OneAnswerAPlace, OneStateAPlace, ProposalsAreTaken, ReplicasAreRuns};
+ghost use Rattle.coord_replica.specs.Laws.{ReplicasFollowTheLog, SameEntriesSameReplica, StampsRise};
+
+use coord_node::one_answer;
+
+/// A replica that applied a list of entries since its opening has the state, and gave the answers, of the coordinator's run over their
+/// events.
+pub fn replicas_are_runs()
+    ensures { ReplicasAreRuns }
+{}
+
+/// Replicas that applied the same entries are the same, and gave the same answers.
+pub fn same_entries_same_replica()
+    ensures { SameEntriesSameReplica }
+{
+    one_answer();
+}
+
+/// A stamp is above all stamps of earlier leaderships.
+pub fn stamps_rise_over_leaderships()
+    ensures { StampsRise }
+{}
+
+/// Along a log no leadership falls, and no moment.
+pub fn logs_never_fall()
+    ensures { LogsNeverFall }
+{}
+
+/// What a leader proposed is the next entry of every log of its leadership that has come no further in time: it is not refused.
+pub fn proposals_are_taken()
+    ensures { ProposalsAreTaken }
+{}
+
+/// Whatever leaders come and go, and whatever is proposed and lost: what a replica has is what a beginning of the log comes to.
+pub fn replicas_follow_the_log()
+    ensures { ReplicasFollowTheLog }
+{}
+
+/// Whatever leaders come and go, replicas that have come to one place are the same: one that leads from there on has all groups as the
+/// former leader left them.
+pub fn replicas_at_a_place_are_the_same()
+    ensures { OneStateAPlace }
+{
+    one_answer();
+}
+
+/// Whatever leaders come and go, every answer that any replica gave for a place of the log is the one that the run over the log gives
+/// there.
+pub fn answers_are_the_logs()
+    ensures { AnswersAreTheLogs }
+{}
+
+/// Whatever leaders come and go, no two replicas ever give different answers to one entry.
+pub fn one_answer_a_place()
+    ensures { OneAnswerAPlace }
+{
+    one_answer();
+}

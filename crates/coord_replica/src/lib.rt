@@ -1,0 +1,25 @@
+//! A replica: a coordinator that applies the entries of a replicated log, so that its groups outlive the machine.
+//!
+//! Whatever leaders come and go, and whatever entries are proposed and lost, every reply that any replica gave for a place of the log
+//! is the one that the run over the log gives there. What is believed is that the log is one list, of which each replica applies a
+//! beginning. Start from [`Replica`] with [`Replica::propose`] and [`Replica::apply`]; `specs/Histories.antt` has the histories.
+#![tactic(auto)]
+
+mod applied;
+mod applying;
+mod fault;
+mod laws;
+mod leading;
+mod proposing;
+mod replica;
+
+pub use applied::Applied;
+pub use coord_node::{Answered, Moment, Node};
+pub use fault::ReplicaFault;
+pub use laws::{
+    answers_are_the_logs, logs_never_fall, one_answer_a_place, proposals_are_taken,
+    replicas_are_runs, replicas_at_a_place_are_the_same, replicas_follow_the_log,
+    same_entries_same_replica, stamps_rise_over_leaderships,
+};
+pub use leading::Leading;
+pub use replica::Replica;

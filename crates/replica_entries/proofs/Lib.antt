@@ -1,0 +1,4 @@
+pub mod GivesLaws
+pub mod TopicLaws
+pub mod EntryLaws
+pub mod SpellingLaws

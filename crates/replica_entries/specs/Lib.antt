@@ -1,0 +1,10 @@
+pub mod Kinds
+pub mod Values
+pub mod Spelling
+pub mod Faults
+pub mod Reading
+pub mod Heads
+pub mod Views
+pub mod Misfits
+pub mod Writing
+pub mod Laws
