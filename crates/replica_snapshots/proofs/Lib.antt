@@ -1,0 +1,5 @@
+pub mod Begins
+pub mod FieldLaws
+pub mod GroupLaws
+pub mod Puts
+pub mod Told

@@ -1,0 +1,54 @@
+-- A node's spelling: its head, and then its groups under their names, in the order of their making (ours).
+use Rattle.std.specs.Prelude.{ℕ, ℤ, pos, List, [], ◌∷◌, ◌++◌, length, All}
+use Rattle.std.specs.List.{flat_map}
+use Rattle.std.specs.FinMap as finite
+use Rattle.flex_wire.specs.Spelling.{int16, array_count, FitsCount}
+use Rattle.flex_wire.specs.Composed.{array, FitsArray}
+use Rattle.kip_msgs.specs.Spelling.{fields}
+use Rattle.group_types.specs.Topics.{Topics}
+use Rattle.replica_snapshots.specs.Spelling.{number64, FitsNumber, topic_fields, FitsTopic}
+use Rattle.replica_snapshots.specs.Groups.{Named, named_fields, FitsNamed}
+
+-- the version in which nodes are spelled
+abbrev pub VERSION : ℤ
+VERSION = pos 0
+
+-- what stands in front of a node's groups: its salt, its image, and how many groups follow
+pub record HeadValue : Type 0 where
+  pub salt : ℕ
+  pub image : Topics
+  pub groups : ℕ
+
+abbrev pub head_with : ℕ → Topics → ℕ → HeadValue
+head_with salt image groups = record { salt = salt; image = image; groups = groups }
+
+-- The head of a node.
+unfoldable pub head_fields : HeadValue → List ℕ
+head_fields h = fields (
+    int16 VERSION
+    ∷ number64 h.salt
+    ∷ array topic_fields (finite.entries h.image)
+    ∷ array_count h.groups
+    ∷ [])
+
+pub record FitsHead (h : HeadValue) : Type 0 where
+  pub salt : FitsNumber h.salt
+  pub image : FitsArray FitsTopic (finite.entries h.image)
+  pub groups : FitsCount h.groups
+
+-- a node: its salt, its image, and its groups in the order of their making
+pub record NodeValue : Type 0 where
+  pub salt : ℕ
+  pub image : Topics
+  pub groups : List Named
+
+abbrev pub head_of : NodeValue → HeadValue
+head_of n = head_with n.salt n.image (length n.groups)
+
+-- A node: its head, and its groups.
+abbrev pub node_fields : NodeValue → List ℕ
+node_fields n = head_fields (head_of n) ++ flat_map named_fields n.groups
+
+pub record FitsNode (n : NodeValue) : Type 0 where
+  pub head : FitsHead (head_of n)
+  pub groups : All FitsNamed n.groups

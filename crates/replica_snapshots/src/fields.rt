@@ -1,0 +1,211 @@
+//! The fields of a snapshot, written at the end of a `Vec`. What is too long for its field is refused.
+
+ghost use Rattle.std.specs.Prelude.{pos, length, true, false, All, FitsSigned, IfSome};
+ghost use Rattle.std.specs.Int.{w32, w64};
+ghost use Rattle.std.specs.List.{flat_map};
+ghost use Rattle.std.specs.Option.{option_copied};
+ghost use Rattle.flex_wire.specs.Spelling.{array_count, compact_string, int32, int64, mark, uuid, FitsCount, FitsText, FitsUuid};
+ghost use Rattle.group_types.specs.Sets.{in_order};
+ghost use Rattle.replica_snapshots.specs.Spelling.{number64, FitsNumber, epoch_field, FitsEpoch, optional, stamp_fields, FitsStamp, partition_fields, FitsPartition, partitions_field, FitsPartitions, names_field, FitsNames};
+ghost use Rattle.replica_snapshots.specs.Writing.{PutsUpTo};
+
+use crate::fault::SnapshotFault;
+use flex_wire::{LONGEST_STRING, put_compact_str, put_count, put_i32, put_i64, put_mark, put_uuid};
+use group_types::{EpochNumber, Moment, NameSet, PartSet, Partition, Stamp};
+use uuid::Uuid;
+
+/// An unsigned number of 64 bits.
+#[tactic(auto, unfolding(crate::specs::Spelling::number64))]
+pub fn put_number(out: &mut Vec<u8>, number: u64) -> Result<(), SnapshotFault>
+    ensures { PutsUpTo result out.old.items out.new.items (FitsNumber number) (number64 number) }
+{
+    let bytes: [u8; 8] = number.to_be_bytes();
+    out.extend_from_slice(&bytes)?;
+    Ok(())
+}
+
+/// The number of an epoch.
+pub fn put_epoch(out: &mut Vec<u8>, epoch: EpochNumber) -> Result<(), SnapshotFault>
+    ensures { PutsUpTo result out.old.items out.new.items (FitsEpoch epoch) (epoch_field epoch) }
+{
+    let _ = epoch.as_u32();
+    put_i32(out, epoch.as_i32())?;
+    Ok(())
+}
+
+/// An INT32.
+pub fn put_int32(out: &mut Vec<u8>, number: i32) -> Result<(), SnapshotFault>
+    ensures { PutsUpTo result out.old.items out.new.items (FitsSigned w32 number) (int32 number) }
+{
+    put_i32(out, number)?;
+    Ok(())
+}
+
+/// An INT64.
+pub fn put_int64(out: &mut Vec<u8>, number: i64) -> Result<(), SnapshotFault>
+    ensures { PutsUpTo result out.old.items out.new.items (FitsSigned w64 number) (int64 number) }
+{
+    put_i64(out, number)?;
+    Ok(())
+}
+
+/// A number of milliseconds.
+pub fn put_millis(out: &mut Vec<u8>, millis: u32) -> Result<(), SnapshotFault>
+    ensures { PutsUpTo result out.old.items out.new.items (FitsNumber millis) (number64 millis) }
+{
+    put_number(out, u64::from(millis))
+}
+
+/// A UUID.
+pub fn put_id(out: &mut Vec<u8>, id: &Uuid) -> Result<(), SnapshotFault>
+    ensures { PutsUpTo result out.old.items out.new.items (FitsUuid id.now) (uuid id.now) }
+{
+    // so that the id is known to have sixteen bytes
+    let _bytes: &[u8] = id.as_bytes();
+    put_uuid(out, id)?;
+    Ok(())
+}
+
+/// A text.
+pub fn put_text(out: &mut Vec<u8>, text: &str) -> Result<(), SnapshotFault>
+    ensures { PutsUpTo result out.old.items out.new.items (FitsText text.now) (compact_string text.now) }
+{
+    if LONGEST_STRING < text.len() {
+        return Err(SnapshotFault::TooLong);
+    }
+    put_compact_str(out, text)?;
+    Ok(())
+}
+
+/// The number of elements that an array begins with.
+pub fn put_size(out: &mut Vec<u8>, size: usize) -> Result<(), SnapshotFault>
+    ensures { PutsUpTo result out.old.items out.new.items (FitsCount size) (array_count size) }
+{
+    if 0xffff_ffff <= size {
+        return Err(SnapshotFault::TooLong);
+    }
+    put_count(out, size as u32)?;
+    Ok(())
+}
+
+#[tactic(auto, unfolding(crate::specs::Spelling::stamp_fields))]
+pub fn put_stamp(out: &mut Vec<u8>, stamp: Stamp) -> Result<(), SnapshotFault>
+    ensures { PutsUpTo result out.old.items out.new.items (FitsStamp stamp) (stamp_fields stamp) }
+{
+    put_number(out, stamp.connection)?;
+    put_number(out, stamp.frame)
+}
+
+#[tactic(auto, unfolding(crate::specs::Spelling::partition_fields))]
+pub fn put_partition(out: &mut Vec<u8>, p: &Partition) -> Result<(), SnapshotFault>
+    ensures { PutsUpTo result out.old.items out.new.items (FitsPartition p.now) (partition_fields p.now) }
+{
+    put_id(out, &p.topic)?;
+    put_int32(out, p.index)
+}
+
+/// A set of partitions, rising.
+pub fn put_partitions(out: &mut Vec<u8>, set: &PartSet) -> Result<(), SnapshotFault>
+    ensures { PutsUpTo result out.old.items out.new.items (FitsPartitions set.now) (partitions_field set.now) }
+{
+    put_size(out, set.len())?;
+    put_each_partition(out, set)
+}
+
+fn put_each_partition(out: &mut Vec<u8>, set: &PartSet) -> Result<(), SnapshotFault>
+    ensures { PutsUpTo result out.old.items out.new.items (All FitsPartition (in_order set.now)) (flat_map partition_fields (in_order set.now)) }
+{
+    for p in set.iter() {
+        put_partition(out, p)?;
+    }
+    Ok(())
+}
+
+/// A set of names, rising.
+pub fn put_names(out: &mut Vec<u8>, names: &NameSet) -> Result<(), SnapshotFault>
+    ensures { PutsUpTo result out.old.items out.new.items (FitsNames names.now) (names_field names.now) }
+{
+    put_size(out, names.len())?;
+    put_each_name(out, names)
+}
+
+fn put_each_name(out: &mut Vec<u8>, names: &NameSet) -> Result<(), SnapshotFault>
+    ensures { PutsUpTo result out.old.items out.new.items (All FitsText (in_order names.now)) (flat_map compact_string (in_order names.now)) }
+{
+    for name in names.iter() {
+        put_text(out, name.as_str())?;
+    }
+    Ok(())
+}
+
+// ---- what may be missing
+
+pub fn put_optional_text(out: &mut Vec<u8>, text: Option<&str>) -> Result<(), SnapshotFault>
+    ensures { PutsUpTo result out.old.items out.new.items (IfSome (option_copied text.entry) FitsText) (optional compact_string (option_copied text.entry)) }
+{
+    match text {
+        None => put_absent(out),
+        Some(text) => {
+            put_present(out)?;
+            put_text(out, text)
+        }
+    }
+}
+
+pub fn put_optional_epoch(
+    out: &mut Vec<u8>,
+    epoch: Option<EpochNumber>,
+) -> Result<(), SnapshotFault>
+    ensures { PutsUpTo result out.old.items out.new.items (IfSome epoch FitsEpoch) (optional epoch_field epoch) }
+{
+    match epoch {
+        None => put_absent(out),
+        Some(epoch) => {
+            put_present(out)?;
+            put_epoch(out, epoch)
+        }
+    }
+}
+
+pub fn put_optional_partitions(
+    out: &mut Vec<u8>,
+    set: Option<&PartSet>,
+) -> Result<(), SnapshotFault>
+    ensures { PutsUpTo result out.old.items out.new.items (IfSome (option_copied set.entry) FitsPartitions) (optional partitions_field (option_copied set.entry)) }
+{
+    match set {
+        None => put_absent(out),
+        Some(set) => {
+            put_present(out)?;
+            put_partitions(out, set)
+        }
+    }
+}
+
+pub fn put_optional_moment(out: &mut Vec<u8>, moment: Option<Moment>) -> Result<(), SnapshotFault>
+    ensures { PutsUpTo result out.old.items out.new.items (IfSome moment FitsNumber) (optional number64 moment) }
+{
+    match moment {
+        None => put_absent(out),
+        Some(moment) => {
+            put_present(out)?;
+            put_number(out, moment.millis())
+        }
+    }
+}
+
+/// That a value is missing.
+pub fn put_absent(out: &mut Vec<u8>) -> Result<(), SnapshotFault>
+    ensures { PutsUpTo result out.old.items out.new.items (Unit {0}) (mark false) }
+{
+    put_mark(out, false)?;
+    Ok(())
+}
+
+/// That a value follows.
+pub fn put_present(out: &mut Vec<u8>) -> Result<(), SnapshotFault>
+    ensures { PutsUpTo result out.old.items out.new.items (Unit {0}) (mark true) }
+{
+    put_mark(out, true)?;
+    Ok(())
+}

@@ -1,0 +1,120 @@
+//! A group under its name, written and read.
+
+ghost use Rattle.std.specs.Prelude.{◌≡◌, ◌++◌, ℕ, List, IfOk};
+ghost use Rattle.replica_snapshots.specs.Spelling.{parts_fields, FitsParts};
+ghost use Rattle.replica_snapshots.specs.Groups.{numbers_of, parts_of, group_fields, FitsGroup, Named, named_fields, FitsNamed};
+ghost use Rattle.replica_snapshots.specs.Views.{held_of, named_of};
+ghost use Rattle.replica_snapshots.specs.Writing.{Puts, PutsUpTo};
+
+use crate::cursor::Cursor;
+use crate::fault::SnapshotFault;
+use crate::fields::put_text;
+use crate::numbers::{Numbers, put_numbers};
+use crate::parts::put_lists;
+use crate::reading::group_of;
+use crate::rewriting::behind;
+use group_core::Group;
+use std::alloc::Global;
+use std::collections::hash_map::RandomState;
+
+/// A group that was read, and its name.
+#[derive(Drop)]
+pub struct ReadGroup<'a> {
+    pub name: &'a str,
+    pub group: Group,
+}
+
+/// Appends the one spelling of a group under its name.
+///
+/// Refused, with no byte changed: `TooLong` only where a text has over 32,767 bytes, or where there is more of something than
+/// a count can say; `NoMemory`.
+pub fn put_group(out: &mut Vec<u8>, name: &str, group: &Group) -> Result<(), SnapshotFault>
+    ensures { let g : Named = (name.now, held_of group.now) in
+        Puts result out.old.items out.new.items (FitsNamed g) (named_fields g) }
+{
+    let before = out.len();
+    let done = named_up_to(out, name, group);
+    if done.is_err() {
+        out.truncate(before);
+    }
+    done
+}
+
+fn named_up_to(out: &mut Vec<u8>, name: &str, group: &Group) -> Result<(), SnapshotFault>
+    ensures { let g : Named = (name.now, held_of group.now) in
+        PutsUpTo result out.old.items out.new.items (FitsNamed g) (named_fields g) }
+{
+    put_text(out, name)?;
+    group_up_to(out, group)
+}
+
+fn group_up_to(out: &mut Vec<u8>, group: &Group) -> Result<(), SnapshotFault>
+    ensures { PutsUpTo result out.old.items out.new.items (FitsGroup (held_of group.now)) (group_fields (held_of group.now)) }
+{
+    // so that the group is known to be sound, its grants to be those of its holders, and its serial to be above 0
+    let (_, _, _) = (group.epoch(), group.grants(), group.ids_made());
+    parts_up_to(out, group)
+}
+
+#[tactic(auto, unfolding(crate::specs::Spelling::parts_fields))]
+fn parts_up_to(out: &mut Vec<u8>, group: &Group) -> Result<(), SnapshotFault>
+    ensures { let g = parts_of (held_of group.now) in
+        PutsUpTo result out.old.items out.new.items (FitsParts g) (parts_fields g) }
+{
+    put_numbers(out, &numbers_of(group))?;
+    put_lists(
+        out,
+        group.view(),
+        group.records(),
+        group.grants(),
+        group.target(),
+        group.offsets(),
+    )
+}
+
+/// The numbers of a group.
+fn numbers_of(group: &Group) -> Numbers
+    ensures { result ≡ numbers_of group.now.state }
+{
+    Numbers {
+        salt: group.salt(),
+        epoch: group.epoch(),
+        target_epoch: group.target().epoch(),
+        clock: group.clock(),
+        ids_made: group.ids_made(),
+    }
+}
+
+/// Reads a group under its name from the front of bytes, and gives the bytes behind it: the one group that they begin with, or
+/// a fault. Whatever the bytes are, the group is sound. That a group that was written is refused only for want of memory isn't
+/// proved.
+pub fn read_group<'a>(
+    alloc: Global,
+    hasher: RandomState,
+    bytes: &'a [u8],
+) -> Result<(ReadGroup<'a>, &'a [u8]), SnapshotFault>
+    ensures found { IfOk result (λ x. FitsNamed (named_of x.0) × (bytes.now ≡ named_fields (named_of x.0) ++ x.1.now)) }
+    ensures only { (g : Named) (rest : List ℕ) → FitsNamed g → bytes.now ≡ named_fields g ++ rest
+        → IfOk result (λ x. (named_of x.0 ≡ g) × (x.1.now ≡ rest)) }
+{
+    read_again(alloc, hasher, bytes)
+}
+
+/// The fields are read, a group is built of them, and it is taken only where it is spelled just as the bytes are.
+fn read_again<'a>(
+    alloc: Global,
+    hasher: RandomState,
+    bytes: &'a [u8],
+) -> Result<(ReadGroup<'a>, &'a [u8]), SnapshotFault>
+    ensures { IfOk result (λ x. FitsNamed (named_of x.0) × (bytes.now ≡ named_fields (named_of x.0) ++ x.1.now)) }
+{
+    let mut cursor = Cursor::new(alloc, bytes);
+    let name = cursor.text()?;
+    let group = group_of(alloc, hasher, &mut cursor)?;
+    let mut again = Vec::with_capacity(alloc, cursor.place())?;
+    put_group(&mut again, name, &group)?;
+    match behind(bytes, &again) {
+        Ok(rest) => Ok((ReadGroup { name, group }, rest)),
+        Err(fault) => Err(fault),
+    }
+}
