@@ -1,5 +1,5 @@
 -- What is kept beside a member stays true of it.
-use Rattle.std.proofs.Common.{◌≡◌, ℕ, suc, ◌+◌, Bool, true, false, List, [], drop, length, Option, Some, None, unwrap_or, ◌≤◌, Result, Ok, Err, if◌then◌else◌, refl, sym, ap, subst, ◌∙◌, arith}
+use Rattle.std.proofs.Common.{◌≡◌, ℕ, suc, ◌+◌, Bool, true, false, List, [], drop, length, Option, Some, None, unwrap_or, ◌≤◌, Result, Ok, Err, if◌then◌else◌, is_some, refl, sym, ap, subst, ◌∙◌, arith}
 use Rattle.kip_msgs.specs.Values.{CommitRequestTopicValue}
 use Rattle.kip_msgs.specs.Spelling.{SpellsRequest}
 use Rattle.group_types.specs.Text.{Text}
@@ -82,6 +82,7 @@ still a s is like =
     record {
       group = is.group ∙ ap (λ settings. settings.group) (sym like.settings);
       number = is.number ∙ sym like.number;
+      instance = is.instance ∙ ap (λ settings. is_some settings.instance) (sym like.settings);
     }
 
 pub like_of : (s t : Standing) (new : Client) → s ≡ t → IsLike (client_of s) new → IsLike (client_of t) new
@@ -102,6 +103,7 @@ one_more_number a s ask frame is sends =
     record {
       group = is.group ∙ ap (λ settings. settings.group) (sym (asked_settings c ask)) ∙ ap (λ (x : Client). x.settings.group) (sym sends.asks.after);
       number = omega (arith, number, was);
+      instance = is.instance ∙ ap (λ settings. is_some settings.instance) (sym (asked_settings c ask)) ∙ ap (λ (x : Client). is_some x.settings.instance) (sym sends.asks.after);
     }
 
 -- ---- it commits

@@ -67,3 +67,6 @@ pub mod SomeOutcome
 pub mod NewWorlds
 pub mod LiveActs
 pub mod LiveRuns
+pub mod SettlingEnds
+pub mod BroughtAgain
+pub mod GroupSteps

@@ -25,17 +25,17 @@ use Rattle.world_sim.proofs.TwoNewcomers.{One, OneTopic, Two, name_fits}
 -- ---- what is said
 
 -- the first one's beats: it reports its partition once, and is told the target's epoch from then on
-abbrev OneFirst : Exchange
+abbrev pub OneFirst : Exchange
 OneFirst = beat_in One 2 1 true 0 false
 
-abbrev OneSecond : Exchange
+abbrev pub OneSecond : Exchange
 OneSecond = beat_in One 3 1 false 1 false
 
 abbrev OneThird : Exchange
 OneThird = beat_in One 4 2 false 1 false
 
 -- the second one's
-abbrev TwoAt : ℕ → Exchange
+abbrev pub TwoAt : ℕ → Exchange
 TwoAt number = beat_in Two number 2 true 1 true
 
 beats_fit : IsSized One OneFirst × IsSized One OneSecond × IsSized One OneThird × IsSized Two (TwoAt 2) × IsSized Two (TwoAt 3) × IsSized Two (TwoAt 4)
@@ -72,10 +72,10 @@ two_says number few sized = says Two number 2 true 1 true name_fits.1 refl few (
 -- ---- the group
 
 -- what is kept of the first one: asked to release, at the target's epoch, and still there
-abbrev OneAsked : Record
+abbrev pub OneAsked : Record
 OneAsked = told One 2 1 0 (Some 60000) (set_of One false)
 
-abbrev OneArrived : Record
+abbrev pub OneArrived : Record
 OneArrived = told One 3 2 1 None (set_of One false)
 
 abbrev OneStays : Record
@@ -85,13 +85,13 @@ abbrev TwoStays : ℕ → Record
 TwoStays frame = told Two frame 2 0 None (set_of Two true)
 
 -- the records and the grants after a number of beats, in which each name ends
-abbrev Records1 : Records
+abbrev pub Records1 : Records
 Records1 = finite.insert FIRST_RECORDS (id_of One) OneAsked
 
-abbrev Records2 : Records
+abbrev pub Records2 : Records
 Records2 = finite.insert Records1 (id_of Two) (TwoStays 2)
 
-abbrev Records3 : Records
+abbrev pub Records3 : Records
 Records3 = finite.insert Records2 (id_of One) OneArrived
 
 abbrev Records4 : Records
@@ -109,10 +109,10 @@ by_one grants = moved grants (id_of One) OneWanted
 abbrev by_two : Grants → Grants
 by_two grants = moved grants (id_of Two) TwoWanted
 
-abbrev Grants2 : Grants
+abbrev pub Grants2 : Grants
 Grants2 = by_two FIRST_GRANTS
 
-abbrev Grants3 : Grants
+abbrev pub Grants3 : Grants
 Grants3 = by_one Grants2
 
 abbrev Grants4 : Grants
@@ -124,13 +124,13 @@ Grants5 = by_one Grants4
 abbrev Grants6 : Grants
 Grants6 = by_two Grants5
 
-stands1 : Stands Records1 FIRST_GRANTS OneAsked (kept_of Two)
+pub stands1 : Stands Records1 FIRST_GRANTS OneAsked (kept_of Two)
 stands1 = one_changes FIRST_RECORDS FIRST_GRANTS FIRST_GRANTS (kept_of One) (kept_of Two) OneAsked stands_first refl stands_first.twos
 
-stands2 : Stands Records2 Grants2 OneAsked (TwoStays 2)
+pub stands2 : Stands Records2 Grants2 OneAsked (TwoStays 2)
 stands2 = two_changes Records1 FIRST_GRANTS Grants2 OneAsked (kept_of Two) (TwoStays 2) stands1 refl (two_moves FIRST_GRANTS stands1.twos)
 
-stands3 : Stands Records3 Grants3 OneArrived (TwoStays 2)
+pub stands3 : Stands Records3 Grants3 OneArrived (TwoStays 2)
 stands3 = one_changes Records2 Grants2 Grants3 OneAsked (TwoStays 2) OneArrived stands2 refl (one_moves Grants2 stands2.twos)
 
 stands4 : Stands Records4 Grants4 OneArrived (TwoStays 3)
@@ -139,18 +139,18 @@ stands4 = two_changes Records3 Grants3 Grants4 OneArrived (TwoStays 2) (TwoStays
 stands5 : Stands Records5 Grants5 OneStays (TwoStays 3)
 stands5 = one_changes Records4 Grants4 Grants5 OneArrived (TwoStays 3) OneStays stands4 refl (one_moves Grants4 stands4.twos)
 
-abbrev arriving : Newcomer → Exchange → Arrival
+abbrev pub arriving : Newcomer → Exchange → Arrival
 arriving x e = record { heartbeat = heartbeat_in x e; stamp = stamp_at x e.number; moment = 0; image = OneTopic }
 
-step1 : HeartbeatStep (in_rounds FIRST_RECORDS FIRST_GRANTS) (arriving One OneFirst) (Replied (reply_in One OneFirst)) (in_rounds Records1 FIRST_GRANTS)
+pub step1 : HeartbeatStep (in_rounds FIRST_RECORDS FIRST_GRANTS) (arriving One OneFirst) (Replied (reply_in One OneFirst)) (in_rounds Records1 FIRST_GRANTS)
 step1 =
     beats One FIRST_RECORDS FIRST_GRANTS 1 0 0 None (set_of One true) true false false
     (one_can FIRST_RECORDS FIRST_GRANTS (kept_of Two) 1 0 0 None (set_of One true) true false stands_first refl one_may_not)
 
-step2 : HeartbeatStep (in_rounds Records1 FIRST_GRANTS) (arriving Two (TwoAt 2)) (Replied (reply_in Two (TwoAt 2))) (in_rounds Records2 Grants2)
+pub step2 : HeartbeatStep (in_rounds Records1 FIRST_GRANTS) (arriving Two (TwoAt 2)) (Replied (reply_in Two (TwoAt 2))) (in_rounds Records2 Grants2)
 step2 = beats Two Records1 FIRST_GRANTS 1 1 0 None (set_of Two true) true true true (two_can Records1 FIRST_GRANTS OneAsked 1 stands1 refl)
 
-step3 : HeartbeatStep (in_rounds Records2 Grants2) (arriving One OneSecond) (Replied (reply_in One OneSecond)) (in_rounds Records3 Grants3)
+pub step3 : HeartbeatStep (in_rounds Records2 Grants2) (arriving One OneSecond) (Replied (reply_in One OneSecond)) (in_rounds Records3 Grants3)
 step3 =
     beats One Records2 Grants2 2 0 0 (Some 60000) (set_of One false) false true false
     (one_can Records2 Grants2 (TwoStays 2) 2 0 0 (Some 60000) (set_of One false) false true stands2 refl (one_may Grants2))

@@ -152,7 +152,7 @@ no_tags =
       rising = λ k below. absurd (omega (arith, below));
     }
 
-one : {X : Type 0} (P : X → Type 0) (x : X) → P x → All P (x ∷ [])
+pub one : {X : Type 0} (P : X → Type 0) (x : X) → P x → All P (x ∷ [])
 one P x is zero d below = is
 one P x is (suc k) d below = absurd (omega (arith, below))
 

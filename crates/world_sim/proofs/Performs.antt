@@ -3,7 +3,7 @@ use Rattle.std.proofs.Common.{◌≡◌, ℕ, suc, Bool, true, false, List, leng
 use Rattle.group_types.specs.declared.partition.Partition.{Partition}
 use Rattle.kip_msgs.specs.Values.{CommitRequestTopicValue}
 use Rattle.member_core.specs.Client.{Client, state_of}
-use Rattle.member_core.specs.Asking.{Ask, request_for, after_giving_up}
+use Rattle.member_core.specs.Asking.{Ask, request_for, after_giving_up, may_ask}
 use Rattle.member_core.specs.Taking as taking
 use Rattle.member_core.specs.Releasing.{may_release, after_release}
 use Rattle.world_sim.specs.declared.fault.WorldFault.{WorldFault}
@@ -56,15 +56,19 @@ module _ (w : World) (n : ℕ) (c : Client) (there : numbered w.clients n ≡ So
       after : World
       after = with_sent w n new body
 
-  pub asks_not : (ask : Ask) (fault : WorldFault) → CannotAsk c ask fault → IsRefusedFor fault w (Asks n ask)
-  asks_not ask faults.NoSuchClient never = absurd never
-  asks_not ask faults.NoSuchMessage never = absurd never
-  asks_not ask faults.WrongState may =
+  pub may_not_ask : (ask : Ask) → may_ask c ask ≡ false → ActStep w (Asks n ask) (IsRefused WrongState) w
+  may_not_ask ask may =
       subst (λ (o : Option Client). AsksStep o w n ask (IsRefused WrongState) w) (sym there)
       (subst (λ b. AsksIf b c w n ask (IsRefused WrongState) w) (sym may) (refl, refl))
-  asks_not ask faults.NoMemory is = tt
-  asks_not ask faults.TooLarge is = (c, there, is.0, is.1)
-  asks_not ask faults.Forgotten never = absurd never
+
+  -- a client that may ask, and doesn't
+  pub asks_not : (ask : Ask) (fault : WorldFault) → may_ask c ask ≡ true → CannotAsk c ask fault → IsRefusedFor fault w (Asks n ask)
+  asks_not ask faults.NoSuchClient may never = absurd never
+  asks_not ask faults.NoSuchMessage may never = absurd never
+  asks_not ask faults.WrongState may may_not = may_not_ask ask may_not
+  asks_not ask faults.NoMemory may is = (c, there, may)
+  asks_not ask faults.TooLarge may is = (c, there, is.0, is.1)
+  asks_not ask faults.Forgotten may never = absurd never
 
   pub gives_up : (waits : Bool) → c.waits ≡ waits
       → ActStep w (GivesUp n) (if waits then Is (state_of (after_giving_up c)) else IsRefused WrongState) (if waits then with_client w n (after_giving_up c) else w)

@@ -1,10 +1,10 @@
 -- That a scene's acts are the world's.
 use Rattle.std.proofs.lemmas.List.{length-map}
-use Rattle.std.proofs.Common.{◌≡◌, ◌⊎◌, ℕ, suc, ◌+◌, ◌<◌, true, false, List, [], ◌∷◌, ◌++◌, length, map, slice_get, Option, Some, None, Ok, Err, Result, refl, sym, ap, ap₂, subst, ◌∙◌, add-one, length-append}
+use Rattle.std.proofs.Common.{◌≡◌, ◌⊎◌, ℕ, suc, ◌+◌, ◌<◌, true, false, List, [], ◌∷◌, ◌++◌, length, map, slice_get, Option, Some, None, unwrap_or, Ok, Err, Result, refl, sym, ap, ap₂, subst, ◌∙◌, add-one, length-append}
 use Rattle.group_types.specs.declared.partition.Partition.{Partition}
 use Rattle.group_types.specs.declared.stamp.Stamp.{Stamp}
 use Rattle.member_core.specs.Client.{Client, state_of}
-use Rattle.member_core.specs.Asking.{Ask, after_giving_up}
+use Rattle.member_core.specs.Asking.{Ask, after_giving_up, may_ask}
 use Rattle.member_core.specs.Releasing.{may_release, after_release}
 use Rattle.world_sim.specs.declared.mail.Request as mail
 use Rattle.world_sim.specs.declared.scene.Scene.{Scene}
@@ -18,6 +18,7 @@ use Rattle.world_sim.specs.Acts.{Asks, GivesUp, Release, Take, Is, IsSent, IsIgn
 use Rattle.world_sim.specs.Mail.{request_value, requests_of, replies_of, AreNamed}
 use Rattle.world_sim.specs.Scene.{scene_view}
 use Rattle.world_sim.specs.Acting.{Acted}
+use Rattle.world_sim.specs.Standing.{CannotAsk}
 use Rattle.world_sim.specs.Places.{AskedAt, ChangedAt, ShowsChange, ShowsTaken, TookAt}
 use Rattle.world_sim.proofs.MailLemmas.{nothing_there}
 use Rattle.world_sim.proofs.Performs.{asks, asks_not, gives_up, releases, takes}
@@ -59,10 +60,11 @@ module _ (s : Scene) (n place : ℕ) (is : n ≡ place + 1) where
       ap suc (length-map s.requests.items request_value) ∙ sym (counted ∙ ap length more ∙ length-append s.requests.items (q ∷ []) ∙ add-one (length s.requests.items)) in
       (IsSent (suc (length w.requests)), subst (λ (x : World). ActStep w (Asks n ask) (IsSent (suc (length w.requests))) x) (sym world) sent, ap IsSent all)
 
-  pub asked_not : (ask : Ask) (fault : WorldFault) (clients : List Client) (requests : List mail.Request) → AskedAt cs place ask (Err fault) clients → requests ≡ s.requests.items
+  pub asked_not : (me : Client) (ask : Ask) (fault : WorldFault) (clients : List Client) (requests : List mail.Request)
+      → numbered cs n ≡ Some me → may_ask me ask ≡ true → AskedAt cs place ask (Err fault) clients → requests ≡ s.requests.items
       → Acted w (Asks n ask) (Err fault) (record w { clients = clients; requests = requests_of requests; replies = replies_of requests s.replies.items })
-  asked_not ask fault clients requests (c, there, cannot, now) same = (
-    asks_not w n c (there_is c there) ask fault cannot,
+  asked_not me ask fault clients requests known may (c, there, cannot, now) same = (
+    asks_not w n me known ask fault may (subst (λ (x : Client). CannotAsk x ask fault) (ap (λ o. unwrap_or o c) (sym (there_is c there) ∙ known)) cannot),
     ap₂ (λ (xs : List Client) (qs : List mail.Request). record w { clients = xs; requests = requests_of qs; replies = replies_of qs s.replies.items }) now same,
   )
 

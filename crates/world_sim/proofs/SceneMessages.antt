@@ -8,6 +8,7 @@ use Rattle.member_core.specs.Client.{Client}
 use Rattle.member_core.specs.Asking.{header_of, heartbeat_value}
 use Rattle.member_core.specs.Committing.{may_commit_at, commit_for}
 use Rattle.member_core.specs.Refusing.{is_too_large}
+use Rattle.member_core.specs.Writing.{are_few}
 use Rattle.world_sim.specs.declared.shown.Shown.{Shown}
 use Rattle.world_sim.specs.declared.shown.Shown.TheVariants as shows
 use Rattle.world_sim.specs.declared.fault.WorldFault.{WorldFault}
@@ -20,6 +21,7 @@ use Rattle.world_sim.specs.Clients.{IsCommitOf}
 use Rattle.world_sim.specs.Passing.{Answered, AnswersOne, IsHeartbeat}
 use Rattle.world_sim.specs.Stands.{CannotCommit}
 use Rattle.world_sim.proofs.Numbered.{numbered_in}
+use Rattle.world_sim.proofs.RequestSizes.{few_if_within}
 
 pub above_false : (a b : ℕ) → b < a → nat_le a b ≡ false
 above_false a b above =
@@ -91,10 +93,16 @@ module _ (w : World) (n : ℕ) (c : Client) (there : numbered w.clients n ≡ So
   commits_not number faults.NoSuchClient is below never = absurd never
   commits_not number faults.NoSuchMessage is below never = absurd never
   commits_not number faults.WrongState is below may = refused (ap (λ b. b && nat_le (suc (length w.commits)) GREATEST_NUMBER) may)
-  commits_not number faults.NoMemory is below tt_is = tt
+  commits_not number faults.NoMemory is below (may, few) =
+      (c, there, may_both (suc (length w.commits)) may (subst (λ j. j ≤ GREATEST_NUMBER) is below), subst (λ j. are_few (commit_for c j topics) ≡ true) is few)
   commits_not number faults.TooLarge is below (may, large) =
       (c, there, may_both (suc (length w.commits)) may (subst (λ j. j ≤ GREATEST_NUMBER) is below), subst (λ j. IsTrue (is_too_large (commit_for c j topics))) is large)
   commits_not number faults.Forgotten is below never = absurd never
+
+  -- there is no memory to keep it
+  pub commits_short : (number : ℕ) (k : Commit) → number ≡ suc (length w.commits) → number ≤ GREATEST_NUMBER → IsCommitOf c number topics k → IsRefusedFor faults.NoMemory w (Commits n topics)
+  commits_short number k is below made =
+      commits_not number faults.NoMemory is below (made.may, few_if_within (commit_for c number topics) k.body made.spells.bytes made.limit)
 
 -- ---- whichever came of a delivery
 
@@ -106,6 +114,6 @@ delivered_any w n place q pooled there spelled is (Ok shown) new answers =
 delivered_any w n place q pooled there spelled is (Err faults.NoSuchClient) new never = absurd never
 delivered_any w n place q pooled there spelled is (Err faults.NoSuchMessage) new never = absurd never
 delivered_any w n place q pooled there spelled is (Err faults.WrongState) new never = absurd never
-delivered_any w n place q pooled there spelled is (Err faults.NoMemory) new same = (tt, same)
+delivered_any w n place q pooled there spelled is (Err faults.NoMemory) new same = ((q, pooled), same)
 delivered_any w n place q pooled there spelled is (Err faults.TooLarge) new never = absurd never
 delivered_any w n place q pooled there spelled is (Err faults.Forgotten) new never = absurd never

@@ -58,13 +58,13 @@ Seen = with_coordinator First Seeing
 abbrev OneAsks : World
 OneAsks = asking One (join_in One) (asked_by One) Seen
 
-abbrev OneIn : Coordinator
+abbrev pub OneIn : Coordinator
 OneIn = with_group Seeing GROUP AfterOne
 
 abbrev OneIsAnswered : World
 OneIsAnswered = answering One (join_in One) (asked_by One) OneAsks OneIn
 
-abbrev OneInside : World
+abbrev pub OneInside : World
 OneInside = taking One (join_in One) (asked_by One) OneIsAnswered
 
 -- the second one joins, over an image
@@ -129,7 +129,7 @@ one_comes =
     subst (λ (o : Option Group). HeartbeatAt o Seeing (arrival_of One TwoTopics) (group.Replied (reply_to One)) OneIn) (sym (finite.get-empty text_cmp GROUP))
     (group.Replied (reply_to One), AfterOne, one_joins, makes)
 
-of_one : finite.get OneIn.groups GROUP ≡ Some AfterOne
+pub of_one : finite.get OneIn.groups GROUP ≡ Some AfterOne
 of_one = get-inserted text_cmp_total Seeing.groups GROUP AfterOne
 
 -- ---- the first four acts
@@ -149,7 +149,7 @@ one_answers = delivers One (join_in One) one_spelled OneAsks (asked_by One) OneI
 one_is_answered : IsReached OneIsAnswered
 one_is_answered = reached_by OneAsks OneIsAnswered (Deliver 1) (IsReplied 1 (value_in One (join_in One))) one_asks one_answers
 
-one_inside : IsReached OneInside
+pub one_inside : IsReached OneInside
 one_inside =
     reached_by OneIsAnswered OneInside (Take 1) (Is (state_of (inside_of One))) one_is_answered (takes One (join_in One) one_spelled OneIsAnswered (asked_by One) 1 refl refl refl refl)
 
@@ -167,7 +167,7 @@ one_has_record =
 is_shown : (x : Newcomer) → has (shown_to x) (partition_of x) ≡ true
 is_shown x = has-of_list partition_cmp_total (partition_of x ∷ []) (partition_of x) ∙ ap (λ b. b || false) ((eq_by_cmp_equiv partition_cmp_total).refl (partition_of x))
 
-owns : (x : Newcomer) → has {R = partition_cmp} (union nothing (shown_to x)) (partition_of x) ≡ true
+pub owns : (x : Newcomer) → has {R = partition_cmp} (union nothing (shown_to x)) (partition_of x) ≡ true
 owns x =
     has-union partition_cmp_total nothing (shown_to x) (partition_of x)
     ∙ or_right (has (nothing {R = partition_cmp}) (partition_of x)) (has (shown_to x) (partition_of x)) (is_shown x)

@@ -9,14 +9,14 @@ use Rattle.member_core.specs.Asking.{may_ask, request_for}
 use Rattle.member_core.specs.Committing.{commit_for}
 use Rattle.member_core.specs.Kinds.{fullness, quit_ask}
 use Rattle.member_core.specs.Refusing.{is_too_large}
-use Rattle.member_core.specs.Writing.{HasShortTopic}
+use Rattle.member_core.specs.Writing.{HasShortTopic, are_few}
 use Rattle.world_sim.specs.declared.act.Act as code
 use Rattle.world_sim.specs.declared.act.Act.TheVariants as acts
 use Rattle.world_sim.specs.declared.shown.Shown.{Shown}
 use Rattle.world_sim.specs.declared.shown.Shown.TheVariants as shows
 use Rattle.world_sim.specs.declared.fault.WorldFault.{WorldFault}
 use Rattle.world_sim.specs.declared.fault.WorldFault.TheVariants as faults
-use Rattle.world_sim.specs.World.{World, numbered}
+use Rattle.world_sim.specs.World.{World, Request, Reply, Commit, numbered}
 use Rattle.world_sim.specs.Acts.{Act, Asks, GivesUp, Deliver, Take, Release, Commits, Bring, Clock, Passes, Sees, NoSuchClient, NoSuchMessage, WrongState, Forgotten, Outcome, IsRefused, IsSent, IsReplied, IsClosed, Is, IsIgnored, IsCommitted, IsAnswered, IsRemoved, IsDone, ActStep, may_commit}
 use Rattle.world_sim.specs.Standing.{state_value}
 
@@ -76,25 +76,29 @@ IsTooLarge w (Clock moment) = ⊥
 IsTooLarge w (Passes moment) = ⊥
 IsTooLarge w (Sees image) = ⊥
 
--- the act may want memory, and the others never do
-abbrev pub TakesMemory : Act → Type 0
-TakesMemory (Asks n ask) = Unit {0}
-TakesMemory (GivesUp n) = ⊥
-TakesMemory (Deliver k) = Unit {0}
-TakesMemory (Take j) = Unit {0}
-TakesMemory (Release n p) = ⊥
-TakesMemory (Commits n topics) = Unit {0}
-TakesMemory (Bring k) = Unit {0}
-TakesMemory (Clock moment) = ⊥
-TakesMemory (Passes moment) = ⊥
-TakesMemory (Sees image) = ⊥
+-- An act that may want memory: its client or its message is there, the client's state allows it, and no list of it has more
+-- elements than a frame may have bytes. Else a body is written to see its size, and a request is read to see whether it is
+-- forgotten.
+abbrev pub WantsMemory : World → Act → Type 0
+WantsMemory w (Asks n ask) = (c : Client) × (numbered w.clients n ≡ Some c) × (may_ask c ask ≡ true)
+WantsMemory w (GivesUp n) = ⊥
+WantsMemory w (Deliver k) = (q : Request) × (numbered w.requests k ≡ Some q)
+WantsMemory w (Take j) = (r : Reply) × (numbered w.replies j ≡ Some r)
+WantsMemory w (Release n p) = ⊥
+WantsMemory w (Commits n topics) =
+    (c : Client) × (numbered w.clients n ≡ Some c) × (may_commit c (suc (length w.commits)) ≡ true)
+    × (are_few (commit_for c (suc (length w.commits)) topics) ≡ true)
+WantsMemory w (Bring k) = (made : Commit) × (numbered w.commits k ≡ Some made)
+WantsMemory w (Clock moment) = ⊥
+WantsMemory w (Passes moment) = ⊥
+WantsMemory w (Sees image) = ⊥
 
 -- why an act is refused
 abbrev pub IsRefusedFor : WorldFault → World → Act → Type 0
 IsRefusedFor faults.NoSuchClient w act = ActStep w act (IsRefused NoSuchClient) w
 IsRefusedFor faults.NoSuchMessage w act = ActStep w act (IsRefused NoSuchMessage) w
 IsRefusedFor faults.WrongState w act = ActStep w act (IsRefused WrongState) w
-IsRefusedFor faults.NoMemory w act = TakesMemory act
+IsRefusedFor faults.NoMemory w act = WantsMemory w act
 IsRefusedFor faults.TooLarge w act = IsTooLarge w act
 IsRefusedFor faults.Forgotten w act = ActStep w act (IsRefused Forgotten) w
 

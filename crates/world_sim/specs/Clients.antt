@@ -1,5 +1,5 @@
 -- What the code's client and commit are as the world's.
-use Rattle.std.specs.Prelude.{◌≡◌, ℕ, ◌≤◌, true, List, length, string_bytes}
+use Rattle.std.specs.Prelude.{◌≡◌, ℕ, ◌≤◌, true, is_some, List, length, string_bytes}
 use Rattle.kip_msgs.specs.Values.{CommitRequestTopicValue}
 use Rattle.kip_msgs.specs.Spelling.{SpellsRequest}
 use Rattle.group_types.specs.Limits.{LARGEST_BODY}
@@ -12,10 +12,11 @@ use Rattle.world_sim.specs.World.{Commit}
 use Rattle.world_sim.specs.Acts.{commit_by}
 use Rattle.world_sim.specs.Standing.{client_of}
 
--- what is kept beside a member: its group's name, and the number of its latest request
+-- what is kept beside a member: its group's name, the number of its latest request, and whether it has an instance id
 pub record IsClient (c : Inside) : Type 0 where
   pub group : string_bytes c.group ≡ (client_of c.standing).settings.group
   pub number : c.requests ≡ (client_of c.standing).number
+  pub instance : c.is_static ≡ is_some (client_of c.standing).settings.instance
 
 -- the client makes a request with this body, which isn't too large
 pub record AsksWithin (c : Client) (ask : Ask) (body : List ℕ) (new : Client) : Type 0 where

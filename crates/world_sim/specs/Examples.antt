@@ -1,7 +1,8 @@
 -- That the laws aren't empty: what each speaks of is there in a world that acts lead to.
-use Rattle.std.specs.Prelude.{◌≡◌, ◌≢◌, ℕ, false, Some, IsTrue}
+use Rattle.std.specs.Prelude.{◌≡◌, ◌≢◌, ℕ, pos, false, Some, IsTrue}
 use Rattle.std.specs.List.{Contains}
 use Rattle.std.specs.FinMap as finite
+use Rattle.kip_msgs.specs.Values.{CommitReplyValue}
 use Rattle.group_types.specs.declared.partition.Partition.{Partition}
 use Rattle.group_types.specs.Text.{Text}
 use Rattle.group_types.specs.Sets.{has}
@@ -9,10 +10,10 @@ use Rattle.group_types.specs.Partition.{Partitions}
 use Rattle.group_types.specs.Group.{Group, wanted}
 use Rattle.member_core.specs.Client.{Client}
 use Rattle.world_sim.specs.World.{World, Reply, Commit, numbered}
-use Rattle.world_sim.specs.Acts.{Act, Outcome, ActStep}
+use Rattle.world_sim.specs.Acts.{Act, Bring, Outcome, IsAnswered, ActStep}
 use Rattle.world_sim.specs.Reached.{IsReached}
 use Rattle.world_sim.specs.Holding.{IsMember, IsTakeable, IsTaken}
-use Rattle.world_sim.specs.Exclusivity.{target_epoch_of}
+use Rattle.world_sim.specs.Exclusivity.{HasCode, target_epoch_of}
 use Rattle.world_sim.specs.Rounds.{Settles}
 use Rattle.world_sim.specs.Convergence.{CanSettle}
 
@@ -62,6 +63,28 @@ pub record SomeCommitIsTaken : Type 0 where
   pub taken : IsTaken world.coordinator commit
   pub partition : Partition
   pub held : IsTrue (has commit.own partition)
+
+-- a commit whose maker held a partition is brought, and the reply gives the partition that it names the code of success
+pub record IsAccepted (world : World) (number : ℕ) (commit : Commit) (new : World) : Type 0 where
+  pub numbered_so : numbered world.commits number ≡ Some commit
+  pub partition : Partition
+  pub held : IsTrue (has commit.own partition)
+  pub reply : CommitReplyValue
+  pub brings : ActStep world (Bring number) (IsAnswered reply) new
+  pub accepted : HasCode reply (pos 0)
+
+-- a commit is brought and accepted, and brought later and accepted again
+pub record SomeCommitIsBroughtAgain : Type 0 where
+  pub world : World
+  pub reached : IsReached world
+  pub number : ℕ
+  pub commit : Commit
+  pub between : World
+  pub once : IsAccepted world number commit between
+  pub brought : Commit
+  pub same_body : brought.body ≡ commit.body
+  pub new : World
+  pub again : IsAccepted between number brought new
 
 -- an act renews a group's target
 pub record SomeTargetIsRenewed : Type 0 where

@@ -1,4 +1,4 @@
--- That every act has an outcome.
+-- That every act has an outcome, and that a world comes to one that has settled.
 use Rattle.std.specs.Prelude.{◌≡◌, ℕ, List, All, Some}
 use Rattle.std.specs.List.{Contains}
 use Rattle.kip_msgs.specs.Values.{CommitRequestValue, HeartbeatReplyValue, HeartbeatRequestValue, RequestHeaderValue, ResponseHeaderValue, commit_request, heartbeat_reply, heartbeat_request}
@@ -8,10 +8,14 @@ use Rattle.coord_node.specs.Laws.{IsServing}
 use Rattle.coord_node.specs.Steps.{IsRequest}
 use Rattle.group_types.specs.Images.{AreImageTopics}
 use Rattle.member_core.specs.Client.{Client}
+use Rattle.member_core.specs.Asking.{Beat, Full}
 use Rattle.member_core.specs.Existence.{CanSay}
 use Rattle.member_core.specs.Settings.{FitsSettings, Settings}
 use Rattle.world_sim.specs.World.{World, Request, Reply, Commit, new_world, numbered}
 use Rattle.world_sim.specs.Acts.{Act, Asks, GivesUp, Deliver, Take, Release, Commits, Bring, Clock, Passes, Sees, Outcome, ActStep, Run}
+use Rattle.world_sim.specs.Acting.{IsTooLarge}
+use Rattle.world_sim.specs.Rounds.{ComesTo, Settles}
+use Rattle.world_sim.specs.Convergence.{CanSettle, IsSettled}
 
 -- a pooled request is a heartbeat, and its sender is there
 pub record IsPooled (clients : List Client) (q : Request) : Type 0 where
@@ -75,3 +79,15 @@ RunsOfActsExist =
     (salt : ℕ) (clients : List Settings) (acts : List Act)
     → All FitsSettings clients → All IsPossible acts
     → (outcomes : List Outcome) × (new : World) × Run (new_world salt clients) acts outcomes new
+
+-- none of the full heartbeats of three rounds is too large
+abbrev pub BeatsFit : World → Type 0
+BeatsFit first = (n : ℕ) (w : World) → ComesTo first n w → ¬ IsTooLarge w (Asks n (Beat Full))
+
+-- Whatever acts were done from clients that hadn't asked for anything yet: where the world can settle, and the heartbeats fit,
+-- three rounds can be made, and they leave a settled one.
+abbrev pub SettlingEnds : Type 0
+SettlingEnds =
+    (salt : ℕ) (clients : List Settings) (acts : List Act) (outcomes : List Outcome) (w : World)
+    → All FitsSettings clients → Run (new_world salt clients) acts outcomes w → CanSettle w → BeatsFit w
+    → (new : World) × Settles w new × IsSettled new

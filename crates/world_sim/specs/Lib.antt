@@ -25,3 +25,4 @@ pub mod Passing
 pub mod Viewing
 pub mod Places
 pub mod Existence
+pub mod GroupExamples

@@ -9,6 +9,7 @@ use Rattle.member_core.specs.Taking.{Takes}
 use Rattle.member_core.specs.Committing.{may_commit_at, commit_for}
 use Rattle.member_core.specs.Framing.{IsRequestFrame}
 use Rattle.member_core.specs.Refusing.{Sends, is_too_large}
+use Rattle.member_core.specs.Writing.{are_few}
 use Rattle.world_sim.specs.declared.fault.WorldFault.{WorldFault}
 use Rattle.world_sim.specs.declared.fault.WorldFault.TheVariants.{NoSuchClient, NoSuchMessage, WrongState, NoMemory, TooLarge, Forgotten}
 use Rattle.world_sim.specs.declared.standing.asking.Inside as inside
@@ -28,7 +29,7 @@ abbrev pub CannotCommit : Client → ℕ → List CommitRequestTopicValue → Wo
 CannotCommit c number topics NoSuchClient = ⊥
 CannotCommit c number topics NoSuchMessage = ⊥
 CannotCommit c number topics WrongState = may_commit_at c.place ≡ false
-CannotCommit c number topics NoMemory = Unit {0}
+CannotCommit c number topics NoMemory = (may_commit_at c.place ≡ true) × (are_few (commit_for c number topics) ≡ true)
 CannotCommit c number topics TooLarge =
     (may_commit_at c.place ≡ true) × IsTrue (is_too_large (commit_for c number topics))
 CannotCommit c number topics Forgotten = ⊥

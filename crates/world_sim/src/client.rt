@@ -2,7 +2,7 @@
 ghost use Rattle.std.specs.Prelude.{◌≡◌, ◌≤◌, ◌↔◌, IsTrue, map, All, IfOk, IfErr, OnErr, string_bytes, if◌then◌else◌};
 ghost use Rattle.std.specs.Option.{option_copied};
 ghost use Rattle.kip_msgs.specs.Views.{commit_request_topic_value};
-ghost use Rattle.member_core.specs.Asking.{after_giving_up};
+ghost use Rattle.member_core.specs.Asking.{after_giving_up, may_ask};
 ghost use Rattle.member_core.specs.Client.{new_client, state_of};
 ghost use Rattle.member_core.specs.Limits.{GREATEST_NUMBER};
 ghost use Rattle.member_core.specs.Releasing.{may_release, after_release};
@@ -26,6 +26,9 @@ use std::alloc::{AllocError, Global};
 use std::marker::Model;
 use std::mem;
 
+/// The greatest number of a client's request, which is its correlation id: the greatest INT32.
+const GREATEST_NUMBER: u32 = 2_147_483_647;
+
 /// A client of a world. Contracts see it as a client of the client machine.
 #[derive(Drop)]
 pub(crate) struct Client {
@@ -35,6 +38,8 @@ pub(crate) struct Client {
     group: String,
     /// The number of its latest request, 0 before the first.
     requests: u32,
+    /// Whether it has an instance id.
+    is_static: bool,
 }
 
 impl Model for Client {
@@ -60,11 +65,13 @@ impl Client {
         ensures { IfOk result (λ c. c ≡ new_client (settings_value settings)) }
     {
         let group = String::from_str(alloc, settings.group.as_str())?;
+        let is_static = settings.instance.is_some();
         Ok(Client {
             alloc,
             standing: Standing::Outside(Member::new(alloc, settings)),
             group,
             requests: 0,
+            is_static,
         })
     }
 
@@ -113,6 +120,15 @@ impl Client {
         ensures { result ≡ self.now.number }
     {
         self.requests
+    }
+
+    /// Whether the client's state allows it to ask for this. Takes no memory.
+    pub(crate) fn may_ask(&self, ask: Ask) -> bool
+        ensures { result ≡ may_ask self.now (ask_value ask) }
+    {
+        !self.standing.waits()
+            && self.requests < GREATEST_NUMBER
+            && self.standing.allows(ask, self.is_static)
     }
 
     /// Asks, and gives the request. A client that is refused is as it was.

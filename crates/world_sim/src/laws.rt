@@ -1,8 +1,9 @@
 //! Laws of the world, proved where nothing runs: what holds after every list of acts, from clients that haven't
 //! asked for anything, and that an act has one outcome.
 ghost use Rattle.world_sim.specs.Convergence.{Convergence};
-ghost use Rattle.world_sim.specs.Examples.{SomebodyHolds, SomeCommitIsTaken, SomeReplyShows, SomeRoundsMove, SomeTargetIsRenewed, SomeWorldCanSettle, TwoHold};
-ghost use Rattle.world_sim.specs.Existence.{ActsHaveAnOutcome, ActsLeaveLiveWorlds, NewWorldsAreLive, RunsOfActsExist};
+ghost use Rattle.world_sim.specs.Examples.{SomebodyHolds, SomeCommitIsBroughtAgain, SomeCommitIsTaken, SomeReplyShows, SomeRoundsMove, SomeTargetIsRenewed, SomeWorldCanSettle, TwoHold};
+ghost use Rattle.world_sim.specs.Existence.{ActsHaveAnOutcome, ActsLeaveLiveWorlds, NewWorldsAreLive, RunsOfActsExist, SettlingEnds};
+ghost use Rattle.world_sim.specs.GroupExamples.{SomeMemberGivesUp, SomeOffsetIsStored};
 ghost use Rattle.world_sim.specs.Exclusivity.{ActsLawfully, Always, BringsHeld, CommitHeld, HoldApart, HoldGranted, ShowGranted, SinceGranted};
 ghost use Rattle.world_sim.specs.Invariant.{Keeps};
 ghost use Rattle.world_sim.specs.Laws.{OneOutcomeAnAct, OneRunOfActs};
@@ -134,16 +135,36 @@ pub fn rounds_go_on()
     every_act_keeps_the_invariant();
 }
 
+/// Where three rounds can be made, and no heartbeat in them is too large, there is a world that they leave, and it has settled.
+pub fn settling_ends()
+    ensures { SettlingEnds }
+{
+    acts_have_an_outcome();
+    acts_leave_live_worlds();
+    rounds_go_on();
+    three_rounds_settle();
+}
+
 /// The laws aren't empty: in worlds that acts lead to a member holds a partition, two members of one group each hold one,
-/// a reply that may be taken shows one, a commit that is taken was made while one was held, a target is renewed, a world
-/// with a member meets the condition of the three rounds, and three rounds are made in which a member gives up a partition
-/// that its target doesn't give it.
+/// a reply that may be taken shows one, a commit that is taken was made while one was held, one is brought and accepted twice, a
+/// target is renewed, a world with a member meets the condition of the three rounds, and three rounds are made in which a member
+/// gives up a partition that its target doesn't give it.
 pub fn the_laws_are_met()
     ensures holds { SomebodyHolds }
     ensures two_hold { TwoHold }
     ensures shows { SomeReplyShows }
     ensures takes { SomeCommitIsTaken }
+    ensures brings { SomeCommitIsBroughtAgain }
     ensures renews { SomeTargetIsRenewed }
     ensures settles { SomeWorldCanSettle }
     ensures moves { SomeRoundsMove }
 {}
+
+/// Nor are the laws of one group (`crates/group_types/src/laws.rt`): a member is asked to give up a partition, and by its next beat goes
+/// on to the target's epoch; and an offset is committed.
+pub fn the_groups_laws_are_met()
+    ensures gives_up { SomeMemberGivesUp }
+    ensures stores { SomeOffsetIsStored }
+{
+    every_group_is_sound();
+}

@@ -29,7 +29,7 @@ pub use laws::{
     acts_have_an_outcome, acts_leave_live_worlds, an_act_has_one_outcome,
     commits_are_taken_while_held, every_act_keeps_the_invariant, members_hold_apart,
     new_worlds_are_live, replies_show_what_is_granted, rounds_go_on, runs_of_acts_exist,
-    targets_are_renewed_lawfully, the_laws_are_met, three_rounds_settle,
+    targets_are_renewed_lawfully, the_groups_laws_are_met, the_laws_are_met, three_rounds_settle,
 };
 pub use member_core::{
     Array, BeatFault, CommitRequestTopic, EpochNumber, Kind, PartSet, Partition, Quit, Settings,

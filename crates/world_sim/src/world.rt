@@ -82,7 +82,7 @@ impl World {
     /// Does one act, and says what it shows; an act that is refused changes nothing. The texts of a commit's list are at
     /// most 32,767 bytes, and its tagged fields rise.
     ///
-    /// Faults, judged in this order: `NoSuchClient` or `NoSuchMessage`; `WrongState`; `TooLarge`; of a delivery `Forgotten`;
+    /// Faults, judged in this order: `NoSuchClient` or `NoSuchMessage`; `WrongState`; then `TooLarge`, of a delivery `Forgotten`,
     /// or `NoMemory`, but never of an act that takes none: giving up, a release, the clock, a tick and an image.
     ///
     /// After the act no two members of a group hold one partition, each holds what it is granted, a reply that may still be

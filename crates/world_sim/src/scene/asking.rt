@@ -29,6 +29,9 @@ impl Scene {
         let Some(place) = place_of(number, self.clients.as_slice().len()) else {
             return Err(WorldFault::NoSuchClient);
         };
+        if !self.clients[place].may_ask(ask) {
+            return Err(WorldFault::WrongState);
+        }
         self.requests.reserve(1)?;
         let request = ask_at(&mut self.clients, place, ask)?;
         self.requests.push_reserved(request);
@@ -100,9 +103,9 @@ impl Scene {
             return Err(WorldFault::WrongState);
         }
         let number = self.commits.len() + 1;
-        self.commits.reserve(1)?;
         let mut commit = self.clients[place].commit(number as u32, topics)?;
         commit.cut(&self.node);
+        self.commits.reserve(1)?;
         self.commits.push_reserved(commit);
         Ok(Shown::Committed { commit: number })
     }

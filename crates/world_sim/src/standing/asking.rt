@@ -1,6 +1,8 @@
 //! Clients that ask and commit.
-ghost use Rattle.std.specs.Prelude.{◌≡◌, ◌≤◌, map, All};
+ghost use Rattle.std.specs.Prelude.{◌≡◌, ◌≤◌, map, All, Option, is_some};
+ghost use Rattle.group_types.specs.Text.{Text};
 ghost use Rattle.kip_msgs.specs.Views.{commit_request_topic_value};
+ghost use Rattle.member_core.specs.Asking.{may_ask_at};
 ghost use Rattle.member_core.specs.Client as client;
 ghost use Rattle.member_core.specs.Limits.{GREATEST_NUMBER};
 ghost use Rattle.member_core.specs.Writing.{HasShortTopic};
@@ -10,8 +12,10 @@ ghost use Rattle.world_sim.specs.Stands.{InsideAsked, IsCommitFrame};
 use super::Standing;
 use crate::act::Ask;
 use crate::fault::WorldFault;
+use crate::state::ClientState;
 use member_core::{
-    Array, CommitRequestTopic, Commits, Gone, Member, Outside, Present, Releasing, Sent, Steady,
+    Array, CommitRequestTopic, Commits, Gone, Member, Outside, Present, Quit, Releasing, Sent,
+    Steady,
 };
 
 /// What became of a member inside its group that was asked to ask.
@@ -25,6 +29,35 @@ pub(crate) enum Inside<S: Present> {
 }
 
 impl Standing {
+    /// Whether the client waits for a reply. Takes no memory.
+    pub(crate) fn waits(&self) -> bool
+        ensures { result ≡ (client_of self.now).waits }
+    {
+        let _ = self.state();
+        match self {
+            Standing::Outside(_) => false,
+            Standing::Steady(_) => false,
+            Standing::Releasing(_) => false,
+            Standing::Gone(_) => false,
+            Standing::Joining(_) => true,
+            Standing::BeatingSteady(_) => true,
+            Standing::BeatingReleasing(_) => true,
+        }
+    }
+
+    /// Whether the client, with or without an instance id, stands where that can be asked. Takes no memory.
+    pub(crate) fn allows(&self, ask: Ask, is_static: bool) -> bool
+        requires { is_static ≡ is_some (client_of self.now).settings.instance }
+        ensures { result ≡ may_ask_at (client_of self.now).place (ask_value ask) (client_of self.now).settings.instance }
+    {
+        match self.state() {
+            ClientState::Outside => may_ask_outside(ask),
+            ClientState::Steady => may_ask_inside(ask, is_static),
+            ClientState::Releasing => may_ask_inside(ask, is_static),
+            ClientState::Gone => false,
+        }
+    }
+
     /// Asks, and gives the request's frame, size and body. A client that is refused is as it was.
     pub(crate) fn ask(self, ask: Ask) -> (Standing, Result<Vec<u8>, WorldFault>)
         ensures { Asked (client_of self) (ask_value ask) result.1 (client_of result.0) }
@@ -66,6 +99,30 @@ impl Standing {
             Standing::BeatingReleasing(member) => commit_inside(member, number, topics),
             _ => Err(WorldFault::WrongState),
         }
+    }
+}
+
+/// Whether a client that has yet to join may ask for this.
+fn may_ask_outside(ask: Ask) -> bool
+    ensures { (instance : Option Text) → result ≡ may_ask_at client.Outside (ask_value ask) instance }
+{
+    match ask {
+        Ask::Join => true,
+        Ask::Beat(_) => false,
+        Ask::Quit(Quit::Leave) => false,
+        Ask::Quit(Quit::Away) => false,
+    }
+}
+
+/// Whether a client inside its group may ask for this: only one with an instance id goes away for a while.
+fn may_ask_inside(ask: Ask, is_static: bool) -> bool
+    ensures { (instance : Option Text) → is_static ≡ is_some instance → result ≡ may_ask_at client.Inside (ask_value ask) instance }
+{
+    match ask {
+        Ask::Join => false,
+        Ask::Beat(_) => true,
+        Ask::Quit(Quit::Leave) => true,
+        Ask::Quit(Quit::Away) => is_static,
     }
 }
 

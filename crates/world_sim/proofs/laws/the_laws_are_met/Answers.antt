@@ -1,3 +1,4 @@
+use Rattle.world_sim.proofs.BroughtAgain.{some_commit_is_brought_again}
 use Rattle.world_sim.proofs.TwoHolders.{some_commit_is_taken, some_reply_shows, some_target_is_renewed, some_world_can_settle, some_rounds_move, somebody_holds, two_hold}
 use Rattle.world_sim.proofs.laws.the_laws_are_met.Goals as goal
 
@@ -12,6 +13,9 @@ returns-clause-shows c = some_reply_shows
 
 pub returns-clause-takes : goal.returns-clause-takes
 returns-clause-takes c = some_commit_is_taken
+
+pub returns-clause-brings : goal.returns-clause-brings
+returns-clause-brings c = some_commit_is_brought_again
 
 pub returns-clause-renews : goal.returns-clause-renews
 returns-clause-renews c = some_target_is_renewed

@@ -18,7 +18,9 @@ returns-in_default c = (no_commit (scene_view c.args.self.now) c.args.number (no
 pub returns-in_err-answered : goal.returns-in_err-answered
 returns-in_err-answered c =
     let p = err_from_is_err_and c.from_residual.result c.from_residual.ensures.1 in
-    rw (p.1, p.2) (tt, ap (λ (n : Coordinator). record (scene_view c.args.self.now) { coordinator = n }) c.in_err-answered.ensures.err.0)
+    let k = c.index.result.now in
+    let pooled = numbered_index c.args.self.now.commits.items c.args.number c.in-Some.place k c.in-Some.ensures.0 (subst (λ j. c.in-Some.place < j) (ap length c.as_slice.ensures.value) c.in-Some.ensures.1) c.index.ensures in
+    rw (p.1, p.2) ((k, pooled), ap (λ (n : Coordinator). record (scene_view c.args.self.now) { coordinator = n }) c.in_err-answered.ensures.err.0)
 
 pub unreachable-requires : goal.unreachable-requires
 unreachable-requires c =

@@ -14,7 +14,7 @@ use Rattle.world_sim.proofs.MailLemmas.{small_more}
 use Rattle.world_sim.proofs.Performs.{nobody_commits}
 use Rattle.world_sim.proofs.SceneActs.{nobody}
 use Rattle.world_sim.proofs.SceneLemmas.{at_number, numbered_index, some_at}
-use Rattle.world_sim.proofs.SceneMessages.{above_false, commits, commits_not, past_the_numbers}
+use Rattle.world_sim.proofs.SceneMessages.{above_false, commits, commits_not, commits_short, past_the_numbers}
 use Rattle.world_sim.proofs.scene.Scene.commit.Goals as goal
 
 pub returns-in_default : goal.returns-in_default
@@ -32,7 +32,21 @@ returns-then-len-ge-GREATEST_NUMBER c =
 pub returns-in_err-commit : goal.returns-in_err-commit
 returns-in_err-commit c =
     let s = c.args.self.now in
-    let p = err_from_is_err_and c.from_residual-in_err-commit.result c.from_residual-in_err-commit.ensures.1 in
+    let p = err_from_is_err_and c.from_residual.result c.from_residual.ensures.1 in
+    let me = c.index.result.now in
+    let there = numbered_index s.clients.items c.args.number c.in-Some.place me c.in-Some.ensures.0 (subst (λ k. c.in-Some.place < k) (ap length c.as_slice.ensures.value) c.in-Some.ensures.1) c.index.ensures in
+    let first : c.len.result ≡ length s.commits.items = c.len.ensures ∙ s.commits.ok.0 in
+    let count : c.len-number.result ≡ length s.commits.items = c.len-number.ensures ∙ s.commits.ok.0 in
+    let few : c.len.result < 2147483647 = c.if-len-ge-GREATEST_NUMBER.false in
+    let is : c.len-number.result + 1 ≡ suc (length s.commits.items) = omega (arith, count) in
+    let below : c.len-number.result + 1 ≤ GREATEST_NUMBER = omega (arith, count, first, few) in
+    rw (p.1, p.2)
+    (commits_not (scene_view s) c.args.number me there (map commit_request_topic_value c.args.topics) (c.len-number.result + 1) _ is below c.in_err-commit.ensures.fault, refl)
+
+pub returns-in_err-reserve : goal.returns-in_err-reserve
+returns-in_err-reserve c =
+    let s = c.args.self.now in
+    let p = err_from_is_err_and c.from_residual-in_err-reserve.result c.from_residual-in_err-reserve.ensures.1 in
     let me = c.index.result.now in
     let there = numbered_index s.clients.items c.args.number c.in-Some.place me c.in-Some.ensures.0 (subst (λ k. c.in-Some.place < k) (ap length c.as_slice.ensures.value) c.in-Some.ensures.1) c.index.ensures in
     let first : c.len.result ≡ length s.commits.items = c.len.ensures ∙ s.commits.ok.0 in
@@ -41,7 +55,7 @@ returns-in_err-commit c =
     let is : c.len-number.result + 1 ≡ suc (length s.commits.items) = omega (arith, count) in
     let below : c.len-number.result + 1 ≤ GREATEST_NUMBER = omega (arith, count, first, few) in
     rw (p.1, p.2) (
-      commits_not (scene_view s) c.args.number me there (map commit_request_topic_value c.args.topics) (c.len-number.result + 1) _ is below c.in_err-commit.ensures.fault,
+      commits_short (scene_view s) c.args.number me there (map commit_request_topic_value c.args.topics) (c.len-number.result + 1) c.in_ok-commit.commit is below c.in_ok-commit.ensures.made,
       ap (λ (ks : List Commit). record (scene_view s) { commits = ks }) c.reserve.ensures.items,
     )
 

@@ -1,4 +1,5 @@
 use Rattle.std.proofs.Common.{◌≡◌, ◌∙◌, ◌<◌, List, ℕ, Option, Some, length, ap, sym, subst, refl, true, false}
+use Rattle.std.proofs.lemmas.Result.{err_from_is_err_and}
 use Rattle.world_sim.specs.World.{Request, numbered}
 use Rattle.world_sim.specs.Scene.{scene_view}
 use Rattle.kip_msgs.specs.Values.{heartbeat_request}
@@ -14,6 +15,16 @@ use Rattle.world_sim.proofs.scene.Scene.deliver.Goals as goal
 
 pub returns-in_default : goal.returns-in_default
 returns-in_default c = (no_request (scene_view c.args.self.now) c.args.number (unmapped request_value c.args.self.now.requests.items c.args.number _ (ap length c.as_slice.ensures.value) c.in_default.ensures), refl)
+
+pub returns-in_err-forgotten : goal.returns-in_err-forgotten
+returns-in_err-forgotten c =
+    let r = c.index.result.now in
+    let w = scene_view c.args.self.now in
+    let there = mapped request_value c.args.self.now.requests.items c.in-Some.place r
+    (indexed c.args.self.now.requests.items c.in-Some.place r (subst (λ k. c.in-Some.place < k) (ap length c.as_slice.ensures.value) c.in-Some.ensures.1) c.index.ensures) in
+    let pooled : numbered w.requests c.args.number ≡ Some (request_value r) = at_number (requests_of c.args.self.now.requests.items) c.args.number c.in-Some.place c.in-Some.ensures.0 ∙ there in
+    let p = err_from_is_err_and c.from_residual.result c.from_residual.ensures.1 in
+    rw (p.1, p.2) ((request_value r, pooled), refl)
 
 pub returns-then-forgotten : goal.returns-then-forgotten
 returns-then-forgotten c =

@@ -23,8 +23,12 @@ take_at-requires c =
 
 pub returns-in_err-state : goal.returns-in_err-state
 returns-in_err-state c =
+    let s = c.args.self.now in
+    let r = c.index.result.now in
+    let there = indexed s.replies.items c.in-Some.place r (subst (λ k. c.in-Some.place < k) (ap length c.as_slice.ensures.value) c.in-Some.ensures.1) c.index.ensures in
+    let pooled = at_number (replies_of s.requests.items s.replies.items) c.args.number c.in-Some.place c.in-Some.ensures.0 ∙ pooled_reply s c.in-Some.place r there in
     let p = err_from_is_err_and c.from_residual.result c.from_residual.ensures.1 in
-    rw (p.1, p.2) (tt, ap (λ (xs : List Client). record (scene_view c.args.self.now) { clients = xs }) c.in_err-state.ensures)
+    rw (p.1, p.2) ((reply_value s.requests.items r, pooled), ap (λ (xs : List Client). record (scene_view c.args.self.now) { clients = xs }) c.in_err-state.ensures)
 
 pub returns : goal.returns
 returns c =
