@@ -98,7 +98,7 @@ turns p stranger*3; - stranger*3 = 1 3 5 | 2 4 6
 turns - stranger*3; - stranger*3 = 1 2 4 | 3 5 6
 turns - stranger*4; - stranger*2; - stranger*2 = 1 2 4 7 | 3 5 | 6 8
 # a session answers a hundred frames in a hundred turns: a poll of a worker has several rounds while a line has frames
-polls 10 - - stranger*100 = 1
+polls 40 - - stranger*100 = 1
 # sixty-five frames come in one read, while the writer is pending
 held 70 - p*70 stranger*65 = 64 0 Finished unknown*65
 # a reply that is held isn't written, nor one behind it, however the writer takes those before it; the line goes on once it may be sent

@@ -18,8 +18,9 @@ use std::alloc::Global;
 /// Up to this number of lines have turns and none of them rests: to give them all a turn costs less than to wake one.
 const FEW_LINES: usize = 16;
 
-/// The most rounds of a poll. In all of them a line may answer as many frames as there may be unsent replies.
-const MOST_ROUNDS: usize = 64;
+/// The most rounds of a poll. An event loop looks for new bytes between polls alone, and only after some of them, so a line that waits
+/// for its reader waits for all of their rounds.
+const MOST_ROUNDS: usize = 4;
 
 /// Many lines over one desk. In a round it looks once for an arrival, unless it is to be woken for the next, and gives each line one
 /// turn, so no line waits for another to end, and lines that have frames are answered frame by frame in turn. A poll is one round, a

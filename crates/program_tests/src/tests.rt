@@ -8,6 +8,7 @@ mod services;
 mod setup;
 mod stream;
 mod streams;
+mod subcommands;
 
 use scenario_lines::program::{self, Ran};
 use scenario_text::service::Service;

@@ -7,12 +7,11 @@ ghost use Rattle.scenario_lines.specs.Requests.{text_of};
 ghost use Rattle.scenario_lines.specs.Commands.{DoesReplyLine, IsReplyLine};
 ghost use Rattle.scenario_text.specs.Runs.{PrintsNothing};
 
-use crate::reasons;
 use crate::stamps::Stamps;
+use crate::{reasons, refusals};
 use coord_node::{Answered, Node};
 use group_types::{Moment, Stamp};
 use scenario_text::driver::LineWorker;
-use scenario_text::explain::Explains;
 use scenario_text::fault::LineFault;
 use scenario_text::output::Output;
 use scenario_text::page::Page;
@@ -23,6 +22,17 @@ use std::collections::hash_map::RandomState;
 
 /// What is printed for a frame that is not answered.
 const CLOSE: &str = "close";
+
+/// What a line did.
+#[derive(Drop)]
+pub enum Did {
+    /// It set something, or removed members.
+    Nothing,
+    /// Its request was answered, by this frame.
+    Answered(Vec<u8>),
+    /// Its request, which had this stamp, was not answered.
+    Closed(Stamp),
+}
 
 /// A node, and what the lines so far have set.
 #[derive(Drop)]
@@ -63,7 +73,7 @@ impl Interpreter {
         name: &str,
         arguments: &[&str],
         output: &mut Output,
-    ) -> Result<(), LineFault>
+    ) -> Result<Did, LineFault>
         ensures printed { OnOk result (Prints (DoesCommand (name.now ∷ map (λ word. word.now) arguments.now) self.old self.new) output.old output.new) }
         ensures refused { result ≡ Err LineFault.BadLine → ¬ IsCommand (name.now ∷ map (λ word. word.now) arguments.now) }
         ensures err { OnErr result (output.new ≡ output.old) }
@@ -79,17 +89,17 @@ impl Interpreter {
     }
 
     /// `image [NAME UUID COUNT]...` sets the image.
-    fn image(&mut self, arguments: &[&str]) -> Result<(), LineFault>
+    fn image(&mut self, arguments: &[&str]) -> Result<Did, LineFault>
         ensures done { OnOk result (DoesCommand (codes "image" ∷ map (λ word. word.now) arguments.now) self.old self.new []) }
         ensures refused { result ≡ Err LineFault.BadLine → ¬ IsCommand (codes "image" ∷ map (λ word. word.now) arguments.now) }
     {
         let image = image_of(self.alloc, arguments)?;
         self.node.set_image(image);
-        Ok(())
+        Ok(Did::Nothing)
     }
 
     /// `now MS` sets the moment.
-    fn now(&mut self, arguments: &[&str]) -> Result<(), LineFault>
+    fn now(&mut self, arguments: &[&str]) -> Result<Did, LineFault>
         ensures done { OnOk result (DoesCommand (codes "now" ∷ map (λ word. word.now) arguments.now) self.old self.new []) }
         ensures refused { OnErr result (¬ IsCommand (codes "now" ∷ map (λ word. word.now) arguments.now)) }
         ensures fault { IfErr result (λ fault. fault ≡ LineFault.BadLine) }
@@ -99,11 +109,11 @@ impl Interpreter {
         };
         let millis = words::number_of(millis).ok_or(LineFault::BadLine)?;
         self.now = Moment::of_millis(millis);
-        Ok(())
+        Ok(Did::Nothing)
     }
 
     /// `stamp C F` gives the next request its stamp.
-    fn stamp(&mut self, arguments: &[&str]) -> Result<(), LineFault>
+    fn stamp(&mut self, arguments: &[&str]) -> Result<Did, LineFault>
         ensures done { OnOk result (DoesCommand (codes "stamp" ∷ map (λ word. word.now) arguments.now) self.old self.new []) }
         ensures refused { OnErr result (¬ IsCommand (codes "stamp" ∷ map (λ word. word.now) arguments.now)) }
         ensures fault { IfErr result (λ fault. fault ≡ LineFault.BadLine) }
@@ -114,11 +124,11 @@ impl Interpreter {
         let connection = words::number_of(connection).ok_or(LineFault::BadLine)?;
         let frame = words::number_of(frame).ok_or(LineFault::BadLine)?;
         self.stamps.give(Stamp { connection, frame });
-        Ok(())
+        Ok(Did::Nothing)
     }
 
     /// `req HEX` answers a frame.
-    fn request_line(&mut self, arguments: &[&str], output: &mut Output) -> Result<(), LineFault>
+    fn request_line(&mut self, arguments: &[&str], output: &mut Output) -> Result<Did, LineFault>
         ensures printed { OnOk result (Prints (DoesCommand (codes "req" ∷ map (λ word. word.now) arguments.now) self.old self.new) output.old output.new) }
         ensures refused { result ≡ Err LineFault.BadLine → ¬ IsCommand (codes "req" ∷ map (λ word. word.now) arguments.now) }
         ensures err { OnErr result (output.new ≡ output.old) }
@@ -131,7 +141,7 @@ impl Interpreter {
 
     /// `tick` removes the members whose deadline has come at the moment, and prints how many. Where memory is short for the text,
     /// they are removed.
-    fn tick(&mut self, arguments: &[&str], output: &mut Output) -> Result<(), LineFault>
+    fn tick(&mut self, arguments: &[&str], output: &mut Output) -> Result<Did, LineFault>
         ensures printed { OnOk result (Prints (DoesCommand (codes "tick" ∷ map (λ word. word.now) arguments.now) self.old self.new) output.old output.new) }
         ensures refused { result ≡ Err LineFault.BadLine → ¬ IsCommand (codes "tick" ∷ map (λ word. word.now) arguments.now) }
         ensures err { OnErr result (output.new ≡ output.old) }
@@ -141,11 +151,11 @@ impl Interpreter {
         }
         let removed = self.node.tick(self.now);
         print_removed(self.alloc, removed, output)?;
-        Ok(())
+        Ok(Did::Nothing)
     }
 
     /// `req HEX` prints the frame of the reply, or `close`.
-    fn request(&mut self, frame: &str, output: &mut Output) -> Result<(), LineFault>
+    fn request(&mut self, frame: &str, output: &mut Output) -> Result<Did, LineFault>
         ensures printed { OnOk result (PrintsAnswer self.old.node frame.now
             (stamp_of self.old.stamps.given self.new.stamps.requests) self.old.now self.new.node output.old output.new) }
         ensures counted { OnOk result (self.new.stamps
@@ -158,7 +168,7 @@ impl Interpreter {
         let stamp = self.stamps.next_stamp();
         let mut reply = Vec::new(self.alloc);
         let answered = self.answer(frame.as_slice(), stamp, &mut reply)?;
-        print(self.alloc, answered, reply.as_slice(), output)
+        print(self.alloc, answered, reply, stamp, output)
     }
 
     /// Answers the bytes of a frame, and appends the reply. Other bytes than a frame close.
@@ -186,7 +196,11 @@ impl LineWorker for Interpreter {
 
     ghost closes = { PrintsNothing };
 
-    fn line(&mut self, line: &[u8], output: &mut Output) -> Result<(), LineFault> {
+    type Did = Did;
+
+    type Notes = ();
+
+    fn line(&mut self, line: &[u8], output: &mut Output) -> Result<Did, LineFault> {
         let words = words::words_of(self.alloc, line)?;
         let Some((name, arguments)) = words.split_first() else {
             return Err(LineFault::BadLine);
@@ -198,38 +212,49 @@ impl LineWorker for Interpreter {
     fn end(&mut self, _output: &mut Output) -> Result<(), AllocError> {
         Ok(())
     }
-}
 
-impl Explains for Interpreter {
-    fn reason(&self, line: &[u8]) -> Result<String, AllocError> {
-        reasons::of_reply_line(self.alloc, line, &self.node, self.stamps.coming())
-    }
+    fn notes(&self) {}
 
-    fn why<'a>(&self, printed: &[u8], reason: &'a str) -> &'a str {
-        if printed.starts_with(b"close") {
-            reason
-        } else {
-            ""
+    fn why(&self, _: &mut (), line: &[u8], did: &Did) -> Result<Option<String>, AllocError> {
+        match did {
+            Did::Nothing => Ok(None),
+            Did::Answered(reply) => refusals::of_reply(
+                self.alloc,
+                &self.node,
+                line,
+                reply.as_slice(),
+            ),
+            Did::Closed(stamp) => reasons::of_closed(self.alloc, &self.node, line, *stamp),
         }
     }
+
+    fn why_bad(&self, line: &[u8]) -> Result<String, AllocError> {
+        reasons::of_bad_reply_line(self.alloc, line)
+    }
 }
 
-/// Prints what became of a frame: the reply in hex, or `close`.
+/// Prints what became of a frame with a stamp: the reply in hex, or `close`.
 fn print(
     alloc: Global,
     answered: Answered,
-    reply: &[u8],
+    reply: Vec<u8>,
+    stamp: Stamp,
     output: &mut Output,
-) -> Result<(), LineFault>
-    ensures ok { OnOk result (output.new ≡ output.old ++ line_of answered reply.now ++ 10 ∷ []) }
+) -> Result<Did, LineFault>
+    ensures ok { OnOk result (output.new ≡ output.old ++ line_of answered reply.items ++ 10 ∷ []) }
     ensures err { OnErr result (output.new ≡ output.old) }
     ensures fault { IfErr result (λ fault. fault ≡ LineFault.NoMemory) }
 {
     match answered {
-        Answered::Replied => output.line(hex::encode(alloc, reply)?.as_str())?,
-        Answered::Closes => output.line(CLOSE)?,
+        Answered::Replied => {
+            output.line(hex::encode(alloc, reply.as_slice())?.as_str())?;
+            Ok(Did::Answered(reply))
+        }
+        Answered::Closes => {
+            output.line(CLOSE)?;
+            Ok(Did::Closed(stamp))
+        }
     }
-    Ok(())
 }
 
 /// Prints how many members a tick removed.

@@ -15,12 +15,16 @@ mod parts;
 mod player;
 pub mod program;
 mod reasons;
+mod refusals;
 pub mod reply;
 pub mod run;
+mod sentences;
 mod settings;
 mod shown;
 mod stamps;
 mod standings;
+mod story;
+mod told;
 mod verb;
 
 pub use scenario_text::service::Service;

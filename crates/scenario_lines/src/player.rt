@@ -10,13 +10,13 @@ ghost use Rattle.scenario_lines.specs.Stages.{IsShortStage, has_begun, world_at}
 
 use crate::act::act_of;
 use crate::cast::Cast;
-use crate::reasons;
 use crate::settings::settings_of;
-use crate::shown::{print_answer, print_settled};
+use crate::shown::{Did, print_answer, print_settled};
 use crate::standings::put_standings;
+use crate::story::Story;
 use crate::verb::Verb;
+use crate::{reasons, told};
 use scenario_text::driver::LineWorker;
-use scenario_text::explain::Explains;
 use scenario_text::fault::LineFault;
 use scenario_text::output::Output;
 use scenario_text::page::Page;
@@ -81,7 +81,7 @@ impl Player {
         verb: Verb,
         arguments: &[&str],
         output: &mut Output,
-    ) -> Result<(), LineFault>
+    ) -> Result<Did, LineFault>
         ensures printed { OnOk result (Prints (DoesVerb verb (map (λ word. word.now) arguments.now) self.old self.new) output.old output.new) }
         ensures refused { result ≡ Err LineFault.BadLine → ¬ MayStand verb (map (λ word. word.now) arguments.now) self.old }
         ensures err { OnErr result (output.new ≡ output.old) }
@@ -94,7 +94,7 @@ impl Player {
     }
 
     /// `client NAME GROUP INSTANCE ASSIGNOR REBALANCE TOPICS` lets a client into the world, before the first act.
-    fn enter(&mut self, arguments: &[&str]) -> Result<(), LineFault>
+    fn enter(&mut self, arguments: &[&str]) -> Result<Did, LineFault>
         ensures done { OnOk result (Enters (map (λ word. word.now) arguments.now) self.old self.new) }
         ensures refused { result ≡ Err LineFault.BadLine → ¬ Entrance (map (λ word. word.now) arguments.now) self.old }
     {
@@ -107,7 +107,7 @@ impl Player {
         let settings = settings_of(self.alloc, arguments)?;
         enlist(&mut self.stage, settings)?;
         self.cast.add(self.alloc, name)?;
-        Ok(())
+        Ok(Did::Nothing)
     }
 
     /// A line of an act.
@@ -116,7 +116,7 @@ impl Player {
         verb: Verb,
         arguments: &[&str],
         output: &mut Output,
-    ) -> Result<(), LineFault>
+    ) -> Result<Did, LineFault>
         requires { IsOfAct verb }
         ensures printed { OnOk result (Prints (DoesVerb verb (map (λ word. word.now) arguments.now) self.old self.new) output.old output.new) }
         ensures refused { result ≡ Err LineFault.BadLine → ¬ MayStand verb (map (λ word. word.now) arguments.now) self.old }
@@ -132,7 +132,7 @@ impl Player {
         verb: Verb,
         act: Act<'a>,
         output: &mut Output,
-    ) -> Result<(), LineFault>
+    ) -> Result<Did, LineFault>
         requires { HasShortTopics (act_value act) }
         ensures printed { OnOk result (Prints (Performs verb (act_value act.entry) self.old self.new) output.old output.new) }
         ensures err { OnErr result (output.new ≡ output.old) }
@@ -141,13 +141,13 @@ impl Player {
         let stage = mem::replace(&mut self.stage, Stage::Before(Vec::new(self.alloc)));
         let mut world = world_of(self.alloc, self.hasher, stage)?;
         let answer = world.act(act);
-        let printed = print_answer(self.alloc, verb, &world, &answer, output);
+        let printed = print_answer(self.alloc, verb, &world, answer, output);
         self.stage = Stage::Begun(world);
         printed
     }
 
     /// `settle` settles the world by three rounds.
-    fn settle_line(&mut self, arguments: &[&str], output: &mut Output) -> Result<(), LineFault>
+    fn settle_line(&mut self, arguments: &[&str], output: &mut Output) -> Result<Did, LineFault>
         ensures printed { OnOk result (Prints (DoesVerb Verb.Settle (map (λ word. word.now) arguments.now) self.old self.new) output.old output.new) }
         ensures refused { result ≡ Err LineFault.BadLine → ¬ MayStand Verb.Settle (map (λ word. word.now) arguments.now) self.old }
         ensures err { OnErr result (output.new ≡ output.old) }
@@ -159,7 +159,7 @@ impl Player {
     }
 
     /// Settles the world, and prints how that went.
-    fn settle(&mut self, output: &mut Output) -> Result<(), LineFault>
+    fn settle(&mut self, output: &mut Output) -> Result<Did, LineFault>
         ensures printed { OnOk result (Prints (Settles self.old self.new) output.old output.new) }
         ensures err { OnErr result (output.new ≡ output.old) }
         ensures fault { IfErr result (λ fault. fault ≡ LineFault.NoMemory) }
@@ -180,7 +180,11 @@ impl LineWorker for Player {
 
     ghost closes = { PrintsStandings };
 
-    fn line(&mut self, line: &[u8], output: &mut Output) -> Result<(), LineFault> {
+    type Did = Did;
+
+    type Notes = Story;
+
+    fn line(&mut self, line: &[u8], output: &mut Output) -> Result<Did, LineFault> {
         let words = words::words_of(self.alloc, line)?;
         let Some((word, arguments)) = words.split_first() else {
             return Err(LineFault::BadLine);
@@ -197,19 +201,40 @@ impl LineWorker for Player {
         let page = standings_of(self.alloc, self.hasher, &self.cast, stage)?;
         output.text(page.as_str())
     }
-}
 
-impl Explains for Player {
-    fn reason(&self, line: &[u8]) -> Result<String, AllocError> {
-        reasons::of_run_line(self.alloc, line)
+    fn notes(&self) -> Story {
+        Story::new(self.alloc, self.hasher)
     }
 
-    fn why<'a>(&self, printed: &[u8], reason: &'a str) -> &'a str {
-        if printed.starts_with(b"close") {
-            reason
-        } else {
-            reasons::of_refusal(printed)
+    fn why(&self, story: &mut Story, line: &[u8], did: &Did) -> Result<Option<String>, AllocError> {
+        let Ok(words) = words::words_of(self.alloc, line) else {
+            return Err(AllocError);
+        };
+        let Some((word, arguments)) = words.split_first() else {
+            return Ok(None);
+        };
+        let (Some(verb), Stage::Begun(world)) = (Verb::of(word), &self.stage) else {
+            story.enter(arguments)?;
+            return Ok(None);
+        };
+        match did {
+            Did::Acted(Ok(shown)) => story.show(&self.cast, world, verb, arguments, shown),
+            Did::Acted(Err(fault)) => {
+                Ok(Some(story.refusal(&self.cast, world, verb, arguments, *fault)?))
+            }
+            Did::Settled(Err(fault)) => Ok(Some(told::unsettled(
+                self.alloc, story, world, *fault,
+            )?)),
+            Did::Settled(Ok(())) => {
+                story.settle(world)?;
+                Ok(None)
+            }
+            Did::Nothing => Ok(None),
         }
+    }
+
+    fn why_bad(&self, line: &[u8]) -> Result<String, AllocError> {
+        reasons::of_bad_run_line(self.alloc, line)
     }
 }
 

@@ -2,11 +2,11 @@
 ghost use Rattle.std.specs.Prelude.{◌≤◌};
 ghost use Rattle.scenario_lines.specs.Statuses.{HasStatus};
 
-use crate::reply::{explained_reply_lines, reply_lines};
-use crate::run::{explained_run_lines, run_lines};
-use scenario_text::command_line::{LineCommand, Subcommand, Telling, VERSION, asked};
+use crate::reply::reply_lines;
+use crate::run::run_lines;
+use scenario_text::command_line::{LineCommand, Subcommand, VERSION, asked};
 use scenario_text::fault::Fault;
-use scenario_text::frames::{explained_frame_lines, frame_lines};
+use scenario_text::frames::frame_lines;
 use scenario_text::replies::reply_frame_lines;
 use scenario_text::service::Service;
 use std::alloc::Global;
@@ -65,66 +65,16 @@ fn do_lines<R: Read, W: Write, E: Write>(
     ensures { result ≤ 2 }
 {
     match command {
-        LineCommand::Frame(telling) => frame(alloc, telling, reader, writer, faults),
+        LineCommand::Frame(telling) => frame_lines(alloc, telling, reader, writer, faults),
         LineCommand::Replies(api) => reply_frame_lines(alloc, api, reader, writer, faults),
         LineCommand::Reply(telling) => match drawn(keys, faults) {
-            Some(keys) => reply(alloc, keys, telling, reader, writer, faults),
+            Some(keys) => reply_lines(alloc, keys, telling, reader, writer, faults),
             None => 1,
         },
         LineCommand::Run(telling) => match drawn(keys, faults) {
-            Some(keys) => play(alloc, keys, telling, reader, writer, faults),
+            Some(keys) => run_lines(alloc, keys, telling, reader, writer, faults),
             None => 1,
         },
-    }
-}
-
-/// Prints what is in the request frames of the reader.
-fn frame<R: Read, W: Write, E: Write>(
-    alloc: Global,
-    telling: Telling,
-    reader: &mut R,
-    writer: &mut W,
-    faults: &mut E,
-) -> u8
-    ensures { result ≤ 2 }
-{
-    match telling {
-        Telling::Numbers => frame_lines(alloc, reader, writer, faults),
-        Telling::Reasons => explained_frame_lines(alloc, reader, writer, faults),
-    }
-}
-
-/// Answers the request frames of the reader.
-fn reply<R: Read, W: Write, E: Write>(
-    alloc: Global,
-    keys: RandomState,
-    telling: Telling,
-    reader: &mut R,
-    writer: &mut W,
-    faults: &mut E,
-) -> u8
-    ensures { result ≤ 2 }
-{
-    match telling {
-        Telling::Numbers => reply_lines(alloc, keys, reader, writer, faults),
-        Telling::Reasons => explained_reply_lines(alloc, keys, reader, writer, faults),
-    }
-}
-
-/// Plays the script of the reader.
-fn play<R: Read, W: Write, E: Write>(
-    alloc: Global,
-    keys: RandomState,
-    telling: Telling,
-    reader: &mut R,
-    writer: &mut W,
-    faults: &mut E,
-) -> u8
-    ensures { result ≤ 2 }
-{
-    match telling {
-        Telling::Numbers => run_lines(alloc, keys, reader, writer, faults),
-        Telling::Reasons => explained_run_lines(alloc, keys, reader, writer, faults),
     }
 }
 

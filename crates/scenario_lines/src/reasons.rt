@@ -1,12 +1,18 @@
-//! Why lines are bad, and why frames come to nothing, in words.
+//! Why lines are bad, and why frames close, in words.
 
 use coord_node::Node;
 use group_types::Stamp;
-use group_types::limits::{LARGEST_BODY, SMALLEST_BODY};
+use group_types::limits::{
+    LARGEST_BODY, MOST_PARTITIONS, MOST_TOPIC_PARTITIONS, MOST_TOPICS, SMALLEST_BODY,
+};
 use kip_msgs::{Request, read_request};
+use scenario_text::command_line::escaped;
+use scenario_text::fault::LineFault;
 use scenario_text::reasons::{argument_of, of_frame, of_line, of_word};
+use scenario_text::topics::topic_of;
 use scenario_text::{frame, words};
 use std::alloc::{AllocError, Global};
+use topic_meta::TopicEntry;
 
 /// The lines of `coord reply`: what each begins with, and its form.
 const REPLY_FORMS: &[(&str, &str)] = &[
@@ -41,50 +47,166 @@ const IMAGE: &str =
 const CLIENT: &str =
     "client NAME GROUP INSTANCE ASSIGNOR REBALANCE TOPICS, before the first act, whose name is new";
 
-const OVERTAKEN: &str =
-    "the heartbeat was overtaken: it, or a later one of its client, was delivered before";
-
-/// Why a line of `coord reply` is bad or closes, if it does, where the next request comes to this node with this stamp.
-pub fn of_reply_line(
-    alloc: Global,
-    line: &[u8],
-    node: &Node,
-    stamp: Stamp,
-) -> Result<String, AllocError> {
+/// Why a line of `coord reply` is bad.
+pub fn of_bad_reply_line(alloc: Global, line: &[u8]) -> Result<String, AllocError> {
     match argument_of(line, "req ") {
-        Some(word) => of_request(alloc, word, node, stamp),
-        None => of_line(alloc, line, REPLY_FORMS),
+        Some(_) => of_word(alloc, LineFault::BadLine),
+        None => of_bad_line(alloc, line, REPLY_FORMS),
     }
 }
 
-/// Why a line of `coord run` is bad or closes, if it does.
-pub fn of_run_line(alloc: Global, line: &[u8]) -> Result<String, AllocError> {
-    match argument_of(line, "deliver ").and_then(words::number_of) {
-        Some(_) => String::from_str(alloc, OVERTAKEN),
-        None => of_line(alloc, line, RUN_FORMS),
-    }
+/// Why a line of `coord run` is bad.
+pub fn of_bad_run_line(alloc: Global, line: &[u8]) -> Result<String, AllocError> {
+    of_bad_line(alloc, line, RUN_FORMS)
 }
 
-/// Why a word is no frame, or a node doesn't answer its request with a stamp.
-fn of_request(alloc: Global, word: &str, node: &Node, stamp: Stamp) -> Result<String, AllocError> {
-    let frame = match words::bytes_of(alloc, word) {
-        Ok(frame) => frame,
-        Err(fault) => return of_word(alloc, fault),
+/// Why a line is bad that isn't of these forms, or whose topics make no image.
+fn of_bad_line(alloc: Global, line: &[u8], forms: &[(&str, &str)]) -> Result<String, AllocError> {
+    if let Some(topics) = argument_of(line, "image ") {
+        if let Some(reason) = of_topics(alloc, topics)? {
+            return Ok(reason);
+        }
+    }
+    of_line(alloc, line, forms)
+}
+
+/// Why topics make no image, if they don't: three words each.
+fn of_topics(alloc: Global, text: &str) -> Result<Option<String>, AllocError> {
+    let words = words_of(alloc, text)?;
+    let mut topics = Vec::new(alloc);
+    for topic in words.as_slice().chunks(3) {
+        match topic_of(alloc, topic) {
+            Ok(topic) => topics.push(topic)?,
+            Err(LineFault::NoMemory) => return Err(AllocError),
+            Err(LineFault::BadLine) => return Ok(Some(of_topic_words(alloc, topic)?)),
+        }
+    }
+    of_list(alloc, topics.as_slice())
+}
+
+/// The words of a text, which one space parts each from the next.
+fn words_of<'a>(alloc: Global, text: &'a str) -> Result<Vec<&'a str>, AllocError> {
+    text.split(' ').collect(alloc)
+}
+
+/// That three words, or fewer, are no topic.
+fn of_topic_words(alloc: Global, words: &[&str]) -> Result<String, AllocError> {
+    let mut text = String::new(alloc);
+    for word in words {
+        text.push(' ')?;
+        text.push_str(escaped(alloc, word)?.as_str())?;
+    }
+    format!(in alloc; "\"{}\" is not NAME UUID COUNT", text.as_str().trim_start())
+}
+
+/// Why a list of topics makes no image, if it doesn't.
+fn of_list(alloc: Global, topics: &[TopicEntry]) -> Result<Option<String>, AllocError> {
+    let (count, partitions) = (topics.len(), partitions_of(topics));
+    if MOST_TOPICS < count || MOST_PARTITIONS < partitions {
+        let reason = format!(in alloc;
+            "an image has at most {MOST_TOPICS} topics and {MOST_PARTITIONS} partitions, and this one has {count} and {partitions}"
+        )?;
+        return Ok(Some(reason));
+    }
+    for (place, topic) in topics.iter().enumerate() {
+        let reason = of_topic(alloc, topic, topics.get(..place).unwrap_or_default())?;
+        if reason.is_some() {
+            return Ok(reason);
+        }
+    }
+    Ok(None)
+}
+
+/// How many partitions topics have together.
+fn partitions_of(topics: &[TopicEntry]) -> u64 {
+    let mut partitions = 0_u64;
+    for topic in topics {
+        partitions = partitions.saturating_add(u64::from(topic.count.unsigned_abs()));
+    }
+    partitions
+}
+
+/// Why a topic can't stand in an image behind former ones, if it can't.
+fn of_topic(
+    alloc: Global,
+    topic: &TopicEntry,
+    formers: &[TopicEntry],
+) -> Result<Option<String>, AllocError> {
+    let count = topic.count.unsigned_abs();
+    if count < 1 || MOST_TOPIC_PARTITIONS < count {
+        let name = escaped(alloc, topic.name.as_str())?;
+        let reason = format!(in alloc;
+            "topic {name} has {count} partitions, and a topic has 1 to {MOST_TOPIC_PARTITIONS}"
+        )?;
+        return Ok(Some(reason));
+    }
+    for former in formers {
+        let reason = of_two(alloc, former, topic)?;
+        if reason.is_some() {
+            return Ok(reason);
+        }
+    }
+    Ok(None)
+}
+
+/// Why two topics can't stand in one image, if they can't.
+fn of_two(
+    alloc: Global,
+    one: &TopicEntry,
+    other: &TopicEntry,
+) -> Result<Option<String>, AllocError> {
+    if one.name.as_str() == other.name.as_str() {
+        let name = escaped(alloc, one.name.as_str())?;
+        return Ok(Some(format!(in alloc; "two topics have the name {name}")?));
+    }
+    if one.id == other.id {
+        let name = escaped(alloc, one.name.as_str())?;
+        let other_name = escaped(alloc, other.name.as_str())?;
+        return Ok(Some(format!(in alloc; "topics {name} and {other_name} have the same id")?));
+    }
+    Ok(None)
+}
+
+/// Why a `req` line closed, whose request had this stamp: it has no frame that is answered, or the node had accepted a later heartbeat
+/// of the member.
+pub fn of_closed(
+    alloc: Global,
+    node: &Node,
+    line: &[u8],
+    stamp: Stamp,
+) -> Result<Option<String>, AllocError> {
+    let Some(frame) = frame_of(alloc, line)? else {
+        return Ok(None);
     };
     let reason = of_frame(alloc, frame.as_slice(), SMALLEST_BODY, LARGEST_BODY)?;
-    if !reason.is_empty() {
+    if reason.is_some() {
         return Ok(reason);
     }
-    let (connection, number) = (stamp.connection, stamp.frame);
     match last_stamp(alloc, frame.as_slice(), node)? {
-        Some(last) => {
-            let (former_connection, former_number) = (last.connection, last.frame);
-            format!(in alloc;
-                "the heartbeat was overtaken: its stamp ({connection}, {number}) is not above ({former_connection}, {former_number})"
-            )
-        }
-        None => Ok(reason),
+        Some(last) => Ok(Some(overtaken(alloc, stamp, last)?)),
+        None => Ok(None),
     }
+}
+
+/// The bytes of the frame of a `req` line, where it is one.
+pub fn frame_of(alloc: Global, line: &[u8]) -> Result<Option<Vec<u8>>, AllocError> {
+    let Some(word) = argument_of(line, "req ") else {
+        return Ok(None);
+    };
+    match words::bytes_of(alloc, word) {
+        Ok(frame) => Ok(Some(frame)),
+        Err(LineFault::BadLine) => Ok(None),
+        Err(LineFault::NoMemory) => Err(AllocError),
+    }
+}
+
+/// That a heartbeat with a stamp doesn't come behind the last one.
+fn overtaken(alloc: Global, stamp: Stamp, last: Stamp) -> Result<String, AllocError> {
+    let (connection, number) = (stamp.connection, stamp.frame);
+    let (former_connection, former_number) = (last.connection, last.frame);
+    format!(in alloc;
+        "the heartbeat was overtaken: its stamp ({connection}, {number}) is not above ({former_connection}, {former_number})"
+    )
 }
 
 /// The stamp of the last heartbeat that a node accepted from the member whose heartbeat is in a frame, if it is one.
@@ -98,18 +220,5 @@ fn last_stamp(alloc: Global, frame: &[u8], node: &Node) -> Result<Option<Stamp>,
                 .and_then(|group| group.last_stamp(message.member_id)),
         ),
         _ => Ok(None),
-    }
-}
-
-/// Why an act was refused, by what it has printed, or nothing where it wasn't.
-pub fn of_refusal(printed: &[u8]) -> &'static str {
-    match printed.strip_prefix(b"refused ".as_slice()) {
-        Some([b'1', ..]) => "no client has the name",
-        Some([b'2', ..]) => "no message has the number",
-        Some([b'3', ..]) => "the state of a client does not let it",
-        Some([b'4', ..]) => "out of memory",
-        Some([b'5', ..]) => "the request would be too large",
-        Some([b'6', ..]) => "the member id is forgotten",
-        _ => "",
     }
 }

@@ -1,13 +1,10 @@
 //! The subcommand `coord reply`.
-ghost use Rattle.std.specs.Prelude.{◌≡◌};
-ghost use Rattle.std.specs.Io.KnownBytes.{Keeps};
 ghost use Rattle.scenario_lines.specs.Commands.{DoesReplyLine, IsReplyLine, new_interpreter};
-ghost use Rattle.scenario_text.specs.Inputs.{IsTooLong};
-ghost use Rattle.scenario_text.specs.Runs.{ExplainsLines, RunsLines};
+ghost use Rattle.scenario_text.specs.Runs.{RunsLines};
 
 use crate::interpreter::Interpreter;
+use scenario_text::command_line::Telling;
 use scenario_text::driver;
-use scenario_text::explain::explained_lines;
 use std::alloc::Global;
 use std::collections::hash_map::RandomState;
 use std::io::{Read, Write};
@@ -20,30 +17,14 @@ use std::io::{Read, Write};
 pub fn reply_lines<R: Read, W: Write, E: Write>(
     alloc: Global,
     hasher: RandomState,
+    telling: Telling,
     reader: &mut R,
     writer: &mut W,
     faults: &mut E,
 ) -> u8
-    ensures { RunsLines DoesReplyLine IsReplyLine (new_interpreter alloc) (R.remaining reader.old)
+    ensures { RunsLines DoesReplyLine IsReplyLine (new_interpreter alloc) telling (R.remaining reader.old)
         (W.contents writer.old, W.contents writer.new) (E.contents faults.old, E.contents faults.new) result }
 {
     let interpreter = Interpreter::new(alloc, hasher);
-    driver::run(alloc, interpreter, reader, writer, faults)
-}
-
-/// Does what [`reply_lines`] does, and tells then of each line that closed or was bad why.
-pub fn explained_reply_lines<R: Read, W: Write, E: Write>(
-    alloc: Global,
-    hasher: RandomState,
-    reader: &mut R,
-    writer: &mut W,
-    faults: &mut E,
-) -> u8
-    ensures ends { ExplainsLines DoesReplyLine IsReplyLine (new_interpreter alloc) (R.remaining reader.old)
-        (W.contents writer.old, W.contents writer.new) (E.contents faults.old, E.contents faults.new) result }
-    ensures too_long { IsTooLong (R.remaining reader.old) → (result ≡ 1) × Keeps (W.contents writer.old) (W.contents writer.new) }
-{
-    let interpreter = Interpreter::new(alloc, hasher);
-    let again = Interpreter::new(alloc, hasher);
-    explained_lines(alloc, interpreter, again, reader, writer, faults)
+    driver::run(alloc, interpreter, telling, reader, writer, faults)
 }

@@ -1,13 +1,10 @@
 //! The subcommand `coord run`.
-ghost use Rattle.std.specs.Prelude.{◌≡◌};
-ghost use Rattle.std.specs.Io.KnownBytes.{Keeps};
 ghost use Rattle.scenario_lines.specs.Plays.{DoesScriptLine, IsScriptLine, PrintsStandings, new_play};
-ghost use Rattle.scenario_text.specs.Inputs.{IsTooLong};
-ghost use Rattle.scenario_text.specs.Runs.{ExplainsScript, RunsScript};
+ghost use Rattle.scenario_text.specs.Runs.{RunsScript};
 
 use crate::player::Player;
+use scenario_text::command_line::Telling;
 use scenario_text::driver;
-use scenario_text::explain::explained_lines;
 use std::alloc::Global;
 use std::collections::hash_map::RandomState;
 use std::io::{Read, Write};
@@ -20,30 +17,14 @@ use std::io::{Read, Write};
 pub fn run_lines<R: Read, W: Write, E: Write>(
     alloc: Global,
     hasher: RandomState,
+    telling: Telling,
     reader: &mut R,
     writer: &mut W,
     faults: &mut E,
 ) -> u8
-    ensures { RunsScript DoesScriptLine IsScriptLine PrintsStandings new_play (R.remaining reader.old)
+    ensures { RunsScript DoesScriptLine IsScriptLine PrintsStandings new_play telling (R.remaining reader.old)
         (W.contents writer.old, W.contents writer.new) (E.contents faults.old, E.contents faults.new) result }
 {
     let player = Player::new(alloc, hasher);
-    driver::run(alloc, player, reader, writer, faults)
-}
-
-/// Does what [`run_lines`] does, and tells then of each line that closed, was refused or was bad why.
-pub fn explained_run_lines<R: Read, W: Write, E: Write>(
-    alloc: Global,
-    hasher: RandomState,
-    reader: &mut R,
-    writer: &mut W,
-    faults: &mut E,
-) -> u8
-    ensures ends { ExplainsScript DoesScriptLine IsScriptLine PrintsStandings new_play (R.remaining reader.old)
-        (W.contents writer.old, W.contents writer.new) (E.contents faults.old, E.contents faults.new) result }
-    ensures too_long { IsTooLong (R.remaining reader.old) → (result ≡ 1) × Keeps (W.contents writer.old) (W.contents writer.new) }
-{
-    let player = Player::new(alloc, hasher);
-    let again = Player::new(alloc, hasher);
-    explained_lines(alloc, player, again, reader, writer, faults)
+    driver::run(alloc, player, telling, reader, writer, faults)
 }

@@ -12,22 +12,33 @@ use scenario_text::page::Page;
 use std::alloc::{AllocError, Global};
 use world_sim::{ClientState, Shown, World, WorldFault};
 
+/// What a line of a script did.
+#[derive(Drop)]
+pub enum Did {
+    /// A client came into the story.
+    Nothing,
+    /// An act was done, or refused.
+    Acted(Result<Shown, WorldFault>),
+    /// The world was settled, or wasn't.
+    Settled(Result<(), WorldFault>),
+}
+
 /// Prints the line of an act: what it shows, or the number of the fault for which it was refused.
 pub fn print_answer(
     alloc: Global,
     verb: Verb,
     world: &World,
-    answer: &Result<Shown, WorldFault>,
+    answer: Result<Shown, WorldFault>,
     output: &mut Output,
-) -> Result<(), LineFault>
-    ensures printed { OnOk result (Prints (IsAnswerText verb world.now answer.now) output.old output.new) }
+) -> Result<Did, LineFault>
+    ensures printed { OnOk result (Prints (IsAnswerText verb world.now answer) output.old output.new) }
     ensures err { OnErr result (output.new ≡ output.old) }
     ensures fault { IfErr result (λ fault. fault ≡ LineFault.NoMemory) }
 {
     let mut page = Page::new(alloc);
-    put_answer(alloc, &mut page, verb, world, answer)?;
+    put_answer(alloc, &mut page, verb, world, &answer)?;
     output.text(page.as_str())?;
-    Ok(())
+    Ok(Did::Acted(answer))
 }
 
 /// Puts the line of an act on an empty page.
@@ -52,7 +63,7 @@ pub fn print_settled(
     alloc: Global,
     settled: Result<(), WorldFault>,
     output: &mut Output,
-) -> Result<(), LineFault>
+) -> Result<Did, LineFault>
     ensures printed { OnOk result (output.new ≡ output.old ++ settled_text settled) }
     ensures err { OnErr result (output.new ≡ output.old) }
     ensures fault { IfErr result (λ fault. fault ≡ LineFault.NoMemory) }
@@ -60,7 +71,7 @@ pub fn print_settled(
     let mut page = Page::new(alloc);
     put_settled(&mut page, settled)?;
     output.text(page.as_str())?;
-    Ok(())
+    Ok(Did::Settled(settled))
 }
 
 /// Puts the line of settling on an empty page.

@@ -32,16 +32,6 @@ impl Stamps {
         self.given = Some(stamp);
     }
 
-    /// The stamp that the next request has.
-    pub fn coming(&self) -> Stamp
-        ensures { result ≡ stamp_of self.now.given (min (self.now.requests + 1) (2 ^ 64 - 1)) }
-    {
-        self.given.unwrap_or(Stamp {
-            connection: Self::CONNECTION,
-            frame: self.requests.saturating_add(1),
-        })
-    }
-
     /// The stamp of one more request: the one that was given, else its number on the connection 1.
     pub fn next_stamp(&mut self) -> Stamp
         ensures counted { self.new.requests ≡ min (self.old.requests + 1) (2 ^ 64 - 1) }

@@ -1,12 +1,17 @@
 -- A run that goes on line by line.
 use Rattle.std.proofs.Common.{◌≡◌, inl, inr, Result, Ok, Err, OnOk, ℕ, ◌+◌, List, [], ◌∷◌, ◌++◌, length, Option, Some, None, IfSome, unwrap_or, refl, sym, ap, ◌∙◌, subst, append_assoc, append-nil, arith, length-append}
-use Rattle.std.specs.Prelude.{◌⊎◌, OnErr}
-use Rattle.std.specs.Io.KnownBytes.{Appends}
+use Rattle.std.specs.Prelude.{◌⊎◌, OnErr, IsErrAnd}
+use Rattle.std.specs.Result.{result_err}
+use Rattle.std.specs.Io.KnownBytes.{Appends, Keeps}
 use Rattle.std.proofs.KnownBytes.{Appends-nil, Appends-trans, Keeps-refl}
+use Rattle.scenario_text.specs.declared.command_line.Telling.{Telling}
+use Rattle.scenario_text.specs.declared.command_line.Telling.TheVariants.{Numbers, Reasons}
 use Rattle.scenario_text.specs.declared.fault.Fault.{Fault}
 use Rattle.scenario_text.specs.declared.fault.Fault.TheVariants.{BadLine, Read, TooLong, Write, NoMemory}
+use Rattle.scenario_text.specs.Inputs.{IsTooLong}
+use Rattle.scenario_text.specs.Statuses.{status_of}
 use Rattle.scenario_text.specs.Writing.{Grows, WritesPart}
-use Rattle.scenario_text.specs.Runs.{Effect, Grammar, Closing, AreDone, WritesLines, WritesPartOfLines, Prints, IsOfReading, IsWrite, IsStatus, Ends, EndsExplained, LineEnds, EndEnds}
+use Rattle.scenario_text.specs.Runs.{Effect, Grammar, Closing, AreDone, WritesLines, WritesPartOfLines, Prints, IsOfReading, IsWrite, IsStatus, Ends, EndsOver, LineEnds, EndEnds, RunsScript}
 use Rattle.scenario_text.proofs.Written.{Grows-trans}
 
 -- the first lines are done, and of their text the front is written and the rest is held
@@ -192,12 +197,33 @@ EndEnds-by_write closes old held printed before after ended written NoMemory pri
 
 -- ---- a run with reasons
 
--- reasons may come behind a run, and memory may be out for them
-pub EndsExplained-more : {State : Type 0} (does : Effect State) (takes : Grammar State) (closes : Closing State) (old : State) (lines : List (List ℕ))
-    (before after errors told more : Option (List ℕ)) (status last : ℕ)
-    → EndsExplained does takes closes old lines (before, after) (errors, told) status → Grows told more → (last ≡ status) ⊎ (last ≡ 1)
-    → EndsExplained does takes closes old lines (before, after) (errors, more) last
-EndsExplained-more does takes closes old lines before after errors told more status last run grown (inl same) =
-    record { fault = run.fault; ends = run.ends; is_status = subst (λ n. IsStatus run.fault n ⊎ (n ≡ 1)) (sym same) run.is_status; told = Grows-trans errors told more run.told grown }
-EndsExplained-more does takes closes old lines before after errors told more status last run grown (inr one) =
-    record { fault = run.fault; ends = run.ends; is_status = inr one; told = Grows-trans errors told more run.told grown }
+abbrev IsReasons : Telling → Type 0
+IsReasons Numbers = ⊥
+IsReasons Reasons = Unit {0}
+
+-- a fault of reading ends with the status 1
+status_is_one : {T : Type 0} (done : Result T Fault) (status : ℕ) → IsErrAnd done (λ fault. status_of fault ≡ 1) → IsStatus (result_err done) status → status ≡ 1
+status_is_one (Ok x) status is_err is_status = absurd is_err
+status_is_one (Err fault) status is_one (inl same) = same ∙ is_one
+status_is_one (Err fault) status is_one (inr one) = one
+
+last_is_one : (status last : ℕ) → status ≡ 1 → (last ≡ status) ⊎ (last ≡ 1) → last ≡ 1
+last_is_one status last is_one (inl same) = same ∙ is_one
+last_is_one status last is_one (inr one) = one
+
+-- reasons come behind the fault, and memory may be out for them
+pub RunsScript-told : {State T : Type 0} (does : Effect State) (takes : Grammar State) (closes : Closing State) (old : State) (input : Option (List ℕ))
+    (before after errors between told : Option (List ℕ)) (done : Result T Fault) (status last : ℕ)
+    → EndsOver does takes closes old input before after (result_err done)
+    → (IsTooLong input → IsErrAnd done (λ fault. status_of fault ≡ 1) × Keeps before after)
+    → IsStatus (result_err done) status → Grows errors between → (last ≡ status) ⊎ (last ≡ 1) → Grows between told
+    → RunsScript does takes closes old Reasons input (before, after) (errors, told) last
+RunsScript-told does takes closes old input before after errors between told done status last ends too_long is_status grown lasts more =
+    record {
+      fault = result_err done;
+      ends = ends;
+      is_status = elim lasts [ inl same ↦ inl (subst (IsStatus (result_err done)) (sym same) is_status) | inr one ↦ inr one ];
+      too_long = λ is. (last_is_one status last (status_is_one done status (too_long is).0 is_status) lasts, (too_long is).1);
+      told = Grows-trans errors between told grown more;
+      quiet = λ is none. absurd (subst IsReasons is tt);
+    }

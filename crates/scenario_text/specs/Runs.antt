@@ -1,6 +1,8 @@
 -- What a run over lines comes to: which lines it does, what it has written when it ends, and with which status.
 use Rattle.std.specs.Prelude.{◌≡◌, ◌⊎◌, ℕ, ◌+◌, List, [], ◌∷◌, ◌++◌, length, Option, Some, None, IfSome}
 use Rattle.std.specs.Io.KnownBytes.{Appends, Keeps}
+use Rattle.scenario_text.specs.declared.command_line.Telling.{Telling}
+use Rattle.scenario_text.specs.declared.command_line.Telling.TheVariants.{Numbers, Reasons}
 use Rattle.scenario_text.specs.declared.fault.Fault.{Fault}
 use Rattle.scenario_text.specs.declared.fault.Fault.TheVariants.{BadLine, Read, TooLong, Write, NoMemory}
 use Rattle.scenario_text.specs.Inputs.{IsTooLong}
@@ -115,44 +117,30 @@ abbrev pub IsStatus : Option Fault → ℕ → Type 0
 IsStatus None status = status ≡ 0
 IsStatus (Some fault) status = (status ≡ status_of fault) ⊎ (status ≡ 1)
 
+-- and 1 too where reasons are told, and memory was out for one
+abbrev pub IsStatusTelling : Telling → Option Fault → ℕ → Type 0
+IsStatusTelling Numbers fault status = IsStatus fault status
+IsStatusTelling Reasons fault status = IsStatus fault status ⊎ (status ≡ 1)
+
 -- A run of a subcommand, whose lines have an effect, which takes some lines in each state, and which may print more at the
 -- end: over the bytes of its input, and with those that its two outputs hold before and after it, where these are known. An
--- input that is too long isn't begun, and nothing is told of a run without a fault.
-pub record RunsScript {State : Type 0} (does : Effect State) (takes : Grammar State) (closes : Closing State) (old : State) (input : Option (List ℕ)) (output errors : Option (List ℕ) × Option (List ℕ)) (status : ℕ) : Type 0 where
+-- input that is too long isn't begun, and where no reasons are told nothing is told of a run without a fault.
+pub record RunsScript {State : Type 0} (does : Effect State) (takes : Grammar State) (closes : Closing State) (old : State) (telling : Telling) (input : Option (List ℕ)) (output errors : Option (List ℕ) × Option (List ℕ)) (status : ℕ) : Type 0 where
   pub fault : Option Fault
   pub ends : EndsOver does takes closes old input output.0 output.1 fault
-  pub is_status : IsStatus fault status
+  pub is_status : IsStatusTelling telling fault status
   pub too_long : IsTooLong input → (status ≡ 1) × Keeps output.0 output.1
   pub told : Grows errors.0 errors.1
-  pub quiet : status ≡ 0 → Keeps errors.0 errors.1
-
--- A run over lines and what is told behind it, as reasons why lines are bad or come to nothing: no line is done otherwise and
--- nothing else is printed. The status is the run's, or 1 where memory was out for a reason.
-pub record EndsExplained {State : Type 0} (does : Effect State) (takes : Grammar State) (closes : Closing State) (old : State) (lines : List (List ℕ)) (output errors : Option (List ℕ) × Option (List ℕ)) (status : ℕ) : Type 0 where
-  pub fault : Option Fault
-  pub ends : Ends does takes closes lines old output.0 output.1 fault
-  pub is_status : IsStatus fault status ⊎ (status ≡ 1)
-  pub told : Grows errors.0 errors.1
-
--- the same of a run of a subcommand
-pub record ExplainsScript {State : Type 0} (does : Effect State) (takes : Grammar State) (closes : Closing State) (old : State) (input : Option (List ℕ)) (output errors : Option (List ℕ) × Option (List ℕ)) (status : ℕ) : Type 0 where
-  pub bytes : List ℕ
-  pub is_input : IfSome input (λ known. bytes ≡ known)
-  pub ends : EndsExplained does takes closes old (lines_of bytes) output errors status
+  pub quiet : telling ≡ Numbers → status ≡ 0 → Keeps errors.0 errors.1
 
 -- Nothing is printed at the end.
 abbrev pub PrintsNothing : {State : Type 0} → Closing State
 PrintsNothing state text = text ≡ []
 
 -- A run of a subcommand that takes the same lines in every state, and prints nothing at the end.
-abbrev pub RunsLines : {State : Type 0} → Effect State → (List ℕ → Type 0) → State → Option (List ℕ) → Option (List ℕ) × Option (List ℕ) → Option (List ℕ) × Option (List ℕ) → ℕ → Type 0
-RunsLines does takes old input output errors status =
-    RunsScript does (λ state. takes) PrintsNothing old input output errors status
-
--- and such a run with reasons
-abbrev pub ExplainsLines : {State : Type 0} → Effect State → (List ℕ → Type 0) → State → Option (List ℕ) → Option (List ℕ) × Option (List ℕ) → Option (List ℕ) × Option (List ℕ) → ℕ → Type 0
-ExplainsLines does takes old input output errors status =
-    ExplainsScript does (λ state. takes) PrintsNothing old input output errors status
+abbrev pub RunsLines : {State : Type 0} → Effect State → (List ℕ → Type 0) → State → Telling → Option (List ℕ) → Option (List ℕ) × Option (List ℕ) → Option (List ℕ) × Option (List ℕ) → ℕ → Type 0
+RunsLines does takes old telling input output errors status =
+    RunsScript does (λ state. takes) PrintsNothing old telling input output errors status
 
 -- How one line ends in a run, by the text that is printed and not yet written before and after it: a line that is done
 -- is printed. What is held is written before the run ends at the line.

@@ -24,4 +24,5 @@ IsForMemory (command_line.Unread error) = error_kind error ≡ io_kind.OutOfMemo
 IsForMemory (command_line.OutOfRange name most) = ⊥
 IsForMemory (command_line.NoTopic word) = ⊥
 IsForMemory (command_line.NoImage fault) = ⊥
+IsForMemory command_line.NoSubcommand = ⊥
 IsForMemory command_line.NoMemory = Unit {0}

@@ -70,6 +70,8 @@ pub enum CommandLineFault {
     /// The topics make no image.
     #[error("error: {0}\n")]
     NoImage(ImageFault),
+    #[error("error: there is no such subcommand\n")]
+    NoSubcommand,
     #[error("error: out of memory\n")]
     NoMemory,
 }
@@ -86,7 +88,8 @@ impl CommandLineFault {
             CommandLineFault::NoMemory => true,
             CommandLineFault::OutOfRange(..)
             | CommandLineFault::NoTopic(_)
-            | CommandLineFault::NoImage(_) => false,
+            | CommandLineFault::NoImage(_)
+            | CommandLineFault::NoSubcommand => false,
         };
         if is_for_memory { 1 } else { 2 }
     }
@@ -169,17 +172,21 @@ fn subcommand_in(
             let service = service::service_of(alloc, given, processors)?;
             Ok(Subcommand::Serve(service))
         }
-        Some((name, given)) => Ok(Subcommand::Lines(line_command(name, given))),
-        None => Ok(Subcommand::Lines(LineCommand::Reply(Telling::Numbers))),
+        Some((name, given)) => match line_command(name, given) {
+            Some(command) => Ok(Subcommand::Lines(command)),
+            None => Err(CommandLineFault::NoSubcommand),
+        },
+        None => Err(CommandLineFault::NoSubcommand),
     }
 }
 
-/// What the subcommand of this name does with lines.
-fn line_command(name: &str, matches: &ArgMatches<'_>) -> LineCommand {
+/// What the subcommand of this name does with lines, if it does them.
+fn line_command(name: &str, matches: &ArgMatches<'_>) -> Option<LineCommand> {
     match name {
-        "frame" => frames_of(matches),
-        "run" => LineCommand::Run(telling_of(matches)),
-        _ => LineCommand::Reply(telling_of(matches)),
+        "reply" => Some(LineCommand::Reply(telling_of(matches))),
+        "frame" => Some(frames_of(matches)),
+        "run" => Some(LineCommand::Run(telling_of(matches))),
+        _ => None,
     }
 }
 

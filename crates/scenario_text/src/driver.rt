@@ -5,10 +5,12 @@ ghost use Rattle.std.specs.Result.{result_err};
 ghost use Rattle.scenario_text.specs.Inputs.{IsTooLong};
 ghost use Rattle.std.specs.Io.KnownBytes.{Appends, Keeps};
 ghost use Rattle.scenario_text.specs.Lines.{lines_of};
-ghost use Rattle.scenario_text.specs.Runs.{IsWrite, Prints, Ends, EndsOver, EndEnds, LineEnds, RunsScript};
+ghost use Rattle.scenario_text.specs.Runs.{IsWrite, Prints, Ends, EndsOver, EndEnds, IsStatus, LineEnds, RunsScript};
 ghost use Rattle.scenario_text.specs.Statuses.{status_of};
 ghost use Rattle.scenario_text.specs.Writing.{Grows, WritesPart};
 
+use crate::command_line::Telling;
+use crate::explain::{Reasons, note};
 use crate::fault::{Fault, LineFault};
 use crate::input::read_whole;
 use crate::lines::Lines;
@@ -25,10 +27,16 @@ pub trait LineWorker {
 
     ghost closes: { Self → List ℕ → Type 0 };
 
-    /// Does one line, and prints what it answers: whole lines, and on `Err` none.
+    /// What a line did: enough to find the reason where it came to nothing.
+    type Did: Drop;
+
+    /// What is noted of the lines so far, where reasons are wanted.
+    type Notes: Drop;
+
+    /// Does one line, and prints what it answers: whole lines, and on `Err` none. Gives what it did.
     ///
     /// Faults: [`LineFault::BadLine`] only for a line that the subcommand doesn't have; [`LineFault::NoMemory`].
-    fn line(&mut self, line: &[u8], output: &mut Output) -> Result<(), LineFault>
+    fn line(&mut self, line: &[u8], output: &mut Output) -> Result<Self::Did, LineFault>
         ensures printed { OnOk result (Prints (does self.old line.now self.new) output.old output.new) }
         ensures refused { result ≡ Err LineFault.BadLine → ¬ takes self.old line.now }
         ensures err { OnErr result (output.new ≡ output.old) };
@@ -37,21 +45,53 @@ pub trait LineWorker {
     fn end(&mut self, output: &mut Output) -> Result<(), AllocError>
         ensures printed { OnOk result (Prints (closes self.old) output.old output.new) }
         ensures err { OnErr result (output.new ≡ output.old) };
+
+    /// The notes before the first line.
+    fn notes(&self) -> Self::Notes;
+
+    /// Why a line came to nothing that did this, if it did. The worker stands behind the line, and the notes come there.
+    fn why(
+        &self,
+        notes: &mut Self::Notes,
+        line: &[u8],
+        did: &Self::Did,
+    ) -> Result<Option<String>, AllocError>;
+
+    /// Why a line is none of the subcommand.
+    fn why_bad(&self, line: &[u8]) -> Result<String, AllocError>;
 }
 
-/// Does the lines of the reader in order and prints what they answer, up to the first that can't be done. A fault is told.
-/// Gives the program's status: 0 where all lines are done, 2 at a bad line, 1 after the other faults.
+/// Does the lines of the reader in order and prints what they answer, up to the first that can't be done. A fault is told, and behind it
+/// the reasons, where they are wanted.
+///
+/// Gives the program's status: 0 where all lines are done, 2 at a bad line, 1 after the other faults and where memory was out for a reason.
 pub fn run<L: LineWorker + Drop, R: Read, W: Write, E: Write>(
     alloc: Global,
     mut worker: L,
+    telling: Telling,
     reader: &mut R,
     writer: &mut W,
     faults: &mut E,
 ) -> u8
-    ensures { RunsScript L.does L.takes L.closes worker (R.remaining reader.old)
+    ensures { RunsScript L.does L.takes L.closes worker telling (R.remaining reader.old)
         (W.contents writer.old, W.contents writer.new) (E.contents faults.old, E.contents faults.new) result }
 {
-    match do_lines(alloc, &mut worker, reader, writer) {
+    let mut reasons = Reasons::new(alloc, telling, worker.notes());
+    let done = do_lines(alloc, &mut worker, &mut reasons, reader, writer);
+    let status = status_after(alloc, done, faults);
+    match telling {
+        Telling::Numbers => status,
+        Telling::Reasons => reasons.tell(status, faults),
+    }
+}
+
+/// The status of a run, whose fault is told.
+fn status_after<E: Write>(alloc: Global, done: Result<(), Fault>, faults: &mut E) -> u8
+    ensures status { IsStatus (result_err done) result }
+    ensures told { Grows (E.contents faults.old) (E.contents faults.new) }
+    ensures quiet { result ≡ 0 → Keeps (E.contents faults.old) (E.contents faults.new) }
+{
+    match done {
         Ok(()) => 0,
         Err(fault) => tell(alloc, fault, faults),
     }
@@ -61,6 +101,7 @@ pub fn run<L: LineWorker + Drop, R: Read, W: Write, E: Write>(
 fn do_lines<L: LineWorker, R: Read, W: Write>(
     alloc: Global,
     worker: &mut L,
+    reasons: &mut Reasons<L::Notes>,
     reader: &mut R,
     writer: &mut W,
 ) -> Result<(), Fault>
@@ -69,15 +110,16 @@ fn do_lines<L: LineWorker, R: Read, W: Write>(
         → IsErrAnd result (λ fault. status_of fault ≡ 1) × Keeps (W.contents writer.old) (W.contents writer.new) }
 {
     match read_whole(alloc, reader) {
-        Ok(input) => do_input(alloc, worker, input.as_slice(), writer),
+        Ok(input) => do_input(alloc, worker, reasons, input.as_slice(), writer),
         Err(fault) => Err(fault),
     }
 }
 
 /// Does the lines of an input, until the first that can't be done.
-pub(crate) fn do_input<L: LineWorker, W: Write>(
+fn do_input<L: LineWorker, W: Write>(
     alloc: Global,
     worker: &mut L,
+    reasons: &mut Reasons<L::Notes>,
     input: &[u8],
     writer: &mut W,
 ) -> Result<(), Fault>
@@ -85,7 +127,7 @@ pub(crate) fn do_input<L: LineWorker, W: Write>(
 {
     let mut output = Output::new(alloc);
     for (index, line) in Lines::of(input).enumerate() {
-        if let Err(fault) = do_line(worker, index + 1, line, &mut output, writer) {
+        if let Err(fault) = do_line(worker, reasons, index + 1, line, &mut output, writer) {
             return Err(fault);
         }
     }
@@ -112,6 +154,7 @@ fn finish<L: LineWorker, W: Write>(
 /// ends at this line.
 fn do_line<L: LineWorker, W: Write>(
     worker: &mut L,
+    reasons: &mut Reasons<L::Notes>,
     number: usize,
     line: &[u8],
     output: &mut Output,
@@ -120,7 +163,9 @@ fn do_line<L: LineWorker, W: Write>(
     ensures { LineEnds L.does L.takes worker.old line.now number worker.new output.old output.new
         (W.contents writer.old) (W.contents writer.new) (result_err result) }
 {
-    if let Err(fault) = worker.line(line, output) {
+    let did = worker.line(line, output);
+    note(reasons, worker, number, line, &did);
+    if let Err(fault) = did {
         write(output, writer)?;
         return Err(fault.at_line(number));
     }
@@ -141,7 +186,7 @@ fn write<W: Write>(output: &mut Output, writer: &mut W) -> Result<(), Fault>
 }
 
 /// Writes the text of a fault, and gives its status. Where memory is short for the text, want of memory is the fault.
-pub fn tell<E: Write>(alloc: Global, fault: Fault, faults: &mut E) -> u8
+fn tell<E: Write>(alloc: Global, fault: Fault, faults: &mut E) -> u8
     ensures status { (result ≡ status_of fault) ⊎ (result ≡ 1) }
     ensures told { Grows (E.contents faults.old) (E.contents faults.new) }
 {

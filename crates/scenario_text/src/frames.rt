@@ -1,15 +1,13 @@
 //! The subcommand `coord frame`.
 ghost use Rattle.std.specs.Prelude.{◌≡◌, [], OnOk, OnErr};
-ghost use Rattle.std.specs.Io.KnownBytes.{Keeps};
-ghost use Rattle.scenario_text.specs.Inputs.{IsTooLong};
 ghost use Rattle.scenario_text.specs.declared.frames.Reporter.{Reporter};
 ghost use Rattle.scenario_text.specs.Reporters.{new_reporter};
 ghost use Rattle.scenario_text.specs.Reports.{DoesFrameLine, PrintsReport};
 ghost use Rattle.scenario_text.specs.FrameLines.{SpellsBytes};
-ghost use Rattle.scenario_text.specs.Runs.{ExplainsLines, Prints, PrintsNothing, RunsLines};
+ghost use Rattle.scenario_text.specs.Runs.{Prints, PrintsNothing, RunsLines};
 
+use crate::command_line::Telling;
 use crate::driver::{self, LineWorker};
-use crate::explain::{Explains, explained_lines};
 use crate::fault::LineFault;
 use crate::output::Output;
 use crate::page::Page;
@@ -19,36 +17,21 @@ use std::alloc::{AllocError, Global};
 use std::io::{Read, Write};
 
 /// Does the lines of the reader in order: each is the hex of one frame of a request (Kafka protocol guide, "Protocol"), and
-/// the frame's fields are printed, or its fault.
+/// the frame's fields are printed, or its fault. A line that isn't one word of hex is a bad line.
 ///
-/// Gives the program's status, as [`driver::run`] does. A line that isn't one word of hex is a bad line.
+/// Gives the program's status, as [`driver::run`] does.
 pub fn frame_lines<R: Read, W: Write, E: Write>(
     alloc: Global,
+    telling: Telling,
     reader: &mut R,
     writer: &mut W,
     faults: &mut E,
 ) -> u8
-    ensures { RunsLines (DoesFrameLine {State = Reporter}) SpellsBytes (new_reporter alloc) (R.remaining reader.old)
+    ensures { RunsLines (DoesFrameLine {State = Reporter}) SpellsBytes (new_reporter alloc) telling (R.remaining reader.old)
         (W.contents writer.old, W.contents writer.new) (E.contents faults.old, E.contents faults.new) result }
 {
     let reporter = Reporter::new(alloc);
-    driver::run(alloc, reporter, reader, writer, faults)
-}
-
-/// Does what [`frame_lines`] does, and tells then of each line that had a fault or was bad why.
-pub fn explained_frame_lines<R: Read, W: Write, E: Write>(
-    alloc: Global,
-    reader: &mut R,
-    writer: &mut W,
-    faults: &mut E,
-) -> u8
-    ensures ends { ExplainsLines (DoesFrameLine {State = Reporter}) SpellsBytes (new_reporter alloc) (R.remaining reader.old)
-        (W.contents writer.old, W.contents writer.new) (E.contents faults.old, E.contents faults.new) result }
-    ensures too_long { IsTooLong (R.remaining reader.old) → (result ≡ 1) × Keeps (W.contents writer.old) (W.contents writer.new) }
-{
-    let reporter = Reporter::new(alloc);
-    let again = Reporter::new(alloc);
-    explained_lines(alloc, reporter, again, reader, writer, faults)
+    driver::run(alloc, reporter, telling, reader, writer, faults)
 }
 
 /// Prints the report of each line's frame.
@@ -77,8 +60,13 @@ impl LineWorker for Reporter {
 
     ghost closes = { PrintsNothing };
 
+    /// The bytes of the frame.
+    type Did = Vec<u8>;
+
+    type Notes = ();
+
     /// Prints the report of the frame that the line spells in hex. A line that isn't one word of hex is a bad line.
-    fn line(&mut self, line: &[u8], output: &mut Output) -> Result<(), LineFault>
+    fn line(&mut self, line: &[u8], output: &mut Output) -> Result<Vec<u8>, LineFault>
         ensures printed { OnOk result (Prints (PrintsReport line.now []) output.old output.new) }
         ensures report { OnOk result (PrintsReport line.now output.old output.new) }
         ensures err { OnErr result (output.new ≡ output.old) }
@@ -88,25 +76,26 @@ impl LineWorker for Reporter {
         self.page.clear();
         put_report(self.alloc, &mut self.page, bytes.as_slice())?;
         output.text(self.page.as_str())?;
-        Ok(())
+        Ok(bytes)
     }
 
     /// Nothing stands behind the last line.
     fn end(&mut self, _output: &mut Output) -> Result<(), AllocError> {
         Ok(())
     }
-}
 
-impl Explains for Reporter {
-    fn reason(&self, line: &[u8]) -> Result<String, AllocError> {
-        reasons::of_frame_line(self.alloc, line)
+    fn notes(&self) {}
+
+    fn why(
+        &self,
+        _notes: &mut (),
+        _line: &[u8],
+        did: &Vec<u8>,
+    ) -> Result<Option<String>, AllocError> {
+        reasons::of_frame(self.alloc, did.as_slice(), 0, usize::MAX)
     }
 
-    fn why<'a>(&self, printed: &[u8], reason: &'a str) -> &'a str {
-        if printed.starts_with(b"fault") {
-            reason
-        } else {
-            ""
-        }
+    fn why_bad(&self, line: &[u8]) -> Result<String, AllocError> {
+        reasons::of_frame_line(self.alloc, line)
     }
 }

@@ -2,7 +2,7 @@
 //! and what is in a frame.
 //!
 //! A subcommand reads its input whole, does its lines in order and prints what each answers ([`driver`]); with `--explain` it
-//! tells why lines come to nothing ([`explain`]). `coord frame` stands here ([`frames`], [`replies`]), since it needs no
+//! tells why lines came to nothing ([`explain`]). `coord frame` stands here ([`frames`], [`replies`]), since it needs no
 //! coordinator. Start from [`asked`](command_line::asked), [`LineWorker`](driver::LineWorker) and
 //! [`frame_lines`](frames::frame_lines).
 #![tactic(auto)]

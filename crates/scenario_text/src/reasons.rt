@@ -3,15 +3,15 @@
 use crate::command_line::escaped;
 use crate::fault::LineFault;
 use crate::{frame, words};
-use kip_msgs::read_request;
+use kip_msgs::{MsgFault, read_request};
 use std::alloc::{AllocError, Global};
 
 const NO_HEX: &str = "a frame is one word of hex, two digits a byte";
 
-/// Why a line of `coord frame` is bad or has a fault, if it does.
+/// Why a line of `coord frame` is bad.
 pub fn of_frame_line(alloc: Global, line: &[u8]) -> Result<String, AllocError> {
     match argument_of(line, "") {
-        Some(word) => of_hex(alloc, word, 0, usize::MAX),
+        Some(_) => String::from_str(alloc, NO_HEX),
         None => of_line(alloc, line, &[]),
     }
 }
@@ -61,14 +61,6 @@ fn of_words(alloc: Global, text: &str, forms: &[(&str, &str)]) -> Result<String,
     format!(in alloc; "unknown word \"{word}\"")
 }
 
-/// Why a word is no frame of a request with a body of `least` to `most` bytes, or nothing where it is one.
-fn of_hex(alloc: Global, word: &str, least: usize, most: usize) -> Result<String, AllocError> {
-    match words::bytes_of(alloc, word) {
-        Ok(frame) => of_frame(alloc, frame.as_slice(), least, most),
-        Err(fault) => of_word(alloc, fault),
-    }
-}
-
 /// Why a word has no bytes.
 pub fn of_word(alloc: Global, fault: LineFault) -> Result<String, AllocError> {
     match fault {
@@ -83,17 +75,42 @@ pub fn of_frame(
     bytes: &[u8],
     least: usize,
     most: usize,
-) -> Result<String, AllocError> {
+) -> Result<Option<String>, AllocError> {
     let Some(body) = frame::framed(bytes) else {
-        return of_size(alloc, bytes);
+        return Ok(Some(of_size(alloc, bytes)?));
     };
     let count = body.len();
     if count < least || most < count {
-        return format!(in alloc; "a body has {least} to {most} bytes, and this one has {count}");
+        let reason = format!(in alloc;
+            "a body has {least} to {most} bytes, and this one has {count}"
+        )?;
+        return Ok(Some(reason));
     }
     match read_request(alloc, body) {
-        Ok(_) => Ok(String::new(alloc)),
-        Err(fault) => format!(in alloc; "{fault}"),
+        Ok(_) => Ok(None),
+        Err(fault) => Ok(Some(of_body(alloc, body, fault)?)),
+    }
+}
+
+/// Why a body is no request, by the fault that it has.
+fn of_body(alloc: Global, body: &[u8], fault: MsgFault) -> Result<String, AllocError> {
+    let (key, version) = (number_at(body, 0), number_at(body, 2));
+    match fault {
+        MsgFault::NoMemory => Err(AllocError),
+        MsgFault::UnknownApi => format!(in alloc; "the API key {key} is not supported"),
+        MsgFault::UnknownVersion => {
+            format!(in alloc; "version {version} of the API key {key} is not supported")
+        }
+        MsgFault::Wire(_) | MsgFault::LeftOver => format!(in alloc; "{fault}"),
+    }
+}
+
+/// The INT16 at a place of a body, or 0 where it ends before.
+fn number_at(body: &[u8], place: usize) -> i16 {
+    let rest = body.get(place..).unwrap_or_default();
+    match rest.split_first_chunk::<2>() {
+        Some((number, _)) => i16::from_be_bytes(*number),
+        None => 0,
     }
 }
 

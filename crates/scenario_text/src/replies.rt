@@ -4,12 +4,13 @@ ghost use Rattle.scenario_text.specs.FrameLines.{SpellsBytes};
 ghost use Rattle.scenario_text.specs.ReplyReports.{new_reply_reporter, DoesReplyFrameLine, PrintsReplyReport};
 ghost use Rattle.scenario_text.specs.Runs.{Prints, PrintsNothing, RunsLines};
 
+use crate::command_line::Telling;
 use crate::driver::{self, LineWorker};
 use crate::fault::LineFault;
 use crate::output::Output;
 use crate::page::Page;
 use crate::reply_report::put_reply_report;
-use crate::words;
+use crate::{reasons, words};
 use kip_msgs::Api;
 use std::alloc::{AllocError, Global};
 use std::io::{Read, Write};
@@ -25,11 +26,11 @@ pub fn reply_frame_lines<R: Read, W: Write, E: Write>(
     writer: &mut W,
     faults: &mut E,
 ) -> u8
-    ensures { RunsLines DoesReplyFrameLine SpellsBytes (new_reply_reporter alloc api) (R.remaining reader.old)
+    ensures { RunsLines DoesReplyFrameLine SpellsBytes (new_reply_reporter alloc api) Telling.Numbers (R.remaining reader.old)
         (W.contents writer.old, W.contents writer.new) (E.contents faults.old, E.contents faults.new) result }
 {
     let reporter = ReplyReporter::new(alloc, api);
-    driver::run(alloc, reporter, reader, writer, faults)
+    driver::run(alloc, reporter, Telling::Numbers, reader, writer, faults)
 }
 
 /// Prints the report of each line's frame.
@@ -60,6 +61,10 @@ impl LineWorker for ReplyReporter {
 
     ghost closes = { PrintsNothing };
 
+    type Did = ();
+
+    type Notes = ();
+
     /// Prints the report of the frame that the line spells in hex. A line that isn't one word of hex is a bad line.
     fn line(&mut self, line: &[u8], output: &mut Output) -> Result<(), LineFault>
         ensures printed { OnOk result (Prints (DoesReplyFrameLine self.old line.now self.new) output.old output.new) }
@@ -77,5 +82,16 @@ impl LineWorker for ReplyReporter {
     /// Nothing stands behind the last line.
     fn end(&mut self, _output: &mut Output) -> Result<(), AllocError> {
         Ok(())
+    }
+
+    fn notes(&self) {}
+
+    /// Nothing: reasons aren't told of replies.
+    fn why(&self, _: &mut (), _: &[u8], _: &()) -> Result<Option<String>, AllocError> {
+        Ok(None)
+    }
+
+    fn why_bad(&self, line: &[u8]) -> Result<String, AllocError> {
+        reasons::of_frame_line(self.alloc, line)
     }
 }

@@ -1,4 +1,5 @@
 use Rattle.std.proofs.Common.{subst}
+use Rattle.scenario_text.specs.declared.command_line.Telling.TheVariants.{Numbers}
 use Rattle.scenario_text.specs.declared.replies.ReplyReporter.{ReplyReporter}
 use Rattle.scenario_text.specs.FrameLines.{SpellsBytes}
 use Rattle.scenario_text.specs.ReplyReports.{DoesReplyFrameLine}
@@ -8,6 +9,6 @@ use Rattle.scenario_text.proofs.replies.reply_frame_lines.Goals as goal
 pub returns : goal.returns
 returns g c =
     subst
-    (λ (first : ReplyReporter). RunsLines DoesReplyFrameLine SpellsBytes first (g.R.Read.remaining c.args.reader.now)
+    (λ (first : ReplyReporter). RunsLines DoesReplyFrameLine SpellsBytes first Numbers (g.R.Read.remaining c.args.reader.now)
     (g.W.Write.contents c.args.writer.now, g.W.Write.contents c.run.new.writer) (g.E.Write.contents c.args.faults.now, g.E.Write.contents c.run.new.faults) c.run.result)
     c.new-reporter.ensures c.run.ensures
