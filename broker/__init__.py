@@ -12,5 +12,10 @@
     output, record                    lines by a thread of their own, and the record of all frames
     partitions, groups, watch         what the frames tell of the groups
     words, metrics, report, status    the same in words and numbers, as JSON, and as a page
+    etcd, lease, trouble              a client of etcd, a lease in it, and what goes wrong for a time
+    batches, part, clock              a part's log in etcd: it is followed, led and applied, by a clock that stands still with the log
+    feed, measures                    what such a log tells, and what is measured of it
+    settings, members, balance        a cluster over etcd: what all have alike, who is there, and who is to lead what
+    etcd_cluster                      the same as a cluster and a coordinator
     starter, command_line, __main__   the program
 """

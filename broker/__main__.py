@@ -7,26 +7,33 @@ import contextlib
 import logging
 import resource
 import signal
+import socket
 import sys
-from typing import Callable, Iterator, List
+from typing import Callable, Iterator, List, Tuple
 
 from broker import starter
-from broker.acceptor import Work, listen, port_of
+from broker.acceptor import Work, listen, port_of, refuse, until_one_ends
 from broker.cluster import Cluster, Node
-from broker.command_line import EMBEDDED, Options, Place, parse
+from broker.command_line import EMBEDDED, Options, Place, Shared, parse
 from broker.embedded import Embedded
+from broker.etcd import Etcd
+from broker.etcd_cluster import EtcdCluster, Replicated
 from broker.link import Coordinator
 from broker.log import Log
+from broker.members import number_of
 from broker.offsets import Offsets
 from broker.output import STANDARD_ERROR, Output, say, to_file
 from broker.record import Record
 from broker.relay import serve_node
+from broker.serving import serve_while_member
+from broker.settings import Settings, log_of, settings_of
 from broker.status import Status
 from broker.watch import Watch
 
 HOST = "127.0.0.1"
 # Each client's connection takes two files, the second to the coordinator.
 WANTED_FILES = 10_000
+Tell = Callable[[str], None]
 
 
 def main(words: List[str]) -> int:
@@ -61,10 +68,12 @@ async def until_signalled(options: Options) -> int:
     """Runs until SIGINT or SIGTERM, or until nobody reads what is printed: status 0. Whatever else ends it is raised."""
     loop = asyncio.get_running_loop()
 
-    def nobody_reads(_: OSError) -> None:
-        loop.call_soon_threadsafe(working.cancel)
+    def failed(why: OSError) -> None:
+        # (Where the disk is full, lines are left out until it isn't.)
+        if isinstance(why, BrokenPipeError):
+            loop.call_soon_threadsafe(working.cancel)
 
-    printed = Output(to_file(1), failed=nobody_reads, encoding=sys.stdout.encoding)
+    printed = Output(to_file(1), failed=failed, encoding=sys.stdout.encoding)
     working = asyncio.ensure_future(run(options, printed.line))
     for number in (signal.SIGINT, signal.SIGTERM):
         loop.add_signal_handler(number, working.cancel)
@@ -77,29 +86,77 @@ async def until_signalled(options: Options) -> int:
     return 0
 
 
-async def run(options: Options, tell: Callable[[str], None]) -> None:
+async def run(options: Options, tell: Tell) -> None:
     """All of it, until a part ends, which raises. Ports are taken first, and coordinators started then."""
     async with contextlib.AsyncExitStack() as stack:
-        ports = [options.port and options.port + number for number in range(len(options.places))]
-        listeners = [stack.enter_context(listen(HOST, port)) for port in ports]
+        listeners = [stack.enter_context(listen(*address)) for address in addresses(options)]
         status = None if options.status is None else stack.enter_context(listen(HOST, options.status))
         record = stack.enter_context(recorded(options))
-        beside: List[Callable[[], Work]] = []
-        nodes = []
-        for number, (place, listener) in enumerate(zip(options.places, listeners)):
-            coordinator = await coordinator_at(place, options, beside, stack)
-            await coordinator.look()
-            nodes.append(Node(number, HOST, port_of(listener), coordinator))
-        log, watch = Log(options.rate, options.records), Watch(options.topics, tell)
-        cluster = Cluster(nodes, options.topics, log, Offsets(), record=record)
-        works = [serve_node(cluster, node, watch, listener) for node, listener in zip(nodes, listeners)]
-        works += [watch.run(), *(node.coordinator.run() for node in nodes), *(each() for each in beside)]
-        for node in nodes:
-            tell(f"listening {HOST}:{node.port}  coordinator {node.coordinator}")
+        if options.shared is None:
+            cluster, watch, works = await over_coordinators(options, listeners, record, tell, stack)
+        else:
+            cluster, watch, works = await over_etcd(options, options.shared, listeners[0], record, tell, stack)
+        works.append(watch.run())
         if status is not None:
             works.append(Status(cluster, watch).run(status))
             tell(f"status http://{HOST}:{port_of(status)}/")
         await until_one_ends(works)
+
+
+def addresses(options: Options) -> List[Tuple[str, int]]:
+    """Where clients connect."""
+    if options.port is None:
+        assert options.shared is not None
+        return [options.shared.advertise]
+    return [(HOST, options.port and options.port + number) for number in range(len(options.places) or 1)]
+
+
+async def over_coordinators(
+    options: Options, listeners: List[socket.socket], record: Record, tell: Tell, stack: contextlib.AsyncExitStack
+) -> Tuple[Cluster, Watch, List[Work]]:
+    """Brokers in front of a coordinator each, and what has to run for them."""
+    beside: List[Callable[[], Work]] = []
+    nodes = []
+    for number, (place, listener) in enumerate(zip(options.places, listeners)):
+        coordinator = await coordinator_at(place, options, beside, stack)
+        await coordinator.look()
+        nodes.append(Node(number, HOST, port_of(listener), coordinator))
+    cluster, watch = Cluster(nodes, options.topics, Log(options.rate, options.records), Offsets(), record=record), Watch(options.topics, tell)
+    for node, listener in zip(nodes, listeners):
+        tell(listening(node, listener))
+    serving = [serve_node(cluster, node, watch, listener) for node, listener in zip(nodes, listeners)]
+    return cluster, watch, [*(node.coordinator.run() for node in nodes), *(each() for each in beside), *serving]
+
+
+async def over_etcd(
+    options: Options, shared: Shared, listener: socket.socket, record: Record, tell: Tell, stack: contextlib.AsyncExitStack
+) -> Tuple[Cluster, Watch, List[Work]]:
+    """One of the brokers of a cluster over etcd, and what has to run for it. Waits until etcd is there, and has no clients until then."""
+    etcd = Etcd(shared.etcd)
+    coordinator = Replicated(etcd, shared.lease)
+    stack.push_async_callback(coordinator.end)
+    beginning = asyncio.ensure_future(begun(etcd, shared, options))
+    await until_one_ends([beginning, refuse(listener)])
+    settings, number = beginning.result()
+    own = Node(number, *shared.advertise, coordinator)
+    cluster, watch = EtcdCluster(own, coordinator, options.topics, log_of(settings), record), Watch(options.topics, tell, has_log=True)
+    members = coordinator.make_parts(settings, options.library, cluster, watch, tell)
+
+    def serve() -> Work:
+        tell(listening(own, listener))
+        return serve_node(cluster, own, watch, listener)
+
+    return cluster, watch, [*coordinator.works(), serve_while_member(members, coordinator.lease, serve, lambda: refuse(listener))]
+
+
+async def begun(etcd: Etcd, shared: Shared, options: Options) -> Tuple[Settings, int]:
+    """The settings of the cluster, and the number of this broker in it."""
+    settings = await settings_of(etcd, shared.parts, options.topics, options.rate, options.records)
+    return settings, await number_of(etcd, "%s:%d" % shared.advertise)
+
+
+def listening(node: Node, listener: socket.socket) -> str:
+    return f"listening {listener.getsockname()[0]}:{port_of(listener)}  coordinator {node.coordinator}"
 
 
 @contextlib.contextmanager
@@ -130,18 +187,6 @@ async def coordinator_at(
     stack.push_async_callback(program.end)
     beside.append(program.ended)
     return program.coordinator
-
-
-async def until_one_ends(works: List[Work]) -> None:
-    tasks = [asyncio.ensure_future(work) for work in works]
-    try:
-        done, _ = await asyncio.wait(tasks, return_when=asyncio.FIRST_COMPLETED)
-        for task in done:
-            task.result()
-    finally:
-        for task in tasks:
-            task.cancel()
-        await asyncio.gather(*tasks, return_exceptions=True)
 
 
 if __name__ == "__main__":

@@ -4,7 +4,7 @@ from __future__ import annotations
 
 import asyncio
 import socket
-from typing import Any, Awaitable, Callable, Coroutine, Optional, Set, Tuple
+from typing import Any, Awaitable, Callable, Coroutine, Iterable, Optional, Set, Tuple
 
 from broker.output import say
 
@@ -56,6 +56,26 @@ async def accept(
             for task in serving:
                 task.cancel()
             await _all_ended(serving)
+
+
+async def refuse(listener: socket.socket) -> None:
+    """Closes all connections as they come, for ever."""
+    while True:
+        client, _ = await _accept_one(listener)
+        client.close()
+
+
+async def until_one_ends(works: Iterable[Awaitable[Any]]) -> None:
+    """Runs them until one ends, and cancels the others. Raises what that one does."""
+    tasks = [asyncio.ensure_future(work) for work in works]
+    try:
+        done, _ = await asyncio.wait(tasks, return_when=asyncio.FIRST_COMPLETED)
+        for task in done:
+            task.result()
+    finally:
+        for task in tasks:
+            task.cancel()
+        await asyncio.gather(*tasks, return_exceptions=True)
 
 
 async def _all_ended(tasks: Set[asyncio.Task[None]]) -> None:

@@ -1,4 +1,5 @@
-"""What the clients see: a cluster of brokers. There are as many as coordinators, and each passes on to its own.
+"""What the clients see: a cluster of brokers. There are as many as coordinators, and each passes on to its own. (Over etcd they are processes of
+their own: etcd_cluster.)
 
 Which coordinator has a group is a function of the group's id alone, as in Kafka, where it names the partition of the internal topic
 that the group's state lies in. So each group lives in one coordinator whole.
@@ -7,11 +8,11 @@ that the group's state lies in. So each group lives in one coordinator whole.
 from __future__ import annotations
 
 import dataclasses
-from typing import List
+from typing import Any, Dict, Iterable, List, Optional
 
 from broker.link import Coordinator
 from broker.log import Log
-from broker.offsets import Offsets
+from broker.offsets import Committed, Offsets
 from broker.record import Record
 from broker.room import Room
 from broker.topics import Topics
@@ -45,8 +46,27 @@ class Cluster:
     room: Room = dataclasses.field(default_factory=lambda: Room(MOST_HELD))
     record: Record = dataclasses.field(default_factory=Record)
 
-    def coordinator_of(self, group: str) -> Node:
+    # Whether a log has all that the coordinators answer, so that the watch and the offsets are fed by that.
+    has_log = False
+
+    def coordinator_of(self, group: str) -> Optional[Node]:
+        """None where nobody coordinates it now."""
         return self.nodes[group_number(group, len(self.nodes))]
+
+    def nodes_here(self) -> List[Node]:
+        """Those of this process."""
+        return self.nodes
+
+    def known(self) -> Dict[str, Any]:
+        """What is shown of how the brokers are one cluster."""
+        return {}
+
+    def metrics(self) -> Iterable[str]:
+        return ()
+
+    def committed(self, group: str, topic: str, partition: int) -> Optional[Committed]:
+        of_topic = self.offsets.of_group(group).get(topic)
+        return of_topic and of_topic.entries.get(partition)
 
     def leader_of(self, partition: int) -> Node:
         """The partitions' leaders go round the nodes. (Every node has the records of all.)"""

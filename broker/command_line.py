@@ -8,26 +8,42 @@ import math
 import os
 import pathlib
 import re
-from typing import List, NoReturn, Optional, Sequence, Tuple, Union
+from typing import Callable, List, NoReturn, Optional, Sequence, Tuple, Union
 
 from broker.topics import Topic, Topics, read
 
 TOP = pathlib.Path(__file__).resolve().parents[1]
 LAUNCHER, LIBRARY = TOP / "coord", TOP / "out/libmigwelun.so"
 MOST_RECORDS_A_SECOND = 10_000
+# etcd gives no lease of less than 2 s, as it is set up by default.
+PARTS, LEASE_SECONDS = range(1, 1_001), range(2, 61)
 START, EMBEDDED = None, "embedded"
+Address = Tuple[str, int]
 # A coordinator's host and port, or one that is to be started, or one in this process.
-Place = Union[None, str, Tuple[str, int]]
+Place = Union[None, str, Address]
+
+
+@dataclasses.dataclass(frozen=True)
+class Shared:
+    """A cluster over etcd: where etcd listens, what clients are told of this broker, into how many parts all groups are divided, and for how
+    many seconds a lease is."""
+
+    etcd: Sequence[Address]
+    advertise: Address
+    parts: int
+    lease: int
 
 
 @dataclasses.dataclass(frozen=True)
 class Options:
-    """Port 0 is any that is free. With several coordinators, broker K has the port behind that of broker K - 1."""
+    """Port 0 is any that is free, and None that of the address which clients are told. With several coordinators, broker K has the port behind
+    that of broker K - 1. Over etcd there is one broker, and no place."""
 
     places: Sequence[Place]
+    shared: Optional[Shared]
     program: str
     library: str
-    port: int
+    port: Optional[int]
     status: Optional[int]
     rate: float
     records: int
@@ -41,6 +57,21 @@ class Parser(argparse.ArgumentParser):
 
 
 def parse(words: List[str]) -> Options:
+    parser = _parser()
+    given = parser.parse_args(words)
+    places, shared = given.places or [], _shared(parser, given)
+    if given.port is None and shared is None:
+        parser.error("the following arguments are required: --port")
+    if given.port and given.port + len(places) - 1 > 65_535:
+        parser.error(f"--port {given.port} leaves no ports for {len(places)} brokers")
+    try:
+        topics = Topics(given.topics)
+    except ValueError as why:
+        parser.error(str(why))
+    return Options(places, shared, given.program, given.library, given.port, given.status, given.rate, given.records, given.record, topics)
+
+
+def _parser() -> Parser:
     parser = Parser(
         prog=os.environ.get("BROKER_NAME", "python3 -m broker"),
         description="Plays the rest of a Kafka broker in front of `coord serve`, so that stock consumers can use it.",
@@ -55,33 +86,66 @@ def parse(words: List[str]) -> Options:
     parser.add_argument(
         "--embedded", dest="places", action="append_const", const=EMBEDDED, help="has a coordinator in this process; may be repeated as well"
     )
-    parser.add_argument("--library", default=str(LIBRARY), metavar="PATH", help="the library that --embedded loads, as tools/build-library makes it")
+    _add_those_of_etcd(parser)
+    parser.add_argument(
+        "--library", default=str(LIBRARY), metavar="PATH", help="the library that --embedded and --etcd load, as tools/build-library makes it"
+    )
     parser.add_argument(
         "--program", default=str(LAUNCHER), metavar="PATH", help="the program coord that --start starts (the launcher of this repository)"
     )
-    parser.add_argument("--port", type=_port, required=True, help="clients' port of 127.0.0.1, the first of as many as brokers; 0 is a free one each")
+    parser.add_argument(
+        "--port", type=_port, help="clients' port of 127.0.0.1, the first of as many as brokers; 0 is a free one each; with --etcd by default that of --advertise, there"
+    )
     parser.add_argument("--status", type=_port, metavar="PORT", help="port of 127.0.0.1 for the page /, /groups and /metrics")
     parser.add_argument("--rate", type=_rate, default=2.0, metavar="R", help="records a second in each partition (%(default)g)")
     parser.add_argument("--records", type=_records, default=0, metavar="N", help="records in each partition from the start (%(default)d)")
     parser.add_argument("--record", metavar="FILE", help="writes all frames to this file, with their times; README.md has its form")
     parser.add_argument("topics", nargs="+", type=_topic, metavar="NAME:UUID:COUNT", help="a topic: its name, id and number of partitions")
-    given = parser.parse_args(words)
-    if not given.places:
-        parser.error("wants --coordinator HOST:PORT, --start or --embedded")
-    if given.port and given.port + len(given.places) - 1 > 65_535:
-        parser.error(f"--port {given.port} leaves no ports for {len(given.places)} brokers")
-    try:
-        topics = Topics(given.topics)
-    except ValueError as why:
-        parser.error(str(why))
-    return Options(given.places, given.program, given.library, given.port, given.status, given.rate, given.records, given.record, topics)
+    return parser
 
 
-def _place(word: str) -> Place:
+def _add_those_of_etcd(parser: Parser) -> None:
+    parser.add_argument(
+        "--etcd", type=_addresses, metavar="HOST:PORT,..", help="where etcd listens: this is one of several brokers, each with a replica of all groups"
+    )
+    parser.add_argument("--advertise", type=_place, metavar="HOST:PORT", help="with --etcd: where clients reach this broker")
+    parser.add_argument("--parts", type=_number_of(PARTS), metavar="N", help="with --etcd: into how many parts all groups are divided, each led by one broker")
+    parser.add_argument(
+        "--lease", type=_number_of(LEASE_SECONDS), default=3, metavar="SECONDS", help="with --etcd: after how long a broker that is gone leads nothing (%(default)d)"
+    )
+
+
+def _shared(parser: Parser, given: argparse.Namespace) -> Optional[Shared]:
+    """The options of a cluster over etcd, or None where there is a coordinator for each broker."""
+    if given.places:
+        if given.etcd or given.advertise or given.parts:
+            parser.error("--etcd, --advertise and --parts go with none of --coordinator, --start and --embedded")
+        return None
+    if not given.etcd:
+        parser.error("wants --coordinator HOST:PORT, --start, --embedded or --etcd HOST:PORT")
+    if not given.advertise or not given.parts:
+        parser.error("--etcd wants --advertise HOST:PORT and --parts N")
+    return Shared(given.etcd, given.advertise, given.parts, given.lease)
+
+
+def _place(word: str) -> Address:
     host, colon, port = word.rpartition(":")
     if not host or not colon or not re.fullmatch(r"\d{1,5}", port) or not 0 < int(port) < 65_536:
         raise argparse.ArgumentTypeError(f"{word!r} is no HOST:PORT")
     return host, int(port)
+
+
+def _addresses(word: str) -> List[Address]:
+    return [_place(each) for each in word.split(",")]
+
+
+def _number_of(numbers: range) -> Callable[[str], int]:
+    def number(word: str) -> int:
+        if not re.fullmatch(r"\d{1,9}", word) or int(word) not in numbers:
+            raise argparse.ArgumentTypeError(f"{word!r} is no number from {numbers[0]} to {numbers[-1]}")
+        return int(word)
+
+    return number
 
 
 def _port(word: str) -> int:

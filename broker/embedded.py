@@ -9,13 +9,13 @@ import pathlib
 import time
 from typing import Any, Optional
 
+from broker.frames import SIZE
 from broker.link import Connection, Coordinator, CoordinatorClosed, Link
 from broker.starter import Ended
 from broker.topics import Topics
 
 MODULE = pathlib.Path(__file__).resolve().parents[1] / "examples/embed/python/migwelun.py"
 TICK_SECONDS = 0.5
-SIZE = 4
 
 
 def now() -> int:
@@ -31,7 +31,7 @@ class Embedded(Coordinator):
         super().__init__("embedded", 0)
         self.opened = 0
         try:
-            self.inside = _module().Coordinator(library)
+            self.inside = module().Coordinator(library)
         except OSError as why:
             raise Ended(f"the library can't be loaded: {why}; tools/build-library makes it") from None
         self.inside.set_topics((topic.name, topic.id.bytes, topic.count) for topic in topics)
@@ -63,7 +63,7 @@ class EmbeddedLink(Link):
         self._coordinator, self._number, self._frames = coordinator, number, 0
         self.arriving = asyncio.get_running_loop().create_future()
 
-    async def ask(self, body: bytes) -> bytes:
+    async def ask(self, body: bytes, group: str) -> bytes:
         self._frames += 1
         try:
             reply: Optional[bytes] = self._coordinator.inside.answer(body, self._number, self._frames, now())
@@ -77,10 +77,10 @@ class EmbeddedLink(Link):
         self.arriving.cancel()
 
 
-def _module() -> Any:
+def module() -> Any:
     """The Python module of examples/embed."""
     spec = importlib.util.spec_from_file_location(MODULE.stem, MODULE)
     assert spec is not None and spec.loader is not None
-    module = importlib.util.module_from_spec(spec)
-    spec.loader.exec_module(module)
-    return module
+    made = importlib.util.module_from_spec(spec)
+    spec.loader.exec_module(made)
+    return made

@@ -12,6 +12,8 @@ from broker.fields import NO_TAGS, Reader, Unreadable, int32
 from broker.turns import Pace
 from broker.versions import API_VERSIONS, SPOKEN
 
+# A frame begins with its size.
+SIZE = 4
 # A request begins with API key, API version and correlation id.
 REQUEST_SIZES = range(8, (1 << 20) + 1)
 # A reply's body, in pieces: a long one is never copied whole, and sent in blocks.
@@ -30,14 +32,14 @@ async def read_body(
     """The body of the next frame, or None where the stream ends before it. Raises BadFrame, and ConnectionError. Room is
     held while it is read."""
     try:
-        first = await stream.readexactly(4)
+        first = await stream.readexactly(SIZE)
         size = struct.unpack(">i", first)[0]
         if size not in sizes:
             raise BadFrame(f"a frame begins with {first!r}, which is no size of {sizes[0]} to {sizes[-1]} bytes")
         with held(size):
             return await stream.readexactly(size)
     except asyncio.IncompleteReadError as end:
-        if not end.partial and end.expected == 4:
+        if not end.partial and end.expected == SIZE:
             return None
         raise BadFrame("the stream ends within a frame") from None
 

@@ -7,10 +7,10 @@ the coordinator says that it doesn't know it, when it leaves, or when it has sai
 from __future__ import annotations
 
 import dataclasses
-from typing import Dict, FrozenSet, Iterable, List, Optional, Tuple
+from typing import Callable, Dict, FrozenSet, Iterable, List, Optional, Tuple
 
 from broker import codes
-from broker.heartbeats import AWAY, JOIN, LEAVE, Asked, ById, Told
+from broker.heartbeats import AWAY, JOIN, LEAVE, Asked, ById, Steady, Told
 from broker.partitions import NOTHING, Partitions, union
 from broker.topics import Topics
 from broker.words import in_words, names_in_words, plain
@@ -131,6 +131,15 @@ class Groups:
         member = former or Member(told.member or "", client or "", since=now)
         return self._beat(group, former, self._after(member, asked, told, now), asked, now)
 
+    def has_heard(self, steady: Steady, now: float) -> bool:
+        """Takes a heartbeat that changes nothing, where that is so by what is known."""
+        group = self.groups.get(steady.group)
+        member = group.members.get(steady.member) if group else None
+        if member is None or member.epoch != steady.epoch or member.is_away:
+            return False
+        member.heard = now
+        return True
+
     def _after(self, member: Member, asked: Asked, told: Told, now: float) -> Member:
         """The member behind the heartbeat."""
         after = dataclasses.replace(member, epoch=told.epoch, is_away=False, heard=now)
@@ -174,17 +183,27 @@ class Groups:
         phrase = f"goes away, and instance {plain(member.instance or '')} has {SESSION_SECONDS:.0f} s to come back"
         return self._change(group, member.id, member.epoch, [phrase], now)
 
-    def expire(self, now: float) -> List[Change]:
-        """Removes the members that said nothing for a session's time, as the coordinator does. Says which groups wait, once each."""
+    def waiting(self, now: float) -> List[Change]:
+        """Says which groups wait, once each."""
         changes = []
         for group in list(self.groups.values()):
             if group.since is not None and group.waits_for is None and now - group.changed > WAIT_SECONDS:
                 group.waits_for = group.unassigned(self.topics)
                 if group.waits_for:
                     changes.append(Change(group.name, "", group.epoch(), [self._waits(group.waits_for)]))
-            for member in [each for each in group.members.values() if now - each.heard > SESSION_SECONDS]:
+        return changes
+
+    def expire(self, now: float) -> List[Change]:
+        """Removes the members that said nothing for a session's time, as the coordinator does."""
+        phrase = f"said nothing for {SESSION_SECONDS:.0f} s: its session is over"
+        return self.remove(lambda _, member: now - member.heard > SESSION_SECONDS, phrase, now)
+
+    def remove(self, is_over: Callable[[Group, Member], bool], phrase: str, now: float) -> List[Change]:
+        """Removes members, and says so in a phrase."""
+        changes = []
+        for group in list(self.groups.values()):
+            for member in [each for each in group.members.values() if is_over(group, each)]:
                 self._remove(group, member.id)
-                phrase = f"said nothing for {SESSION_SECONDS:.0f} s: its session is over"
                 changes.append(self._change(group, member.id, member.epoch, [phrase], now))
         return changes
 

@@ -4,7 +4,7 @@ from __future__ import annotations
 
 import dataclasses
 import uuid
-from typing import Dict, FrozenSet, List, Mapping, Optional, Tuple
+from typing import Dict, FrozenSet, List, Mapping, NamedTuple, Optional, Tuple
 
 from broker.fields import Reader, int16
 from broker.frames import Request
@@ -12,6 +12,9 @@ from broker.turns import Pace
 
 # The member epochs that aren't counted: it joins, leaves, or is a static member that goes away for a while.
 JOIN, LEAVE, AWAY = 0, -1, -2
+# How a body of version 0 ends that says nothing new: null or -1 in each field behind the epoch, and no tags; and a reply to it, behind the
+# epoch and the interval.
+NOTHING_NEW, NOTHING_TOLD = bytes.fromhex("0000ffffffff00000000"), bytes.fromhex("ff00")
 # Partitions by their topics' ids and their indexes.
 ById = Mapping[uuid.UUID, FrozenSet[int]]
 
@@ -40,6 +43,32 @@ class Told:
     member: Optional[str] = None
     epoch: int = 0
     assigned: Optional[ById] = None
+
+
+class Steady(NamedTuple):
+    """A heartbeat that says nothing new, and is told nothing new. Most are."""
+
+    group: str
+    member: str
+    epoch: int
+
+
+def steady(body: bytes, reply: bytes) -> Optional[Steady]:
+    """That, of a request of version 0 with short names and its reply; or None, where they have to be read."""
+    if not body.endswith(NOTHING_NEW) or not reply.endswith(NOTHING_TOLD) or reply[9:11] != b"\0\0":
+        return None
+    try:
+        # Behind the correlation id: the client's name, no tags, the group, the member and the epoch.
+        tags = 10 + max(0, int.from_bytes(body[8:10], "big", signed=True))
+        group, its_size = tags + 2, body[tags + 1]
+        member, member_size = group + its_size, body[group + its_size - 1]
+        end = member + member_size - 1
+        is_short = body[tags] == 0 and 0 < its_size < 128 and 0 < member_size < 128
+        if not is_short or end + 4 + len(NOTHING_NEW) != len(body) or body[end : end + 4] != reply[-10:-6]:
+            return None
+        return Steady(body[group : member - 1].decode(), body[member:end].decode(), int.from_bytes(body[end : end + 4], "big", signed=True))
+    except (IndexError, UnicodeDecodeError):
+        return None
 
 
 async def read_request(request: Request) -> Asked:

@@ -107,8 +107,8 @@ class Link:
         except (BadFrame, OSError):
             return None
 
-    async def ask(self, body: bytes) -> bytes:
-        """Sends a request's body, framed, and gives the reply's. Raises CoordinatorClosed."""
+    async def ask(self, body: bytes, group: str) -> bytes:
+        """Sends a request's body, framed, and gives the reply's. It is of this group. Raises CoordinatorClosed."""
         if self.arriving.done():
             raise CoordinatorClosed("the coordinator closed the connection")
         # (Nothing else is under way, so no more than this one is ever buffered.)
@@ -121,6 +121,9 @@ class Link:
             raise CoordinatorClosed("the coordinator closed the connection instead of an answer")
         self.arriving = asyncio.ensure_future(self._read())
         return reply
+
+    async def confirm(self, group: str) -> None:
+        """Returns once it is sure that this coordinator has the group: all that was answered of it is known here. Raises CoordinatorClosed."""
 
     def close(self) -> None:
         """Closes it at once. (What was asked has been sent, unless the coordinator takes nothing any more.)"""

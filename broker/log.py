@@ -18,19 +18,29 @@ FIRST_OFFSET = 0
 
 
 class Log:
-    """Every partition's log. It begins at this object's making, which `began_ms` dates in milliseconds since 1970, with `records` of
-    them, of the timestamp 0."""
+    """Every partition's log. It began `age` seconds before this object's making, which `began_ms` dates in milliseconds since 1970, with
+    `records` of them, of the timestamp 0. Other processes may have the same, and be so many seconds ahead by their clocks."""
 
     def __init__(
-        self, rate: float, records: int = 0, clock: Callable[[], float] = time.monotonic, began_ms: Optional[int] = None
+        self,
+        rate: float,
+        records: int = 0,
+        clock: Callable[[], float] = time.monotonic,
+        began_ms: Optional[int] = None,
+        age: float = 0.0,
+        ahead: float = 0.0,
     ) -> None:
-        self.rate, self.records, self._clock = rate, records, clock
-        self._began = clock()
+        self.rate, self.records, self._clock, self._ahead = rate, records, clock, ahead
+        self._began = clock() - age
         self.began_ms = int(time.time() * 1000) if began_ms is None else began_ms
 
     def end_offset(self) -> int:
         """The offset that the next record gets."""
         return self.records + int((self._clock() - self._began) * self.rate)
+
+    def last_offset(self) -> int:
+        """The greatest offset at which a reader can be, which may have read elsewhere."""
+        return self.end_offset() + int(self._ahead * self.rate)
 
     def seconds_until(self, offset: int) -> float:
         """In how many seconds there is a record at this offset; 0 where there is one."""

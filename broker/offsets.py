@@ -1,7 +1,7 @@
 """The committed offsets, as a broker keeps them for OffsetFetch.
 
-The coordinator has no way to give an offset back, so they are learned from the commits that pass and are answered with 0. What was
-committed before this program began, or past it, isn't known.
+They are learned from the commits that pass and are answered with 0. What was committed before this program began, or past it, isn't known,
+unless there is a log of it.
 """
 
 from __future__ import annotations

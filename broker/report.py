@@ -25,6 +25,11 @@ UNKNOWN = [
     "What a member was told before this program began, or through another one, isn't known until it is told anew.",
     "Offsets that were committed before this program began, or past it, aren't known.",
 ]
+OF_A_LOG = [
+    "The coordinator isn't asked for its state. All this is read off the heartbeats and commits of the log, from its beginning on, and what was "
+    "read when this program began has its moment.",
+    UNKNOWN[1],
+]
 
 
 class Report:
@@ -44,11 +49,12 @@ class Report:
         groups = [await self._group(self.watch.groups.groups.get(name) or Group(name), now, pace, is_for_page) for name in shown]
         known: Dict[str, Any] = {
             "up_seconds": _seconds(now - self._began),
-            "coordinators": [_coordinator(node) for node in self.cluster.nodes],
+            "coordinators": [_coordinator(node) for node in self.cluster.nodes_here()],
             "more_groups": len(names) - len(shown),
             "lines": [{"seconds_ago": _seconds(now - moment), "line": text} for moment, text in self.watch.lines],
             "unwatched_heartbeats": self.watch.groups.unwatched,
-            "unknown": UNKNOWN,
+            "unknown": OF_A_LOG if self.cluster.has_log else UNKNOWN,
+            **self.cluster.known(),
         }
         used = self._topics_of(shown) if is_for_page else [*self.cluster.topics]
         topics = await pace.all(json.dumps({"name": it.name, "id": str(it.id), "partitions": it.count, "end_offset": end}) for it in used)
@@ -71,9 +77,10 @@ class Report:
         offsets = self.cluster.offsets.of_group(group.name)
         end = self.cluster.log.end_offset()
         members = list(group.members.values())[: SHOWN_MEMBERS if is_for_page else None]
+        coordinator = self.cluster.coordinator_of(group.name)
         known: Dict[str, Any] = {
             "name": group.name,
-            "node": self.cluster.coordinator_of(group.name).id,
+            "node": coordinator and coordinator.id,
             "epoch": group.epoch() if group.members else None,
             "is_settled": group.is_settled(self.cluster.topics),
             "rebalancing_seconds": None if group.since is None else _seconds(now - group.since),
@@ -106,12 +113,13 @@ class Report:
 
     def metrics(self) -> str:
         """All counts and times, for /metrics."""
-        known, nodes, watch = self.watch.groups.groups.values(), self.cluster.nodes, self.watch
+        known, nodes, watch = self.watch.groups.groups.values(), self.cluster.nodes_here(), self.watch
         members: List[Tuple[Labels, float]] = [((("group", group.name),), len(group.members)) for group in known]
         connections: List[Tuple[Labels, float]] = [((("node", str(node.id)),), node.connections) for node in nodes]
         there: List[Tuple[Labels, float]] = [((("coordinator", str(node.coordinator)),), int(node.coordinator.is_there)) for node in nodes]
         lines = [
             *watch.metrics(),
+            *self.cluster.metrics(),
             *gauge("broker_group_members", "Members of a group, as far as their heartbeats passed here.", members),
             *_one("broker_groups", "Groups with members.", len(known)),
             *_one("broker_groups_rebalancing", "Groups in which a rebalance is under way.", sum(it.since is not None for it in known)),

@@ -53,7 +53,7 @@ class Topics:
         self.by_name: Dict[str, Topic] = {topic.name: topic for topic in topics}
         self.by_id: Dict[uuid.UUID, Topic] = {topic.id: topic for topic in topics}
         if not len(self.by_name) == len(self.by_id) == len(topics):
-            raise ValueError("two topics have one name or one id")
+            raise ValueError("two topics have the same name or the same id")
         if len(topics) > MOST_TOPICS or sum(topic.count for topic in topics) > MOST_PARTITIONS:
             raise ValueError(f"there are more than {MOST_TOPICS} topics or {MOST_PARTITIONS} partitions")
 

@@ -21,9 +21,14 @@ EXPIRY_SECONDS = 0.5
 
 
 class Watch:
-    def __init__(self, topics: Topics, say: Callable[[str], None], clock: Callable[[], float] = time.monotonic) -> None:
+    """What passes is told by whoever answers it; or, where there is a log of it, by all who apply that. Then lines and counts are of what
+    was answered here (`is_here`), and a member is removed when the log has it so."""
+
+    def __init__(
+        self, topics: Topics, say: Callable[[str], None], clock: Callable[[], float] = time.monotonic, has_log: bool = False
+    ) -> None:
         self.groups = Groups(topics)
-        self._say, self.clock = say, clock
+        self._say, self.clock, self._has_log = say, clock, has_log
         # The last lines that were said, each with its moment, and how much has been seen since the beginning.
         self.lines: Deque[Tuple[float, str]] = collections.deque(maxlen=MOST_LINES)
         self.revision = 0
@@ -36,14 +41,25 @@ class Watch:
 
     # ---- what passes
 
-    def heartbeat(self, client: Optional[str], asked: heartbeats.Asked, told: heartbeats.Told) -> None:
-        self.heartbeats.add(_labels(told.code))
+    def heartbeat(self, client: Optional[str], asked: heartbeats.Asked, told: heartbeats.Told, is_here: bool = True) -> None:
+        if is_here:
+            self.heartbeats.add(_labels(told.code))
         change = self.groups.heartbeat(client, asked, told, self.clock())
         if change is not None:
-            self._changed(change)
+            self._changed(change, is_here)
 
-    def commit(self, asked: commits.Asked, results: List[commits.Result]) -> None:
+    def has_heard(self, steady: heartbeats.Steady, is_here: bool = True) -> bool:
+        """Takes a heartbeat that changes nothing, where that is so by what is known."""
+        if not self.groups.has_heard(steady, self.clock()):
+            return False
+        if is_here:
+            self.heartbeats.add(_labels(codes.NONE))
+        return True
+
+    def commit(self, asked: commits.Asked, results: List[commits.Result], is_here: bool = True) -> None:
         self.revision += 1
+        if not is_here:
+            return
         for code, count in sorted(collections.Counter(result.code for result in results).items()):
             self.commits.add(_labels(code), count)
             if code != codes.NONE:
@@ -53,6 +69,12 @@ class Watch:
     def answered(self, api: str, seconds: float) -> None:
         self.seconds.observe(seconds, (("api", api),))
 
+    def removed(self, is_over: Callable[[str, str], bool], is_here: bool) -> None:
+        """The coordinator has removed members: those of a group and an id of which this says so."""
+        phrase = "is removed, since its session or its rebalance timeout is over"
+        for change in self.groups.remove(lambda group, member: is_over(group.name, member.id), phrase, self.clock()):
+            self._changed(change, is_here)
+
     async def run(self) -> None:
         """Takes out the members whose sessions are over, for ever."""
         while True:
@@ -60,12 +82,16 @@ class Watch:
             self.expire()
 
     def expire(self) -> None:
-        for change in self.groups.expire(self.clock()):
+        now = self.clock()
+        for change in self.groups.waiting(now) + ([] if self._has_log else self.groups.expire(now)):
             self._changed(change)
 
     # ---- what is told of it
 
-    def _changed(self, change: Change) -> None:
+    def _changed(self, change: Change, is_here: bool = True) -> None:
+        if not is_here:
+            self.revision += 1
+            return
         self.tell(f"{plain(change.group)}  {short_id(change.member) or '-'}  epoch {change.epoch}  {'; '.join(change.phrases)}")
         if change.converged is not None:
             self.rebalances.observe(change.converged)

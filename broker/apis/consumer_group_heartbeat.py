@@ -17,14 +17,21 @@ NO_EPOCH, NO_INTERVAL, NO_ASSIGNMENT = int32(0), int32(0), int8(-1)
 
 async def answer(call: Call) -> Reply:
     request = call.request
+    if call.cluster.has_log and request.version == 0:
+        # (The log tells the rest.)
+        begin, group = request.fields.at, request.fields.compact_string()
+        if call.is_coordinator_of(group):
+            return [await call.link.ask(request.body, group)]
+        request.fields.at = begin
     asked = await read_request(request)
     # (Null and empty both mean that there is none.)
     if asked.regex:
         return refuse(call, asked, codes.INVALID_REQUEST, "regular expressions are not supported")
     if not call.is_coordinator_of(asked.group):
         return refuse(call, asked, codes.NOT_COORDINATOR, "another broker coordinates this group")
-    reply = await call.link.ask(request.body if request.version == 0 else as_version_0(request.body, asked))
-    call.watch.heartbeat(request.client, asked, await read_reply(reply, request.pace))
+    reply = await call.link.ask(request.body if request.version == 0 else as_version_0(request.body, asked), asked.group)
+    if not call.cluster.has_log:
+        call.watch.heartbeat(request.client, asked, await read_reply(reply, request.pace))
     return [reply]
 
 

@@ -64,7 +64,7 @@ def _partition(fields: Reader, topic: str, version: int) -> Asked:
 def _code(cluster: Cluster, asked: Asked) -> int:
     if not cluster.topics.has(asked.topic, asked.partition):
         return codes.UNKNOWN_TOPIC_OR_PARTITION
-    return codes.NONE if FIRST_OFFSET <= asked.offset <= cluster.log.end_offset() else codes.OFFSET_OUT_OF_RANGE
+    return codes.NONE if FIRST_OFFSET <= asked.offset <= cluster.log.last_offset() else codes.OFFSET_OUT_OF_RANGE
 
 
 async def _seconds_until_any(call: Call) -> float:

@@ -22,7 +22,9 @@ async def answer(call: Call) -> Reply:
     if not offsets.has_room(asked.group, partitions):
         # What the coordinator takes has to be there at the next OffsetFetch.
         return refuse(call, asked, codes.INVALID_COMMIT_OFFSET_SIZE)
-    reply = await call.link.ask(call.request.body)
+    reply = await call.link.ask(call.request.body, asked.group)
+    if call.cluster.has_log:
+        return [reply]
     pace = call.request.pace
     results = await read_reply(reply, pace)
     for partition, result in zip(partitions, results):

@@ -11,7 +11,7 @@ from broker import codes, commits
 from broker.call import Call
 from broker.fields import NO_TAGS, Reader, Unreadable, compact_array, compact_nullable_string, compact_string, int16, int32, int64, unsigned_varint
 from broker.frames import Reply
-from broker.offsets import NOTHING, Committed, OfTopic
+from broker.offsets import NOTHING, Committed
 
 # What a code of that commit means here, where it isn't the answer itself.
 MEANINGS = {codes.UNKNOWN_TOPIC_OR_PARTITION: codes.NONE, codes.GROUP_ID_NOT_FOUND: codes.UNKNOWN_MEMBER_ID}
@@ -81,8 +81,9 @@ async def _refusal(call: Call, group: AskedGroup) -> int:
         return codes.NOT_COORDINATOR
     # (librdkafka names no member.)
     if not group.member or group.epoch < 0:
+        await call.link.confirm(group.name)
         return codes.NONE
-    reply = await call.link.ask(commits.of_nothing(call.request, group.name, group.epoch, group.member))
+    reply = await call.link.ask(commits.of_nothing(call.request, group.name, group.epoch, group.member), group.name)
     results = await commits.read_reply(reply, call.request.pace)
     code = results[0].code if results else codes.COORDINATOR_NOT_AVAILABLE
     return MEANINGS.get(code, code)
@@ -90,8 +91,8 @@ async def _refusal(call: Call, group: AskedGroup) -> int:
 
 async def _topic_reply(call: Call, group: str, topic: AskedTopic) -> bytes:
     await call.request.pace.pause()
-    stored = call.cluster.offsets.of_group(group).get(topic.name, OfTopic()).entries
-    entries = await call.request.pace.all(_partition(index, stored.get(index, NOTHING)) for index in topic.partitions)
+    committed = call.cluster.committed
+    entries = await call.request.pace.all(_partition(index, committed(group, topic.name, index) or NOTHING) for index in topic.partitions)
     return compact_string(topic.name) + compact_array(entries) + NO_TAGS
 
 

@@ -25,7 +25,7 @@ from broker.watch import Watch
 Result = TypeVar("Result")
 HOST = "127.0.0.1"
 # How long anything may take that comes at once.
-SECONDS = 20
+SECONDS = 60
 ORDERS = uuid.UUID(bytes=b"\x11" * 16)
 TOPIC = f"orders:{ORDERS}:2"
 
@@ -34,6 +34,14 @@ def data(text: str) -> bytes:
     """Bytes from hexadecimal words and texts between quotes."""
     words = re.findall(r"'([^']*)'|(\S+)", text)
     return b"".join(quoted.encode() if not digits else bytes.fromhex(digits) for quoted, digits in words)
+
+
+async def until(holds: Callable[[], Any]) -> None:
+    async def wait() -> None:
+        while not holds():
+            await asyncio.sleep(0.01)
+
+    await asyncio.wait_for(wait(), SECONDS)
 
 
 def small_cluster(coordinators: int = 1, rate: float = 1.0, clock: Callable[[], float] = lambda: 0.0, partitions: int = 2) -> Cluster:
@@ -100,11 +108,7 @@ class Front:
         return client
 
     async def wait_for(self, holds: Callable[[], bool]) -> None:
-        async def wait() -> None:
-            while not holds():
-                await asyncio.sleep(0.01)
-
-        await asyncio.wait_for(wait(), SECONDS)
+        await until(holds)
 
 
 class Client:

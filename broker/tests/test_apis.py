@@ -5,6 +5,7 @@ from __future__ import annotations
 import pathlib
 import unittest
 from typing import Any, Iterator, List, Tuple
+from unittest import mock
 
 from broker.apis import ANSWERS
 from broker.call import Call
@@ -31,7 +32,7 @@ def rows() -> Iterator[Tuple[str, str, str]]:
 
 def answer(cluster: Cluster, text: str, node: int = 0) -> bytes:
     """The reply of a node to a request that doesn't go on to the coordinator."""
-    nobody: Any = None
+    nobody: Any = mock.AsyncMock()
 
     async def pieces() -> Reply:
         request = read_request(data(text), Pace(cluster.turns))

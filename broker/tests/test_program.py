@@ -3,6 +3,7 @@ where BROKER_TEST_LIBRARY names libmigwelun.so."""
 
 from __future__ import annotations
 
+import asyncio
 import contextlib
 import fcntl
 import json
@@ -11,6 +12,7 @@ import pathlib
 import re
 import signal
 import socket
+import stat
 import struct
 import subprocess
 import sys
@@ -18,7 +20,11 @@ import time
 import unittest
 import urllib.request
 from typing import IO, Iterator, List, Optional
+from unittest import mock
 
+from broker import groups
+from broker.__main__ import run
+from broker.command_line import parse
 from broker.starter import free_port
 from broker.tests.support import HOST, ORDERS, SECONDS, data
 from broker.tests.test_relay import WITH_REGEX
@@ -27,6 +33,8 @@ TOP = pathlib.Path(__file__).resolve().parents[2]
 CLIENT = TOP / "examples/client.py"
 # Linux' number for it, which Python has from version 3.10 on, and a page.
 F_SETPIPE_SZ, PIPE_BYTES = 1031, 4096
+# How long a program has to go on that has nowhere to print.
+FULL_SECONDS = 3
 PROGRAM = os.environ.get("BROKER_TEST_PROGRAM", "")
 COORDINATORS = 3
 GROUPS = [f"group-{number}" for number in range(9)]
@@ -49,11 +57,15 @@ OF_TWO_MEMBERS = [
 REFUSED = [
     (["--start", "t:11:2", "--port", "0"], "argument NAME:UUID:COUNT: 't:11:2' wants a UUID behind its first colon"),
     (["--start", "--port", "0"], "the following arguments are required: NAME:UUID:COUNT"),
-    (["--port", "0", f"t:{ORDERS}:2"], "wants --coordinator HOST:PORT, --start or --embedded"),
+    (["--port", "0", f"t:{ORDERS}:2"], "wants --coordinator HOST:PORT, --start, --embedded or --etcd HOST:PORT"),
+    (["--etcd", "127.0.0.1:2379", f"t:{ORDERS}:2"], "--etcd wants --advertise HOST:PORT and --parts N"),
+    (["--etcd", "127.0.0.1:2379,x", f"t:{ORDERS}:2"], "'x' is no HOST:PORT"),
+    (["--etcd", "127.0.0.1:2379", "--start", "--port", "0", f"t:{ORDERS}:2"], "go with none of --coordinator, --start and --embedded"),
+    (["--etcd", "127.0.0.1:2379", "--parts", "0", f"t:{ORDERS}:2"], "'0' is no number from 1 to 1000"),
     (["--start", f"t:{ORDERS}:2"], "the following arguments are required: --port"),
     (["--start", "--port", "0", f"t:{ORDERS}:0"], "wants a number of partitions from 1 to 100000 at its end"),
     (["--start", "--port", "0", f"a b:{ORDERS}:1"], "wants a name of 1 to 249 letters"),
-    (["--start", "--port", "0", f"t:{ORDERS}:2", f"u:{ORDERS}:2"], "two topics have one name or one id"),
+    (["--start", "--port", "0", f"t:{ORDERS}:2", f"u:{ORDERS}:2"], "two topics have the same name or the same id"),
     (["--start", "--port", "65536", f"t:{ORDERS}:2"], "'65536' is no number from 0 to 65535"),
     (["--start", "--start", "--port", "65535", f"t:{ORDERS}:2"], "--port 65535 leaves no ports for 2 brokers"),
     (["--coordinator", "127.0.0.1", "--port", "0", f"t:{ORDERS}:2"], "'127.0.0.1' is no HOST:PORT"),
@@ -115,6 +127,13 @@ def coordinator(port: int, *words: str) -> Iterator[None]:
         process.communicate(timeout=SECONDS)
 
 
+def closed_pipe() -> int:
+    """The end of a pipe whose reader is gone."""
+    reader, writer = os.pipe()
+    os.close(reader)
+    return writer
+
+
 def ask(port: int, text: str) -> Optional[bytes]:
     """A reply's body, or None where the connection is closed."""
     try:
@@ -124,6 +143,23 @@ def ask(port: int, text: str) -> Optional[bytes]:
             return stream.read(struct.unpack(">i", size)[0]) if size else None
     except ConnectionError:
         return None
+
+
+async def lines_until(words: List[str], request: str, last: str) -> List[str]:
+    """What the front end prints of a client's request, up to a line with this in it. It runs in this process."""
+    lines: List[str] = []
+    running = asyncio.ensure_future(run(parse(words), lines.append))
+    try:
+        while not lines:
+            await asyncio.sleep(0.01)
+        port = int(re.match(rf"listening {HOST}:(\d+) ", lines.pop())[1])  # type: ignore[index]
+        await asyncio.to_thread(ask, port, request)
+        while not any(last in line for line in lines):
+            await asyncio.sleep(0.01)
+    finally:
+        running.cancel()
+        await asyncio.gather(running, return_exceptions=True)
+    return lines
 
 
 def port_of(group: str, asked: int) -> int:
@@ -178,6 +214,18 @@ class Program(unittest.TestCase):
         self.assertEqual((codes, closed, status), ({data("002a")}, {None}, 0))
         self.assertIn('broker_heartbeats_total{code="42",error="INVALID_REQUEST"} 100', metrics)
 
+    def test_a_full_disk_does_not_end_it_and_a_reader_that_is_gone_does(self) -> None:
+        command = [sys.executable, "-B", "-m", "broker", "--coordinator", f"{HOST}:9", "--port", "0", "--status", "0", f"orders:{ORDERS}:2"]
+        for number in (os.open("/dev/full", os.O_WRONLY), closed_pipe()):
+            with subprocess.Popen(command, cwd=TOP, stdout=number, stderr=subprocess.DEVNULL) as process:
+                is_pipe = stat.S_ISFIFO(os.fstat(number).st_mode)
+                os.close(number)
+                if not is_pipe:
+                    with self.assertRaises(subprocess.TimeoutExpired):
+                        process.wait(FULL_SECONDS)
+                    process.terminate()
+                self.assertEqual(process.wait(SECONDS), 0)
+
     @needs_program
     def test_two_members_of_another_hand(self) -> None:
         self.see_two_members("--start", "--program", PROGRAM)
@@ -227,6 +275,17 @@ class Program(unittest.TestCase):
         self.assertEqual(states, [False, True, False])
         gone, there = (f"broker: the coordinator {HOST}:{port} {what}" for what in ("can't be reached", "is there again"))
         self.assertEqual([line.split(",")[0] for line in said.splitlines()], [gone, there, gone])
+
+    @needs_program
+    def test_a_topic_that_the_coordinator_has_under_another_id_is_said(self) -> None:
+        # Members are said to wait as soon as one looks.
+        other = "22222222-2222-2222-2222-222222222222"
+        with free_port() as port, coordinator(port, f"orders:{other}:2"), mock.patch.object(groups, "WAIT_SECONDS", 0):
+            words = ["--coordinator", f"{HOST}:{port}", "--port", "0", f"orders:{ORDERS}:2"]
+            lines = asyncio.run(asyncio.wait_for(lines_until(words, join("g"), "waits for"), SECONDS))
+        assigned = f"is assigned {other}[0..1], which isn't known here: the coordinator has other topics"
+        waits = f"waits for orders[0..1], which the coordinator assigns to nobody: does it have orders:{ORDERS}:2?"
+        self.assertEqual(lines, [f"g  000001  epoch 1  joins; subscribes orders; {assigned}", f"g  -  epoch 1  {waits}"])
 
     @needs_program
     def test_a_started_coordinator_that_ends_ends_the_front_end(self) -> None:

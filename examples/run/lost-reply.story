@@ -1,4 +1,4 @@
-# The coordinator grants a partition, and the member never hears of it. When may another one get it?
+# The coordinator grants a partition, and the member never learns of it. When may another one get it?
 a, b: group g, assignor range, subscribes t
 c: group g, static as i1, assignor range, subscribes t
 

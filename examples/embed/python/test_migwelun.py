@@ -34,5 +34,50 @@ class Embedded(unittest.TestCase):
                 self.assertRaisesRegex(ValueError, why, it.set_topics, topics)
 
 
+class Replicated(unittest.TestCase):
+    # Entries have a version and a kind of two bytes each, and a leadership of four; then a frame has its connection, its number, its
+    # moment and its body.
+    LEADS = bytes.fromhex("0000000300000001")
+    TOPICS = bytes.fromhex("0000000200000001020274") + TOPIC + bytes.fromhex("00000002")
+    FRAME = bytes.fromhex("00000000000000010000000700000000000000010000000000000000") + JOIN
+    TICK = bytes.fromhex("0000000100000001000000000000afc8")
+    LOG = (LEADS, TOPICS, FRAME, TICK)
+    APPLIED = [("leads", 1, 0, 0, None, 0), ("topics", 1, 0, 0, None, 0), ("frame", 1, 7, 1, REPLY, 0), ("tick", 1, 0, 0, None, 1)]
+
+    def test_a_leader_proposes_and_applies(self) -> None:
+        with migwelun.Replica(LIBRARY, 0) as it:
+            entries = [it.lead()]
+            found = [it.apply(1, entries[0])]
+            it.begin(5_000)
+            for propose in (
+                lambda: it.propose_topics([("t", TOPIC, 2)]),
+                # The clock went back: time stands still.
+                lambda: it.propose(JOIN, connection=7, frame=1, clock=4_000),
+                lambda: it.propose_tick(50_000),
+            ):
+                entries.append(propose())
+                found.append(it.apply(len(entries), entries[-1]))
+            self.assertEqual((tuple(entries), found, it.place()), (self.LOG, self.APPLIED, (4, 1, 45_000)))
+            self.assertEqual((it.remembers("g", FIRST), it.committed("g", "t", 0)), (True, None))
+
+    def test_a_follower_applies_the_same(self) -> None:
+        with migwelun.Replica(LIBRARY, 0) as it:
+            self.assertEqual([it.apply(place, entry) for place, entry in enumerate(self.LOG, 1)], self.APPLIED)
+
+    def test_entries_are_refused(self) -> None:
+        with migwelun.Replica(LIBRARY, 0) as it:
+            self.assertRaisesRegex(migwelun.BadEntry, "lead", it.propose_tick, 0)
+            for place, entry, why in (
+                (2, self.LEADS, "place"),
+                (1, self.TICK, "leadership"),
+                (1, self.LEADS + b"\0", "left"),
+                (1, b"\0\1" + self.LEADS[2:], "version"),
+                (1, self.LEADS[:2] + b"\0\4" + self.LEADS[4:], "kind"),
+                (1, self.LEADS[:-1], "field"),
+            ):
+                self.assertRaisesRegex(migwelun.BadEntry, why, it.apply, place, entry)
+            self.assertEqual(it.place(), (0, 0, 0))
+
+
 if __name__ == "__main__":
     unittest.main()

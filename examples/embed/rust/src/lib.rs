@@ -2,9 +2,12 @@
 //!
 //! [`Coordinator`] owns a slot of the C library and is the only way to it, so what the library asks of C holds by Rust's rules: a
 //! `&mut` for each call, no null pointer, and no two pointers to one place. The coordinator lies on the heap, so the slot may be moved.
+//! [`Replica`] is a coordinator that applies the entries of a log, and owns a slot in the same way.
 
 mod raw;
+mod replica;
 
+pub use replica::{Applied, Place, Replica};
 use std::fmt;
 
 /// What became of a frame.
@@ -24,11 +27,14 @@ pub enum Error {
     DuplicateId,
     TooMany,
     BadCount,
+    /// A replica proposes or applies no entry, by a code of include/migwelun.h; the replica is then as it was.
+    BadEntry(i32),
 }
 
 impl fmt::Display for Error {
     fn fmt(&self, f: &mut fmt::Formatter<'_>) -> fmt::Result {
         f.write_str(match self {
+            Error::BadEntry(code) => return write!(f, "the entry is refused with {code}"),
             Error::NoMemory => "out of memory",
             Error::DuplicateName => "two topics have one name",
             Error::DuplicateId => "two topics have one id",
@@ -78,7 +84,7 @@ impl Coordinator {
         };
         match code {
             raw::CLOSES => Ok(Answer::Close),
-            code => done(code).map(|()| Answer::Reply(self.take())),
+            code => done(code).map(|()| Answer::Reply(take(&mut self.slot, raw::migwelun_take))),
         }
     }
 
@@ -91,11 +97,14 @@ impl Coordinator {
 
     /// Sets the topics of the cluster. After an error they are as they were; after [`Error::NoMemory`], set none any more.
     pub fn set_topics(&mut self, topics: &[Topic<'_>]) -> Result<(), Error> {
-        for topic in topics {
-            let (name, id) = (topic.name.as_bytes(), topic.id.as_ptr());
-            done(unsafe { raw::migwelun_add_topic(&mut self.slot, name.as_ptr(), name.len(), id, topic.partitions) })?;
+        add_topics(&mut self.slot, topics)?;
+        match unsafe { raw::migwelun_set_topics(&mut self.slot) } {
+            1 => Err(Error::DuplicateName),
+            2 => Err(Error::DuplicateId),
+            3 => Err(Error::TooMany),
+            4 => Err(Error::BadCount),
+            code => done(code),
         }
-        done(unsafe { raw::migwelun_set_topics(&mut self.slot) })
     }
 
     /// Whether a group has a member, or remembers it as a former one.
@@ -115,17 +124,6 @@ impl Coordinator {
         };
         (code == raw::DONE).then_some((epoch, previous))
     }
-
-    /// The replies that wait.
-    fn take(&mut self) -> Vec<u8> {
-        let mut replies = vec![0; 256];
-        let mut size = 0;
-        while unsafe { raw::migwelun_take(&mut self.slot, replies.as_mut_ptr(), replies.len(), &mut size) } == raw::SHORT {
-            replies.resize(size, 0);
-        }
-        replies.truncate(size);
-        replies
-    }
 }
 
 impl Drop for Coordinator {
@@ -134,15 +132,30 @@ impl Drop for Coordinator {
     }
 }
 
+fn add_topics(slot: &mut raw::Slot, topics: &[Topic<'_>]) -> Result<(), Error> {
+    topics.iter().try_for_each(|topic| {
+        let (name, id) = (topic.name.as_bytes(), topic.id.as_ptr());
+        done(unsafe { raw::migwelun_add_topic(slot, name.as_ptr(), name.len(), id, topic.partitions) })
+    })
+}
+
+/// The bytes that wait.
+fn take(slot: &mut raw::Slot, call: raw::Take) -> Vec<u8> {
+    let mut bytes = vec![0; 256];
+    let mut size = 0;
+    while unsafe { call(slot, bytes.as_mut_ptr(), bytes.len(), &mut size) } == raw::SHORT {
+        bytes.resize(size, 0);
+    }
+    bytes.truncate(size);
+    bytes
+}
+
 /// What a code says that is no answer.
 fn done(code: i32) -> Result<(), Error> {
     match code {
         raw::DONE => Ok(()),
-        1 => Err(Error::DuplicateName),
-        2 => Err(Error::DuplicateId),
-        3 => Err(Error::TooMany),
-        4 => Err(Error::BadCount),
         raw::NO_MEMORY => Err(Error::NoMemory),
+        1.. => Err(Error::BadEntry(code)),
         // A coordinator's slot is full, and its names are texts.
         code => unreachable!("the library returned {code}"),
     }

@@ -18,6 +18,8 @@ impl Slot {
     pub const EMPTY: Slot = Slot { at: std::ptr::null_mut(), full: 0 };
 }
 
+pub type Take = unsafe extern "C" fn(slot: *mut Slot, to: *mut u8, room: usize, size: *mut usize) -> i32;
+
 extern "C" {
     pub fn migwelun_make(slot: *mut Slot, salt: u64, keys: *const u8) -> i32;
     pub fn migwelun_drop(slot: *mut Slot);
@@ -32,5 +34,17 @@ extern "C" {
     pub fn migwelun_epochs(
         slot: *mut Slot, group: *const u8, group_length: usize, member: *const u8, member_length: usize, epoch: *mut i32,
         previous: *mut i32,
+    ) -> i32;
+    pub fn migwelun_make_replica(slot: *mut Slot, salt: u64, keys: *const u8) -> i32;
+    pub fn migwelun_place(slot: *mut Slot, applied: *mut u64, leadership: *mut u32, moment: *mut u64) -> i32;
+    pub fn migwelun_lead(slot: *mut Slot) -> i32;
+    pub fn migwelun_begin(slot: *mut Slot, clock: u64) -> i32;
+    pub fn migwelun_propose(slot: *mut Slot, body: *const u8, length: usize, connection: u32, frame: u64, clock: u64) -> i32;
+    pub fn migwelun_propose_tick(slot: *mut Slot, clock: u64) -> i32;
+    pub fn migwelun_propose_topics(slot: *mut Slot) -> i32;
+    pub fn migwelun_take_entry(slot: *mut Slot, to: *mut u8, room: usize, size: *mut usize) -> i32;
+    pub fn migwelun_apply(
+        slot: *mut Slot, place: u64, entry: *const u8, length: usize, leadership: *mut u32, connection: *mut u32,
+        frame: *mut u64,
     ) -> i32;
 }

@@ -1,6 +1,6 @@
 //! A member comes and goes. The bytes are KIP-848's, by the Kafka protocol guide.
 
-use migwelun::{Answer, Coordinator, Error, Stamp, Topic};
+use migwelun::{Answer, Applied, Coordinator, Error, Place, Replica, Stamp, Topic};
 
 const FIRST: &str = "00000000-0000-0000-0000-000000000001";
 const T: Topic<'_> = Topic { name: "t", id: [0x11; 16], partitions: 2 };
@@ -44,4 +44,23 @@ fn topics_have_faults() -> Result<(), Error> {
         assert_eq!(it.set_topics(&topics), Err(fault));
     }
     it.set_topics(&[])
+}
+
+#[test]
+fn a_replica_applies_what_another_proposed() -> Result<(), Error> {
+    let (mut leader, mut follower) = (Replica::new(0, &[7; 16])?, Replica::new(0, &[8; 16])?);
+    let leads = leader.lead()?;
+    assert_eq!((&leads[..], leader.apply(1, &leads)), (&[0, 0, 0, 3, 0, 0, 0, 1][..], Ok(Applied::Leads { leadership: 1 })));
+    leader.begin(5_000);
+    let topics = leader.propose_topics(&[T])?;
+    assert_eq!(leader.apply(2, &topics), Ok(Applied::Topics));
+    let frame = leader.propose(&JOIN, 7, 1, 5_000)?;
+    let applied = Applied::Frame { leadership: 1, connection: 7, frame: 1, answer: Answer::Reply(reply()) };
+    assert_eq!((leader.apply(3, &frame), follower.apply(3, &frame)), (Ok(applied), Err(Error::BadEntry(2))));
+    for (place, entry) in (1..).zip([&leads, &topics, &frame]) {
+        follower.apply(place, entry)?;
+    }
+    assert_eq!(follower.place(), Place { applied: 3, leadership: 1, moment: 0 });
+    assert_eq!((follower.place(), follower.propose_tick(0)), (leader.place(), Err(Error::BadEntry(5))));
+    Ok(())
 }

@@ -1,0 +1,192 @@
+"""A cluster of brokers over etcd. Each is a process of its own with a replica of every part, and leads some of them."""
+
+from __future__ import annotations
+
+import asyncio
+import contextlib
+import functools
+from typing import Any, Callable, Dict, Iterable, List, Optional, Set
+
+from broker.acceptor import Work
+from broker.cluster import Cluster, Node, group_number
+from broker.embedded import module
+from broker.etcd import Etcd, Refused, Unanswered
+from broker.feed import Feed
+from broker.lease import Lease
+from broker.link import Connection, Coordinator, Link
+from broker.log import Log
+from broker.measures import Measures
+from broker.members import Members
+from broker.metrics import gauge
+from broker.offsets import Committed, Offsets
+from broker.part import Part
+from broker.record import Record
+from broker.settings import Settings
+from broker.starter import Ended
+from broker.topics import Topics
+from broker.watch import Watch
+
+
+# Each part has a salt of its own, so that no two of them name a member alike.
+SALTS = 1 << 64
+
+
+class EtcdCluster(Cluster):
+    """`nodes` are those of the brokers that are there. Only this one has a coordinator behind it."""
+
+    has_log = True
+
+    def __init__(self, own: Node, coordinator: Replicated, topics: Topics, log: Log, record: Record) -> None:
+        super().__init__([own], topics, log, Offsets(), record=record)
+        self.own, self.coordinator = own, coordinator
+        self.parts: List[Part] = []
+        self.members: Optional[Members] = None
+
+    def nodes_here(self) -> List[Node]:
+        return [self.own]
+
+    def coordinator_of(self, group: str) -> Optional[Node]:
+        part = self.part_of(group)
+        if part.serves:
+            return self.own
+        # (While there is no lease this may be old. Whoever doesn't lead it any more says so.)
+        leader = part.leader
+        return None if leader is None else next((node for node in self.nodes if node.id == leader.broker and node is not self.own), None)
+
+    def part_of(self, group: str) -> Part:
+        return self.parts[group_number(group, len(self.parts))]
+
+    def known(self) -> Dict[str, Any]:
+        brokers = [{"node": node.id, "broker": f"{node.host}:{node.port}", "is_here": node is self.own} for node in self.nodes]
+        return {"brokers": brokers, "parts": [part.known() for part in self.parts], "troubles": self.coordinator.troubles()}
+
+    def metrics(self) -> Iterable[str]:
+        rows = [(part, ("part", str(part.number))) for part in self.parts]
+        yield from self.coordinator.measures.lines()
+        yield from gauge("broker_part_led_here", "Whether this broker leads a part.", [((label,), int(part.serves)) for part, label in rows])
+        yield from gauge("broker_part_entry", "The last entry of a part's log that is applied here.", [((label,), part.follower.place) for part, label in rows])
+        behind = [((label,), max(0, part.follower.head - part.follower.place)) for part, label in rows]
+        yield from gauge("broker_part_behind", "Entries of a part's log that are known here and aren't applied yet.", behind)
+        stopped = [((label,), int(part.fault is not None)) for part, label in rows]
+        yield from gauge("broker_part_stopped", "Whether a part's log can't be applied here any further.", stopped)
+        yield from gauge("broker_brokers", "Brokers of the cluster that are there.", [((), len(self.nodes))])
+
+    def committed(self, group: str, topic: str, partition: int) -> Optional[Committed]:
+        found = self.part_of(group).replica.committed(group, topic, partition)
+        return found and Committed(found.offset, found.leader_epoch, found.metadata or "")
+
+    def have_changed(self) -> None:
+        """Takes over who is there. (Where nobody is known to be, clients hear of this one alone.)"""
+        assert self.members is not None
+        others = {number: each for number, each in self.members.brokers.items() if number != self.own.id}
+        nodes = [Node(number, each.host, each.port, self.own.coordinator) for number, each in others.items()]
+        is_there = self.own.id in self.members.brokers or not nodes
+        self.nodes[:] = sorted([*nodes, *[self.own] * is_there], key=lambda node: node.id)
+
+
+class Replicated(Coordinator):
+    """The parts of this process, as a coordinator: connections to it are numbered in the order in which they are opened, which is that of
+    the clients'."""
+
+    def __init__(self, etcd: Etcd, lease_seconds: int) -> None:
+        super().__init__("etcd", 0)
+        self.etcd, self.lease, self.measures = etcd, Lease(etcd, lease_seconds), Measures()
+        self.parts: List[Part] = []
+        self.members: Optional[Members] = None
+        self._opened = 0
+
+    def __str__(self) -> str:
+        return str(self.etcd)
+
+    def make_parts(self, settings: Settings, library: str, cluster: EtcdCluster, watch: Watch, tell: Callable[[str], None]) -> Members:
+        """Raises Ended where the library isn't there."""
+        for number in range(settings.parts):
+            replica = replica_of(library, (settings.salt + number) % SALTS)
+            feed = Feed(cluster.offsets, watch, cluster.turns, functools.partial(_is_gone, replica, number, settings.parts))
+            self.parts.append(Part(number, cluster.own.id, replica, cluster.topics, self.lease, feed, self.measures, tell))
+        cluster.parts = self.parts
+        cluster.members = self.members = Members(self.lease, settings, cluster.own, self.parts, self.measures, cluster.have_changed)
+        return self.members
+
+    async def connect(self) -> Optional[Connection]:
+        self._opened += 1
+        return functools.partial(self._linked, self._opened)
+
+    async def _linked(self, number: int) -> Link:
+        return PartsLink(self, number)
+
+    @property
+    def is_there(self) -> bool:
+        return self.lease.is_held() and self.etcd.unanswered.why is None
+
+    @is_there.setter
+    def is_there(self, _: bool) -> None:
+        pass
+
+    def troubles(self) -> List[str]:
+        """What is wrong now, in words."""
+        return [str(each) for each in (self.etcd.unanswered, self.etcd.full, self.lease.lost) if each.why is not None]
+
+    def works(self) -> List[Work]:
+        """What has to run for ever."""
+        assert self.members is not None
+        parts = [work for part in self.parts for work in (_for_ever(part.run()), part.feed.run())]
+        return [*parts, self.members.stay(), self.members.watch(), self.members.share()]
+
+    async def end(self) -> None:
+        """Gives back the lease, so that other brokers lead at once."""
+        with contextlib.suppress(Unanswered, Refused):
+            await self.lease.revoke()
+        self.etcd.close()
+        for part in self.parts:
+            part.replica.close()
+
+
+class PartsLink(Link):
+    """One client's connection, to whichever parts its groups are of. Nothing ever arrives on it unasked, but its end."""
+
+    def __init__(self, coordinator: Replicated, number: int) -> None:
+        self._parts, self._number, self._frames = coordinator.parts, number, 0
+        self._asked: Set[Part] = set()
+        self.arriving = asyncio.get_running_loop().create_future()
+
+    async def ask(self, body: bytes, group: str) -> bytes:
+        self._frames += 1
+        return await self._part_of(group).ask(body, self._number, self._frames)
+
+    async def confirm(self, group: str) -> None:
+        await self._part_of(group).confirm()
+
+    def _part_of(self, group: str) -> Part:
+        part = self._parts[group_number(group, len(self._parts))]
+        part.links.add(self)
+        self._asked.add(part)
+        return part
+
+    def end(self) -> None:
+        """The client's connection is closed."""
+        if not self.arriving.done():
+            self.arriving.set_result(None)
+
+    def close(self) -> None:
+        for part in self._asked:
+            part.links.discard(self)
+        self.arriving.cancel()
+
+
+def replica_of(library: str, salt: int) -> Any:
+    """A replica at the beginning of a log. Raises Ended where the library isn't there."""
+    try:
+        return module().Replica(library, salt)
+    except OSError as why:
+        raise Ended(f"the library can't be loaded: {why}; tools/build-library makes it") from None
+
+
+async def _for_ever(work: Work) -> None:
+    """A part may stop, and the others go on."""
+    await work
+    await asyncio.Event().wait()
+
+
+def _is_gone(replica: Any, part: int, parts: int, group: str, member: str) -> bool:
+    return group_number(group, parts) == part and replica.epochs(group, member) is None

@@ -1,0 +1,123 @@
+"""A replica of a part's log, as it follows what etcd has. (leading: how a leader appends to it.)"""
+
+from __future__ import annotations
+
+import asyncio
+import collections
+from typing import Any, Deque, Tuple
+
+from broker import batches
+from broker.etcd import NOT_FOUND, Etcd, NoRoom, Range, Refused, Unanswered
+from broker.feed import Feed, Passed
+from broker.trouble import Trouble
+
+# How many batches are read at a time at first, and how many bytes about that may be.
+FIRST_LIMIT, READ_BYTES = 16, 4 << 20
+# How much of what the watch brings may wait. Where more does, it is read again.
+MOST_ARRIVED = 1_000
+
+
+class Stopped(Exception):
+    """The log can't be applied any further, and why."""
+
+
+class Follower:
+    def __init__(self, number: int, replica: Any, etcd: Etcd, feed: Feed) -> None:
+        self.number, self.replica, self.feed, self._etcd = number, replica, feed, etcd
+        # The last place that is applied, and the last that the log is known to have; whether all that it had at the start is applied.
+        self.place = self.head = 0
+        self.has_read_up = asyncio.Event()
+        # Which kinds there have been among the applied entries.
+        self.has_topics = self.has_frames = False
+        # What the watch has brought, and whether there may be more that it hasn't.
+        self._arrived: Deque[Tuple[int, bytes]] = collections.deque()
+        self._is_behind, self._limit = True, FIRST_LIMIT
+        self._refused = Trouble(f"part {number} waits, since etcd refuses it", f"part {number} goes on")
+
+    # ---- what is told to it
+
+    def arrived(self, place: int, value: bytes) -> None:
+        """The log has this batch at a place."""
+        if len(self._arrived) >= MOST_ARRIVED:
+            self.look_again()
+        self._arrived.append((place, value))
+
+    def look_again(self) -> None:
+        """There may be entries that the watch didn't tell of: all are to be read."""
+        self._arrived.clear()
+        self._is_behind = True
+
+    # ---- applying
+
+    async def follow(self) -> None:
+        """Applies all that is known of the log. Raises Stopped; and Unanswered and Refused, where it is to be done again."""
+        if self._is_behind:
+            await self.read_up()
+        while self._arrived:
+            place, value = self._arrived.popleft()
+            if place == self.place + 1:
+                await self._take(value)
+            elif place > self.place:
+                await self.read_up()
+        self.has_read_up.set()
+
+    async def read_up(self) -> None:
+        """Reads all that the log has, and applies it. Raises as `follow` does."""
+        while True:
+            self._is_behind = True
+            found = await self._read()
+            self._is_behind = found.has_more
+            for pair in found.pairs:
+                _, place = batches.part_and_place(pair.key)
+                if place != self.place + 1:
+                    raise Stopped(f"entry {self.place + 1} isn't in the log, which goes on with {place}")
+                await self._take(pair.value)
+            if not found.has_more:
+                return
+
+    async def _read(self) -> Range:
+        """The next batches: twice as many as the last time, or half as many where that took too long."""
+        try:
+            found = await self._etcd.range(batches.key(self.number, self.place + 1), batches.end(self.number), self._limit)
+        except Unanswered:
+            self._limit = max(1, self._limit // 2)
+            raise
+        self.has_succeeded()
+        if found.has_more:
+            size = sum(len(pair.value) for pair in found.pairs) // len(found.pairs)
+            self._limit = max(1, min(2 * self._limit, MOST_ARRIVED, READ_BYTES // max(1, size)))
+        return found
+
+    async def _take(self, value: bytes) -> None:
+        """Applies a batch of the log, at the next place."""
+        try:
+            entries = batches.decode(value).entries
+        except batches.BadBatch as why:
+            raise Stopped(f"entry {self.place + 1} begins a batch that can't be read: {why}") from None
+        for entry in entries:
+            self.feed.put(Passed(entry, self.apply(entry), None, False))
+        await self.feed.has_room()
+
+    def apply(self, entry: bytes) -> Any:
+        """The replica at the next place of the log. Raises Stopped."""
+        try:
+            applied = self.replica.apply(self.place + 1, entry)
+        except ValueError as why:
+            raise Stopped(f"entry {self.place + 1} is refused: {why}") from None
+        except MemoryError:
+            raise Stopped(f"there is no memory for entry {self.place + 1}") from None
+        self.place += 1
+        self.head = max(self.head, self.place)
+        self.has_topics |= applied.kind == "topics"
+        self.has_frames |= applied.kind == "frame"
+        return applied
+
+    # ---- what etcd has against a request
+
+    def has_failed(self, why: Exception) -> None:
+        """Says why etcd refuses a request, where nobody else says it, as of a lease that is over."""
+        if isinstance(why, Refused) and not isinstance(why, NoRoom) and why.code != NOT_FOUND:
+            self._refused.is_there(str(why))
+
+    def has_succeeded(self) -> None:
+        self._refused.is_well()

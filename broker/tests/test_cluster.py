@@ -1,0 +1,120 @@
+"""A broker of a cluster over etcd: when it has clients, and whom it names to them."""
+
+from __future__ import annotations
+
+import asyncio
+import contextlib
+import socket
+import struct
+import unittest
+from typing import Any, AsyncIterator, List, Optional
+from unittest import mock
+
+from broker.__main__ import run
+from broker.command_line import parse
+from broker.output import STANDARD_ERROR
+from broker.tests.played_etcd import DONE, LOST, played_etcd, text_of, unpacked
+from broker.tests.support import HOST, TOPIC, Client, close_all, until
+from broker.tests.test_part import PlayedReplica
+
+# FindCoordinator for the group `g`, and what another broker has in etcd that leads all.
+FIND = "000a 0001 00000001 ffff 0001 'g' 00"
+OTHER = {"cluster/brokers/5": '{"address": "10.0.0.5:9092", "stopped": []}', "cluster/leaders/0": "5"}
+
+
+class Broker:
+    """It runs at a port, and has printed these lines."""
+
+    def __init__(self, etcd: str, port: int) -> None:
+        self.port = port
+        self.lines: List[str] = []
+        self.writers: List[asyncio.StreamWriter] = []
+        options = parse(["--etcd", etcd, "--advertise", f"{HOST}:{port}", "--parts", "1", "--lease", "12", TOPIC])
+        self.task = asyncio.ensure_future(run(options, self.lines.append))
+
+    async def client(self) -> Client:
+        client = Client(*await asyncio.open_connection(HOST, self.port))
+        self.writers.append(client.writer)
+        return client
+
+    async def named(self, client: Optional[Client] = None) -> Optional[str]:
+        """The coordinator that it names, or the code instead; or None where the connection is closed."""
+        body = await (client or await self.client()).ask(FIND)
+        if body is None:
+            return None
+        code, size = struct.unpack_from(">hh", body, 8)
+        at = 12 + max(0, size)
+        host = body[at + 6 :][: struct.unpack_from(">h", body, at + 4)[0]].decode()
+        return f"code {code}" if code else host
+
+    def listens(self) -> int:
+        return sum(line.startswith("listening ") for line in self.lines)
+
+
+@contextlib.asynccontextmanager
+async def broker() -> AsyncIterator[Any]:
+    """A played etcd whose logs can't be read, a broker, and what that says on standard error."""
+    said: List[str] = []
+    with socket.create_server((HOST, 0)) as free:
+        port = free.getsockname()[1]
+    async with played_etcd() as (played, etcd):
+        for key, value in OTHER.items():
+            played.put(text_of(f"migwelun/{key}"), text_of(value), "99")
+        played.fate = lambda path, request: LOST if path == "kv/range" and "/log/" in unpacked(request["key"]) else DONE
+        replica = mock.patch("broker.etcd_cluster.replica_of", lambda *_: PlayedReplica())
+        with replica, mock.patch.object(STANDARD_ERROR, "line", said.append), mock.patch("broker.serving.NO_LEASE_SECONDS", 3):
+            it = Broker(str(etcd).removeprefix("etcd "), port)
+            try:
+                yield played, it, said
+            finally:
+                it.task.cancel()
+                await asyncio.gather(it.task, return_exceptions=True)
+                await close_all(it.writers)
+
+
+class Serving(unittest.IsolatedAsyncioTestCase):
+    async def test_a_broker_has_clients_while_it_is_a_member(self) -> None:
+        async with broker() as (played, it, said):
+            await until(lambda: "migwelun/cluster/numbers/0" in played.pairs)
+            found = [await it.named(), it.listens()]
+            played.fate = lambda path, request: DONE
+            await until(it.listens)
+            client = await it.client()
+            found.append(await it.named(client))
+            # Its lease ends, and it gets no other one for longer than clients stay.
+            played.fate = lambda path, request: DONE if path == "lease/keepalive" else LOST
+            played.end_lease(str(played.leases))
+            await until(lambda: any("leads nothing" in line for line in said))
+            found.append(await it.named(client))
+            found += [await client.body(), await it.named(), it.listens()]
+            played.fate = lambda path, request: DONE
+            await until(lambda: it.listens() == 2)
+            found.append(await it.named())
+        self.assertEqual(found, [None, 0, "10.0.0.5", "10.0.0.5", None, None, 1, "10.0.0.5"])
+        closed = "broker: clients' connections are closed, since this broker has had no lease in etcd for 3 s"
+        self.assertEqual([line for line in said if "clients' connections" in line], [closed])
+
+    async def test_clients_stay_where_a_lease_is_missed_for_a_moment(self) -> None:
+        async with broker() as (played, it, said):
+            played.fate = lambda path, request: DONE
+            await until(it.listens)
+            client = await it.client()
+            first = await it.named(client)
+            played.end_lease(str(played.leases))
+            await until(lambda: played.leases == 2 and "migwelun/cluster/brokers/0" in played.pairs)
+            await asyncio.sleep(3.5)
+            found = first, await it.named(client), it.listens()
+        self.assertEqual(found, ("10.0.0.5", "10.0.0.5", 1))
+
+    async def test_a_broker_waits_while_another_one_has_its_address(self) -> None:
+        async with broker() as (played, it, said):
+            twin = text_of("migwelun/cluster/brokers/0")
+            played.put(twin, text_of(f'{{"address": "{HOST}:{it.port}", "stopped": []}}'), "98")
+            played.fate = lambda path, request: DONE
+            await until(lambda: any("this broker waits" in line for line in said))
+            found = [await it.named(), it.listens()]
+            played.delete(twin)
+            await until(it.listens)
+            found.append(await it.named())
+        self.assertEqual(found, [None, 0, "10.0.0.5"])
+        self.assertIn(f"broker: no other broker at {HOST}:{it.port} is in the cluster any more", said)

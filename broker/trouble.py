@@ -1,0 +1,27 @@
+"""Things that go wrong for a time, each said once when it begins and once when it ends."""
+
+from __future__ import annotations
+
+from typing import Optional
+
+from broker.output import say
+
+
+class Trouble:
+    def __init__(self, begins: str, ends: str) -> None:
+        self._begins, self._ends = begins, ends
+        # What is wrong, or None.
+        self.why: Optional[str] = None
+
+    def __str__(self) -> str:
+        return f"{self._begins}: {self.why}"
+
+    def is_there(self, why: str) -> None:
+        if self.why is None:
+            say(f"{self._begins}: {why}")
+        self.why = why
+
+    def is_well(self) -> None:
+        if self.why is not None:
+            say(self._ends)
+        self.why = None

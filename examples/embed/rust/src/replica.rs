@@ -1,0 +1,109 @@
+//! A replica: a coordinator that applies the entries of a log that the program keeps.
+
+use crate::{done, raw, Answer, Error, Topic};
+
+/// How far a replica has come: how many entries it has applied, the number of the last leadership that began, and the greatest moment.
+#[derive(Clone, Copy, Debug, PartialEq, Eq)]
+pub struct Place {
+    pub applied: u64,
+    pub leadership: u32,
+    pub moment: u64,
+}
+
+/// An entry that was applied.
+#[derive(Clone, Debug, PartialEq, Eq)]
+pub enum Applied {
+    /// A frame: the number of its leadership, of its connection under it and of itself on that, and what became of it.
+    Frame { leadership: u32, connection: u32, frame: u64, answer: Answer },
+    /// How many members a tick removed.
+    Tick { removed: u64 },
+    Topics,
+    Leads { leadership: u32 },
+}
+
+/// A replica of a log. One that leads proposes entries; each applies those that the log has, in their order, and answers only then.
+pub struct Replica {
+    slot: raw::Slot,
+}
+
+// The library keeps nothing of a thread's, and each call has the slot for itself.
+unsafe impl Send for Replica {}
+
+impl Replica {
+    /// A replica that has applied nothing. The salt is the same in all replicas of the log; the keys are 16 random bytes.
+    pub fn new(salt: u64, keys: &[u8; 16]) -> Result<Replica, Error> {
+        let mut it = Replica { slot: raw::Slot::EMPTY };
+        done(unsafe { raw::migwelun_make_replica(&mut it.slot, salt, keys.as_ptr()) })?;
+        Ok(it)
+    }
+
+    pub fn place(&mut self) -> Place {
+        let mut it = Place { applied: 0, leadership: 0, moment: 0 };
+        unsafe { raw::migwelun_place(&mut self.slot, &mut it.applied, &mut it.leadership, &mut it.moment) };
+        it
+    }
+
+    /// The entry by which the next leadership begins.
+    pub fn lead(&mut self) -> Result<Vec<u8>, Error> {
+        let code = unsafe { raw::migwelun_lead(&mut self.slot) };
+        self.proposed(code)
+    }
+
+    /// Leads from here on: its own entry of the present leadership was applied. The clock is this machine's, in milliseconds.
+    pub fn begin(&mut self, clock: u64) {
+        unsafe { raw::migwelun_begin(&mut self.slot, clock) };
+    }
+
+    /// The entry of a frame that came to this leader: its body, and its number on a connection of this leadership.
+    pub fn propose(&mut self, body: &[u8], connection: u32, frame: u64, clock: u64) -> Result<Vec<u8>, Error> {
+        let code = unsafe { raw::migwelun_propose(&mut self.slot, body.as_ptr(), body.len(), connection, frame, clock) };
+        self.proposed(code)
+    }
+
+    /// The entry of a tick.
+    pub fn propose_tick(&mut self, clock: u64) -> Result<Vec<u8>, Error> {
+        let code = unsafe { raw::migwelun_propose_tick(&mut self.slot, clock) };
+        self.proposed(code)
+    }
+
+    /// The entry of the topics of the cluster. After [`Error::NoMemory`], propose none any more.
+    pub fn propose_topics(&mut self, topics: &[Topic<'_>]) -> Result<Vec<u8>, Error> {
+        crate::add_topics(&mut self.slot, topics)?;
+        let code = unsafe { raw::migwelun_propose_topics(&mut self.slot) };
+        self.proposed(code)
+    }
+
+    /// Applies the entry at a place of the log, of which the first is 1.
+    pub fn apply(&mut self, place: u64, entry: &[u8]) -> Result<Applied, Error> {
+        let (mut leadership, mut connection, mut frame) = (0, 0, 0);
+        let code = unsafe {
+            let (slot, bytes) = (&mut self.slot, entry.as_ptr());
+            raw::migwelun_apply(slot, place, bytes, entry.len(), &mut leadership, &mut connection, &mut frame)
+        };
+        if code != raw::CLOSES {
+            done(code)?;
+        }
+        let reply = crate::take(&mut self.slot, raw::migwelun_take);
+        // (an entry's kind stands behind its version)
+        Ok(match entry[3] {
+            0 => {
+                let answer = if code == raw::CLOSES { Answer::Close } else { Answer::Reply(reply) };
+                Applied::Frame { leadership, connection, frame, answer }
+            }
+            1 => Applied::Tick { removed: frame },
+            2 => Applied::Topics,
+            _ => Applied::Leads { leadership },
+        })
+    }
+
+    fn proposed(&mut self, code: i32) -> Result<Vec<u8>, Error> {
+        done(code)?;
+        Ok(crate::take(&mut self.slot, raw::migwelun_take_entry))
+    }
+}
+
+impl Drop for Replica {
+    fn drop(&mut self) {
+        unsafe { raw::migwelun_drop(&mut self.slot) }
+    }
+}

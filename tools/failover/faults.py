@@ -1,0 +1,132 @@
+"""The faults: what is done, and how long a group may go unanswered by it. What must hold always is in run."""
+
+import asyncio
+import signal
+import time
+from typing import Awaitable, Callable, Dict, NamedTuple
+
+from clients.stand import Failed
+from failover.brokers import SLOTS, Brokers
+
+# A time longer than a session, how long all is down, and how long a new broker may wait for a leadership.
+LONG_SECONDS, DOWN_SECONDS, SPREAD_SECONDS = 60, 120, 30
+
+
+class Fault(NamedTuple):
+    """`act` brings it to the broker in a slot, and takes it away again. Then a group may have had no answer for the lease and `most` seconds;
+    and where it has `least`, for that long none may have had one."""
+
+    does: str
+    act: Callable[[Brokers, int], Awaitable[None]]
+    most: float = 2.0
+    least: float = 0.0
+    times: int = 1
+
+
+async def kill(it: Brokers, slot: int) -> None:
+    it.send_signal(str(slot), signal.SIGKILL)
+    await asyncio.sleep(it.lease + 2)
+    await it.start_one(slot)
+
+
+async def stop(it: Brokers, slot: int) -> None:
+    it.send_signal(str(slot), signal.SIGSTOP)
+    await asyncio.sleep(2 * it.lease)
+    it.send_signal(str(slot), signal.SIGCONT)
+
+
+async def cut(it: Brokers, slot: int, seconds: float = 0.0) -> None:
+    it.cut(slot)
+    await asyncio.sleep(seconds or 2 * it.lease)
+    it.heal()
+
+
+async def cut_long(it: Brokers, slot: int) -> None:
+    await cut(it, slot, LONG_SECONDS)
+
+
+async def cut_brokers(it: Brokers, slot: int) -> None:
+    others = {port for at in {*it.slots()} - {slot} for port in (it.fronts[at], it.doors[at][1], it.pages[at])}
+    if others & it.connected(slot):
+        raise Failed(f"a broker is connected to port {min(others & it.connected(slot))} of another one")
+
+
+async def kill_etcd(it: Brokers, _: int) -> None:
+    leader = await asyncio.to_thread(it.etcds.leader)
+    it.etcds.send_signal(leader, signal.SIGKILL)
+    await asyncio.sleep(2 * it.lease)
+    await asyncio.to_thread(it.etcds.start_one, leader)
+
+
+async def stop_etcd(it: Brokers, _: int) -> None:
+    """(The system still accepts its connections, and nobody answers on them.)"""
+    leader = await asyncio.to_thread(it.etcds.leader)
+    it.etcds.send_signal(leader, signal.SIGSTOP)
+    await asyncio.sleep(2 * it.lease)
+    it.etcds.send_signal(leader, signal.SIGCONT)
+
+
+async def compact(it: Brokers, slot: int) -> None:
+    it.cut(slot)
+    await asyncio.sleep(2 * it.lease)
+    await asyncio.to_thread(it.etcds.compact)
+    new = min({*range(SLOTS)} - {*it.slots()})
+    await it.start_one(new)
+    it.heal()
+    await asyncio.to_thread(it.send_signal, str(new), signal.SIGTERM)
+
+
+async def stop_etcds(it: Brokers, _: int) -> None:
+    two = [*it.etcds.running][:2]
+    for name in two:
+        it.etcds.send_signal(name, signal.SIGSTOP)
+    await asyncio.sleep(LONG_SECONDS)
+    for name in two:
+        it.etcds.send_signal(name, signal.SIGCONT)
+
+
+async def restart_all(it: Brokers, _: int) -> None:
+    slots, etcds = it.slots(), [*it.etcds.running]
+    for program, name in [*((it, str(slot)) for slot in slots), *((it.etcds, name) for name in etcds)]:
+        program.send_signal(name, signal.SIGKILL)
+    await asyncio.sleep(DOWN_SECONDS)
+    for name in etcds:
+        await asyncio.to_thread(it.etcds.start_one, name)
+    await asyncio.gather(*map(it.start_one, slots))
+
+
+async def replace(it: Brokers, slot: int) -> None:
+    new = min({*range(SLOTS)} - {*it.slots()})
+    await it.start_one(new)
+    until = time.monotonic() + SPREAD_SECONDS
+    while not await it.leads(new):
+        if time.monotonic() > until:
+            raise Failed(f"no leadership comes to a new broker within {SPREAD_SECONDS} s")
+        await asyncio.sleep(0.5)
+    await asyncio.to_thread(it.send_signal, str(slot), signal.SIGTERM)
+
+
+async def fill_etcd(it: Brokers, slot: int) -> None:
+    await asyncio.to_thread(it.etcds.fill)
+    await asyncio.sleep(2 * it.lease)
+    says = it.says_full(slot)
+    await asyncio.to_thread(it.etcds.empty)
+    if not says:
+        raise Failed("no line and no page says that etcd has no room")
+
+
+FAULTS: Dict[str, Fault] = {
+    "kill": Fault("kill -9 of a broker, which starts again after the lease and 2 s", kill, times=20),
+    "stop": Fault("SIGSTOP of a broker for twice the lease, then SIGCONT", stop),
+    "cut": Fault("a broker and etcd are cut off from each other for twice the lease", cut),
+    "cut-long": Fault(f"the same for {LONG_SECONDS} s", cut_long),
+    "cut-brokers": Fault("a broker is cut off from the other brokers: it has no connection to them that could be cut", cut_brokers),
+    "kill-etcd": Fault("kill -9 of etcd's leader, which starts again after twice the lease", kill_etcd),
+    "stop-etcd": Fault("SIGSTOP of etcd's leader for twice the lease: it accepts connections, and doesn't answer", stop_etcd),
+    "stop-etcds": Fault(f"SIGSTOP of two of three etcd for {LONG_SECONDS} s, then SIGCONT", stop_etcds, LONG_SECONDS + 2, LONG_SECONDS - 2),
+    "restart-all": Fault(f"kill -9 of all, which start again after {DOWN_SECONDS} s", restart_all, DOWN_SECONDS + 15, DOWN_SECONDS - 2),
+    "replace": Fault("a broker is added, and another one ended for good", replace),
+    "compact": Fault("etcd's history is compacted while a broker is cut off, and another one starts behind that", compact, 4),
+    "fill-etcd": Fault("etcd's room is used up for twice the lease, then given back", fill_etcd, 60),
+}
+SHORT = ("stop", "cut", "kill")

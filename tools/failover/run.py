@@ -1,0 +1,246 @@
+"""A run: consumers in groups, faults one after the other while one group is in the middle of a rebalance, and what must hold."""
+
+import asyncio
+import collections
+import contextlib
+import functools
+import pathlib
+import time
+from typing import Awaitable, Callable, Dict, Iterable, List, Sequence, Tuple, Union
+
+from clients import verdict
+from clients.prints import Print
+from clients.stand import TOP, Failed, Topic
+from clients.trial import Crowd
+from failover import waits
+from failover.brokers import Brokers, Channel, Gone
+from failover.etcds import Etcds
+from failover.faults import FAULTS, Fault
+from failover.logs import Logs
+from failover.member import ANSWER_SECONDS, Member, committed
+from rules.client import FENCED
+
+TOPIC = Topic("orders", "aaaaaaaa-0000-4000-8000-000000000001", 12)
+# Each group lies in a part of its own.
+GROUPS, MEMBERS, ETCDS = tuple(f"g{number}" for number in range(5)), 4, 3
+WAIT_SECONDS, HOLD_SECONDS, POLL_SECONDS = 120.0, 1.0, 0.1
+# How often stock consumers commit. 2.8.0 puts its next heartbeat off at each commit, by up to 1 s once its coordinator has been away for some time:
+# where it commits more often, it sends no heartbeat any more.
+COMMIT_MS = {"trixie": 2_000, "sid": 500}
+# What stock consumers say while a broker isn't there, and what none may be told.
+BROKEN = ("TRANSPORT", "ALL_BROKERS_DOWN", "TIMED_OUT", "COORD", "RESOLVE", "Disconnected")
+OUT = ("UNKNOWN_MEMBER_ID", "FENCED_MEMBER_EPOCH")
+
+
+class Run(Crowd):
+    def __init__(self, kinds: Sequence[str], roots: pathlib.Path, folder: pathlib.Path, lease: int, library: str, top: pathlib.Path = TOP) -> None:
+        """`top` is the repository whose brokers these are."""
+        super().__init__("own", roots, folder, [TOPIC])
+        self.kinds, self.expected = kinds, {*BROKEN}
+        self.etcds = Etcds(folder, ETCDS)
+        self.brokers = Brokers(folder, self.etcds, TOPIC, lease, library, top)
+        self.bootstrap = ",".join("%s:%d" % door for door in self.brokers.doors)
+        self.played: Dict[str, Member] = {}
+        # The last offset of each group's partition whose commit was answered with 0; and of each fault whether all held.
+        self.acknowledged: Dict[Tuple[str, str], int] = {}
+        self.results: List[bool] = []
+
+    async def begin(self) -> None:
+        self.timer, self.began = waits.Timer(), time.monotonic()
+        await self.brokers.begin()
+        self.logs = await asyncio.to_thread(Logs, self.etcds, self.brokers.library)
+        for at, group in enumerate(GROUPS):
+            for number, name in enumerate(self.names_of(group)):
+                # (The first of each group is our own, which sees when the group is answered.)
+                self.join(name, self.kinds[(at + number) % len(self.kinds)] if number else "own")
+        await self.settle(GROUPS)
+
+    # ---- consumers
+
+    @staticmethod
+    def names_of(group: str) -> List[str]:
+        return [f"{group}-{number}" for number in range(MEMBERS)]
+
+    def own_of(self, groups: Iterable[str]) -> List[Member]:
+        return [it for it in self.played.values() if it.client.group in groups]
+
+    def join(self, name: str, kind: str) -> None:
+        group = self.groups[name] = name.split("-")[0]
+        if kind == "own":
+            self.played[name] = Member(group, name, TOPIC, self.brokers.coordinator_of, self.take)
+        else:
+            self.start(name, "-q", "-c", COMMIT_MS[kind], group=group, topics=TOPIC.name, client=kind)
+
+    async def leave(self, name: str) -> None:
+        if name in self.played:
+            await self.played.pop(name).quit()
+        else:
+            await asyncio.to_thread([it for it in self.consumers if it.name == name][-1].quit)
+
+    def take(self, it: Print) -> None:
+        super().take(it)
+        for partition, offset in (word.split("=") for word in it.text.split(",") if it.kind == "COMMIT" and word != "-"):
+            self.acknowledged[self.groups[it.name], partition] = int(offset)
+
+    # ---- waiting
+
+    async def until(self, holds: Callable[[], Union[bool, Awaitable[bool]]], what: str) -> None:
+        until = time.monotonic() + WAIT_SECONDS
+        while True:
+            found = holds()
+            if found if isinstance(found, bool) else await found:
+                return
+            if time.monotonic() > until:
+                raise Failed(f"{what}: not within {WAIT_SECONDS:g} s")
+            await asyncio.sleep(POLL_SECONDS)
+
+    async def settle(self, groups: Iterable[str], but: int = 0) -> None:
+        """Waits until each partition has one owner, and all members own as many, but for the last ones."""
+        for group in groups:
+            names = self.names_of(group)[: MEMBERS - but]
+            even = collections.Counter({TOPIC.count // len(names): len(names)})
+            await self.until(lambda: not self.problem([TOPIC.name], names) and self.counts(names) == even, f"{group} settles")
+
+    async def all_lead(self) -> bool:
+        return all([await self.brokers.leads(slot) for slot in self.brokers.slots()])
+
+    async def disturb(self, group: str, kind: str) -> None:
+        """The last member leaves, and another one joins once the others have what it had. So each of these is to give something up, and one of ours
+        holds on to it."""
+        first, *_, last = self.names_of(group)
+        await self.leave(last)
+        await self.settle([group], but=1)
+        for it in self.own_of([group]):
+            it.holds_on = True
+        self.join(last, kind)
+        await self.until(lambda: self.played[first].client.state() == "releasing", f"{group} is in the middle of a rebalance")
+
+    def let_go(self) -> None:
+        for it in self.played.values():
+            it.holds_on = False
+
+    # ---- a fault
+
+    async def bring(self, name: str) -> None:
+        """Brings a fault to a broker, once each leads a part, and says what was seen."""
+        number, faults, began = len(self.results), len(self.faults), time.monotonic()
+        said = f"{name} {number + 1}"
+        try:
+            await self.until(self.all_lead, "each broker leads a part")
+            slots = self.brokers.slots()
+            slot = slots[number % len(slots)]
+            led = [group for group in GROUPS if await self.brokers.leader_of(group) == slot] or GROUPS
+            group, kind = led[number // len(slots) % len(led)], self.kinds[number % len(self.kinds)]
+            said += f", {group} with {kind}"
+            await self.disturb(group, kind)
+            said += await self.watch(FAULTS[name], slot, group)
+        except (Failed, OSError) as why:
+            self.fail(str(why))
+        self.let_go()
+        self.lines.clear()
+        found = self.faults[faults:]
+        self.results.append(not found)
+        print("\n    ".join([f"{'FAILED' if found else 'passed'} {said}, in {time.monotonic() - began:.0f} s", *found]), flush=True)
+
+    async def watch(self, fault: Fault, slot: int, group: str) -> str:
+        """What was seen, in words."""
+        steady = [it for it in GROUPS if it != group]
+        before = {it.name: (it.client.id, it.client.epoch) for it in self.own_of(steady)}
+        began, waited, late = time.time(), self.waited(), self.timer.late
+        asyncio.get_running_loop().call_later(HOLD_SECONDS, self.let_go)
+        await fault.act(self.brokers, slot)
+        ended = time.time()
+        await self.until(lambda: all(it.answered and it.answered[-1] > ended for it in self.played.values()), "all are answered again")
+        await self.settle(GROUPS)
+        took = max((it.moment - began for it in self.changes(began)), default=0.0)
+        gaps = {it: self.gap(it, began) for it in GROUPS}
+        slack = self.timer.late - late + sum(waits.most(some, more) for some, more in zip(waited, self.waited()))
+        self.judge_gaps(gaps, fault, slack)
+        self.judge_changes(steady, began)
+        stopped = await asyncio.to_thread(self.brokers.stopped)
+        self.want(not stopped, f"a broker can't apply a log any further{verdict.told(stopped)}")
+        after = {it.name: (it.client.id, it.client.epoch) for it in self.own_of(steady)}
+        self.want(before == after, f"groups without a rebalance have other epochs: {before}, then {after}")
+        await self.judge_commits()
+        return f": unanswered for {max(gaps.values()):.1f} s at most, the last move after {took:.1f} s (programs waited {slack:.1f} s for the machine)"
+
+    def want(self, holds: object, text: str) -> None:
+        if not holds:
+            self.fail(text)
+
+    def gap(self, group: str, since: float) -> float:
+        """The longest time for which nobody of ours in the group was answered."""
+        moments = sorted({since, time.time(), *(it for member in self.own_of([group]) for it in member.answered if it > since)})
+        return max(after - before for before, after in zip(moments, moments[1:]))
+
+    def waited(self) -> List[Dict[int, float]]:
+        """For how long those have waited for a processor on whom an answer depends: brokers, etcds and the relay."""
+        brokers = [it.pid for name, it in self.brokers.running.items() if name.isdigit()]
+        kinds = brokers, [it.pid for it in self.etcds.running.values()], [self.brokers.running["relay"].pid]
+        return [waits.of_processors(numbers) for numbers in kinds]
+
+    def judge_gaps(self, gaps: Dict[str, float], fault: Fault, slack: float) -> None:
+        """Where programs have to wait for the machine, it may take so much longer."""
+        most = self.brokers.lease + fault.most + slack
+        for group, gap in gaps.items():
+            self.want(fault.least <= gap <= most, f"{group} had no answer for {gap:.1f} s, where {fault.least:g} to {most:.1f} may be")
+
+    def judge_changes(self, steady: Sequence[str], began: float) -> None:
+        for it in self.changes(began):
+            self.want(self.groups[it.name] not in steady and it.kind != "LOST", f"{it.name} {it.kind} {it.text} {it.moment - began:.1f} s after the fault")
+        for member in self.played.values():
+            told = [code for code in FENCED if member.codes.pop(code, 0)]
+            self.want(not told, f"{member.name} is told {told}")
+        for it in (it for kind in ("ERROR", "REFUSED", "FATAL") for it in self.of(kind, since=began)):
+            self.want(it.kind != "FATAL" and not any(word in it.text for word in OUT), f"{it.name} {it.kind} {it.text}")
+
+    async def judge_commits(self) -> None:
+        """Each commit that was answered with 0 is there, or a later one."""
+        wanted = dict(self.acknowledged)
+        found: Dict[Tuple[str, str], int] = {}
+
+        async def fetch(group: str) -> bool:
+            with contextlib.suppress(Gone):
+                channel = await Channel.open(await self.brokers.coordinator_of(group), ANSWER_SECONDS)
+                for index in range(TOPIC.count):
+                    found[group, f"{TOPIC.name}:{index}"] = await committed(channel, group, TOPIC.name, index)
+                channel.writer.close()
+                return True
+            return False
+
+        await asyncio.gather(*(self.until(functools.partial(fetch, group), f"OffsetFetch of {group}") for group in GROUPS))
+        for (group, partition), offset in wanted.items():
+            fetched = found[group, partition]
+            self.want(fetched >= offset, f"{partition} of {group} is committed at {fetched}, and {offset} was answered with 0")
+
+    # ---- the end
+
+    async def judge_all(self) -> None:
+        """What was printed and what passed, from the beginning to the end. It ends all but etcd, and prints the last line."""
+        await self.end_consumers()
+        by_group: Dict[str, List[Print]] = collections.defaultdict(list)
+        for it in self.prints:
+            by_group[self.groups[it.name]].append(it)
+        verdict.judge_owners(self, by_group)
+        verdict.judge_prints(self)
+        await asyncio.to_thread(self.logs.catch_up)
+        count, faults = self.logs.judge(self.folder / "frames.log")
+        self.check(not faults, f"each of the {count} replies that passed is one of the logs' run{verdict.told(faults)}")
+        codes = self.logs.codes()
+        self.check(not {*FENCED} & {*codes}, f"nobody is told 25 or 110 by the logs' run: codes {dict(sorted(codes.items()))}")
+        results = self.results + ["FAILED" not in line for line in self.lines]
+        used, hours = self.etcds.used() / 1e6, (time.monotonic() - self.began) / 3600
+        self.note(f"etcd's data have {used:.1f} MB after {60 * hours:.0f} minutes, so {used / hours:.0f} MB an hour")
+        print("\n".join([*self.lines, f"{results.count(True)} passed, {results.count(False)} failed"]))
+
+    async def end_consumers(self) -> None:
+        for it in self.played.values():
+            it.running.cancel()
+        await asyncio.gather(*(it.running for it in self.played.values()), return_exceptions=True)
+        self.brokers.heal()
+        await asyncio.to_thread(self.close_all)
+        self.brokers.end()
+
+    async def end(self) -> None:
+        await self.end_consumers()
+        self.etcds.end()

@@ -1,0 +1,70 @@
+"""How fast a broker over etcd is, beside one with a coordinator of its own."""
+
+import http.client
+import json
+import pathlib
+import subprocess
+import sys
+import time
+from typing import Dict, List, Tuple
+
+from clients.stand import HOST, TOP, Failed, Ports, Programs
+from failover.brokers import PARTS
+from failover.etcds import Etcds, text
+from failover.run import TOPIC
+
+CONSUMERS, SECONDS, LEAD_SECONDS, APPENDS = (1, 20, 200), 5, 30, 300
+KINDS = {"heartbeats": [], "commits": ["--commits"]}
+# A measurement by its name, in words.
+Told = Dict[str, str]
+
+
+def of_load(port: int, consumers: int, words: List[str]) -> str:
+    load = [str(TOP / "tools/load"), "--connections", str(consumers), "--depth", "1", "--seconds", str(SECONDS), "--topic", TOPIC.name]
+    ran = subprocess.run([*load, *words, str(port)], capture_output=True, text=True, check=False)
+    if ran.returncode:
+        raise Failed(ran.stderr.strip())
+    rate, half, most = (float(it) for it in ran.stdout.splitlines()[-1].split()[2:5])
+    return f"{rate:.0f}, {half / 1000:.1f}, {most / 1000:.1f}"
+
+
+def of_broker(folder: pathlib.Path, library: str, words: List[str], leads: int) -> Told:
+    """What a broker answers, once it leads so many parts."""
+    broker = Programs(folder)
+    with Ports(1) as ports:
+        words = [*words, "--library", library, "--port", str(ports[0]), TOPIC.word()]
+        broker.start("broker", "listening", [sys.executable, "-B", "-m", "broker", *words])
+        until = time.monotonic() + LEAD_SECONDS
+        while (folder / "broker.txt").read_text(encoding="utf-8").count("is led from here") < leads:
+            if time.monotonic() > until:
+                raise Failed(f"a broker alone doesn't lead all parts after {LEAD_SECONDS} s")
+            time.sleep(0.1)
+        found = {f"{count} with {kind}": of_load(ports[0], count, more) for count in CONSUMERS for kind, more in KINDS.items()}
+        broker.end()
+    return found
+
+
+def over_etcd(folder: pathlib.Path, library: str, count: int) -> Told:
+    folder.mkdir()
+    etcds, took = Etcds(folder, count), []
+    connection = http.client.HTTPConnection(HOST, etcds.clients[0])
+    for _ in range(APPENDS):
+        took.append(-time.monotonic())
+        connection.request("POST", "/v3/kv/put", json.dumps({"key": text(b"speed"), "value": text(bytes(200))}))
+        connection.getresponse().read()
+        took[-1] += time.monotonic()
+    where = ",".join(f"{HOST}:{port}" for port in etcds.clients)
+    words = ["--etcd", where, "--advertise", f"{HOST}:1", "--parts", str(PARTS)]
+    found = {"one append": ", ".join(f"{1000 * sorted(took)[APPENDS * of // 100]:.1f}" for of in (50, 99))}
+    found.update(of_broker(folder, library, words, PARTS))
+    etcds.end()
+    return found
+
+
+def measure(folder: pathlib.Path, library: str) -> int:
+    found: Dict[str, Told] = {"--embedded": of_broker(folder, library, ["--embedded"], 0)}
+    found.update({f"--etcd, {count}": over_etcd(folder / str(count), library, count) for count in (1, 3)})
+    print("Answers a second, and the milliseconds within which 50 and 99 of 100 came")
+    for name in ("", *found["--etcd, 1"]):
+        print(f"{name:20}" + "".join(f"{told.get(name, '') if name else head:>22}" for head, told in found.items()))
+    return 0
