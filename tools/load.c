@@ -1,9 +1,9 @@
 /* The part of tools/load that has to be quick: it sends heartbeats over connections that stand, and takes the times of their replies.
  *
- *     load measure THREADS DEPTH SECONDS    standard input: for each connection a line `FD MEMBERS`, and behind it a line
- *                                           `HEARTBEAT ANSWER` in hex for each member; prints the heartbeats a second, how many were
- *                                           answered, and the microseconds within which 50, 99 and 99.9 of 100 were
- *     load echo FD WORKERS BATCH            standard input: ANSWER; answers each frame that comes to the listening socket FD with it
+ *     load measure DEPTH SECONDS    standard input: a line `FD HEARTBEAT ANSWER` for each connection, both frames in hex; prints the
+ *                                   heartbeats a second, how many were answered, and the microseconds within which 50, 99 and
+ *                                   99.9 of 100 were
+ *     load echo FD                  standard input: ANSWER; answers each frame that comes to the listening socket FD with it
  *
  * Each frame gets the number of its request on the connection as its correlation id. */
 
@@ -26,7 +26,7 @@
 #include <time.h>
 #include <unistd.h>
 
-enum { MOST_DEPTH = 256, MOST_THREADS = 64, MOST_FRAME = 512, DRAIN_SECONDS = 10, WRITE_SECONDS = 120, READ_SIZE = 65536 };
+enum { MOST_DEPTH = 256, THREADS = 2, MOST_FRAME = 512, DRAIN_SECONDS = 10, WRITE_SECONDS = 120, READ_SIZE = 65536 };
 /* Where the correlation id stands in the frame of a request, and of a reply. */
 enum { REQUEST_ID = 8, REPLY_ID = 4 };
 
@@ -138,35 +138,25 @@ static double within_us(const struct times *times, double part)
     return 0;
 }
 
-/* ---- connections and their members */
-
-struct member {
-    struct frame beat, answer;
-};
+/* ---- connections, with a member each */
 
 struct line {
-    int fd, member_count;
-    struct member *members;
+    int fd;
+    struct frame beat, answer;
     uint32_t sent, heard; /* numbers of frames */
     uint64_t sent_at[MOST_DEPTH];
     uint8_t *input;
     size_t filled;
 };
 
-static struct member *member_of(const struct line *line, uint32_t number)
-{
-    return &line->members[number % (uint32_t)line->member_count];
-}
-
 static struct line *read_lines(int *count)
 {
     struct line *lines = NULL, line = {0};
-    for (*count = 0; scanf("%d %d", &line.fd, &line.member_count) == 2; lines[(*count)++] = line) {
+    for (*count = 0; scanf("%d", &line.fd) == 1; lines[(*count)++] = line) {
         lines = taken(realloc(lines, (size_t)(*count + 1) * sizeof *lines));
-        line.members = taken(calloc((size_t)line.member_count, sizeof *line.members));
         line.input = taken(malloc(READ_SIZE));
-        for (int at = 0; at < line.member_count; at++)
-            line.members[at] = (struct member){read_hex(), read_hex()};
+        line.beat = read_hex();
+        line.answer = read_hex();
         fcntl(line.fd, F_SETFL, fcntl(line.fd, F_GETFL) | O_NONBLOCK);
     }
     return lines;
@@ -176,8 +166,8 @@ static struct line *read_lines(int *count)
 
 struct sender {
     pthread_t thread;
-    struct line *lines; /* every line; those of this thread are first, first + threads, .. */
-    int count, first, threads, depth, poll, waiting; /* waiting: the number of answers that are under way */
+    struct line *lines; /* every line; those of this thread are first, first + THREADS, .. */
+    int count, first, depth, poll, waiting; /* waiting: the number of answers that are under way */
     uint64_t end, in_time; /* when nothing is sent any more, and the answers that came before it */
     struct times times;
 };
@@ -188,10 +178,9 @@ static void send_beats(struct sender *sender, struct line *line, int count)
     size_t length = 0;
     uint64_t now = now_ns();
     for (int at = 0; at < count; at++, line->sent++) {
-        const struct frame *beat = &member_of(line, line->sent)->beat;
-        memcpy(frames + length, beat->data, beat->length);
+        memcpy(frames + length, line->beat.data, line->beat.length);
         set_int32(frames + length + REQUEST_ID, (int32_t)(line->sent & INT32_MAX));
-        length += beat->length;
+        length += line->beat.length;
         line->sent_at[line->sent % MOST_DEPTH] = now;
     }
     send_all(line->fd, frames, length);
@@ -199,9 +188,9 @@ static void send_beats(struct sender *sender, struct line *line, int count)
 }
 
 /* A reply must be what the member's steady heartbeat is answered, under this request's correlation id. */
-static void check_reply(const struct line *line, const uint8_t *found)
+static void check_reply(struct line *line, const uint8_t *found)
 {
-    struct frame *answer = &member_of(line, line->heard)->answer;
+    struct frame *answer = &line->answer;
     set_int32(answer->data + REPLY_ID, (int32_t)(line->heard & INT32_MAX));
     if (memcmp(found, answer->data, answer->length) == 0)
         return;
@@ -228,12 +217,11 @@ static int read_replies(struct sender *sender, struct line *line)
     size_t at = 0;
     int count = 0;
     for (; line->heard != line->sent; count++, line->heard++) {
-        size_t length = member_of(line, line->heard)->answer.length;
-        if (line->filled - at < length)
+        if (line->filled - at < line->answer.length)
             break;
         check_reply(line, line->input + at);
         sender->times.counts[bucket_of(now - line->sent_at[line->heard % MOST_DEPTH])]++;
-        at += length;
+        at += line->answer.length;
     }
     if (line->heard == line->sent && at != line->filled)
         fail("bytes came that nothing was asked for");
@@ -248,7 +236,7 @@ static int read_replies(struct sender *sender, struct line *line)
 static void *send_and_read(void *argument)
 {
     struct sender *sender = argument;
-    for (int at = sender->first; at < sender->count; at += sender->threads) {
+    for (int at = sender->first; at < sender->count; at += THREADS) {
         struct epoll_event event = {.events = EPOLLIN, .data.ptr = &sender->lines[at]};
         epoll_ctl(sender->poll, EPOLL_CTL_ADD, sender->lines[at].fd, &event);
         send_beats(sender, &sender->lines[at], sender->depth);
@@ -268,110 +256,77 @@ static void *send_and_read(void *argument)
     return NULL;
 }
 
-static void measure(int threads, int depth, int seconds)
+static void measure(int depth, int seconds)
 {
     int count;
     struct line *lines = read_lines(&count);
-    struct sender *senders = taken(calloc((size_t)threads, sizeof *senders)), all = {0};
+    struct sender senders[THREADS], all = {0};
     uint64_t end = now_ns() + (uint64_t)seconds * 1000000000;
-    for (int at = 0; at < threads; at++) {
-        senders[at] = (struct sender){.lines = lines, .count = count, .first = at, .threads = threads, .depth = depth, .end = end, .poll = epoll_create1(0)};
+    for (int at = 0; at < THREADS; at++) {
+        senders[at] = (struct sender){.lines = lines, .count = count, .first = at, .depth = depth, .end = end, .poll = epoll_create1(0)};
         if (senders[at].poll < 0 || pthread_create(&senders[at].thread, NULL, send_and_read, &senders[at]) != 0)
             fail("no thread: %s", strerror(errno));
     }
-    for (int at = 0; at < threads; at++) {
+    for (int at = 0; at < THREADS; at++) {
         pthread_join(senders[at].thread, NULL);
         all.in_time += senders[at].in_time;
         all.times.all += senders[at].times.all;
         for (int bucket = 0; bucket < BUCKETS; bucket++)
             all.times.counts[bucket] += senders[at].times.counts[bucket];
     }
-    printf("%f %lu %f %f %f\n", (double)all.in_time / seconds, (unsigned long)all.times.all, within_us(&all.times, 0.5), within_us(&all.times, 0.99), within_us(&all.times, 0.999));
+    printf("%f %lu ", (double)all.in_time / seconds, (unsigned long)all.times.all);
+    printf("%f %f %f\n", within_us(&all.times, 0.5), within_us(&all.times, 0.99), within_us(&all.times, 0.999));
 }
 
-/* ---- the echo server */
-
-struct echo_line {
-    int fd;
-    size_t filled, unsent;
-    uint8_t input[MOST_DEPTH * MOST_FRAME], output[MOST_DEPTH * MOST_FRAME];
-};
+/* ---- the echo server: a thread for each connection */
 
 static struct frame echo_answer;
-static int batch;
 
-/* Answers the whole frames of one read, several by each write. */
-static void echo(struct echo_line *line)
+/* Answers the whole frames of one read by one write. */
+static void *echo(void *argument)
 {
-    ssize_t found = recv(line->fd, line->input + line->filled, sizeof line->input - line->filled, 0);
-    if (found < 0 && errno == EAGAIN)
-        return;
-    if (found <= 0) {
-        close(line->fd);
-        free(line);
-        return;
-    }
-    line->filled += (size_t)found;
-    size_t at = 0;
-    int answers = 0;
-    while (line->filled - at >= 4 && line->filled - at - 4 >= (size_t)get_int32(line->input + at)) {
-        uint8_t *answer = line->output + (size_t)answers++ * echo_answer.length;
-        memcpy(answer, echo_answer.data, echo_answer.length);
-        memcpy(answer + REPLY_ID, line->input + at + REQUEST_ID, 4);
-        at += 4 + (size_t)get_int32(line->input + at);
-        if (answers == batch) {
-            send_all(line->fd, line->output, (size_t)answers * echo_answer.length);
-            answers = 0;
+    int fd = (int)(intptr_t)argument;
+    uint8_t *input = taken(malloc(MOST_DEPTH * MOST_FRAME)), *output = taken(malloc(MOST_DEPTH * MOST_FRAME));
+    size_t filled = 0;
+    for (ssize_t found; (found = recv(fd, input + filled, MOST_DEPTH * MOST_FRAME - filled, 0)) > 0;) {
+        size_t at = 0, length = 0;
+        filled += (size_t)found;
+        while (filled - at >= 4 && filled - at - 4 >= (size_t)get_int32(input + at)) {
+            memcpy(output + length, echo_answer.data, echo_answer.length);
+            memcpy(output + length + REPLY_ID, input + at + REQUEST_ID, 4);
+            at += 4 + (size_t)get_int32(input + at);
+            length += echo_answer.length;
         }
+        memmove(input, input + at, filled -= at);
+        send_all(fd, output, length);
     }
-    memmove(line->input, line->input + at, line->filled - at);
-    line->filled -= at;
-    send_all(line->fd, line->output, (size_t)answers * echo_answer.length);
-}
-
-static void *echo_worker(void *argument)
-{
-    for (;;) {
-        struct epoll_event events[256];
-        int ready = epoll_wait(*(int *)argument, events, 256, -1);
-        for (int at = 0; at < ready; at++)
-            echo(events[at].data.ptr);
-    }
+    close(fd);
+    free(input);
+    free(output);
     return NULL;
 }
 
-static void serve_echo(int listener, int workers)
+static void serve_echo(int listener)
 {
-    static int polls[MOST_THREADS];
     echo_answer = read_hex();
-    for (int at = 0; at < workers; at++) {
+    for (int fd, yes = 1; (fd = accept(listener, NULL, NULL)) >= 0;) {
         pthread_t thread;
-        polls[at] = epoll_create1(0);
-        if (polls[at] < 0 || pthread_create(&thread, NULL, echo_worker, &polls[at]) != 0)
-            fail("no thread: %s", strerror(errno));
-    }
-    for (unsigned number = 1;; number++) {
-        int fd = accept4(listener, NULL, NULL, SOCK_NONBLOCK), yes = 1;
-        if (fd < 0)
-            fail("the echo takes no connection: %s", strerror(errno));
         setsockopt(fd, IPPROTO_TCP, TCP_NODELAY, &yes, sizeof yes);
-        struct echo_line *line = taken(calloc(1, sizeof *line));
-        line->fd = fd;
-        struct epoll_event event = {.events = EPOLLIN, .data.ptr = line};
-        epoll_ctl(polls[number % (unsigned)workers], EPOLL_CTL_ADD, fd, &event);
+        if (pthread_create(&thread, NULL, echo, (void *)(intptr_t)fd) != 0)
+            fail("no thread: %s", strerror(errno));
+        pthread_detach(thread);
     }
+    fail("the echo takes no connection: %s", strerror(errno));
 }
 
 int main(int count, char **words)
 {
-    if (count != 5)
+    if (count != 3 && count != 4)
         fail("the script tools/load starts this");
     prctl(PR_SET_PDEATHSIG, SIGKILL);
-    int one = atoi(words[2]), two = atoi(words[3]), three = atoi(words[4]);
-    batch = three;
-    if (strcmp(words[1], "echo") == 0)
-        serve_echo(one, two);
+    if (count == 3)
+        serve_echo(atoi(words[2]));
     else
-        measure(one, two, three);
+        measure(atoi(words[2]), atoi(words[3]));
     return 0;
 }

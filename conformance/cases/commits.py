@@ -58,7 +58,7 @@ def commit(play: Play) -> None:
     play.want(found in (None, 17), f"17 was committed, and OffsetFetch gives {found}")
 
 
-@case("commit-again", OFFSET_COMMITS, MUST, "a member commits twice, the second time a lower offset", "the last one stands")
+@case("commit-again", OFFSET_COMMITS, MUST, "a member commits twice, the second time a lower offset", "the last one counts")
 def commit_again(play: Play) -> None:
     a, partition = committer(play)
     for offset in (17, 5):

@@ -55,7 +55,7 @@ def beat_null_names(play: Play) -> None:
 @case(
     "beat-full", RESPONSE, SHOULD,
     "a settled member sends a full heartbeat",
-    "the reply has its whole assignment: who says everything is told everything",
+    "the reply has its whole assignment: a full request gets a full assignment",
 )
 def beat_full(play: Play) -> None:
     a, b = settled_pair(play)
@@ -253,8 +253,8 @@ def lost_assignment(play: Play) -> None:
 
 @case(
     "lost-revocation", MEMBER_EPOCH, MUST,
-    "the reply that tells a member to revoke is lost; it beats again",
-    "a full heartbeat is told it again; nothing goes to others before the report",
+    "the reply that asks a member to revoke is lost; it beats again",
+    "a full heartbeat gets it again; nothing goes to others before the report",
 )
 def lost_revocation(play: Play) -> None:
     play.topic(0, partitions=2)

@@ -264,7 +264,7 @@ def join_two_groups(play: Play) -> None:
 
 @case(
     "join-same-id-two-groups", HANDLING, MUST,
-    "members of two groups have one id",
+    "members of two groups have the same id",
     "ids are apart by groups: a leave in one group changes nothing in the other",
 )
 def join_same_id_two_groups(play: Play) -> None:

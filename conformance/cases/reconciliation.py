@@ -240,7 +240,7 @@ def slow_member_holds_alone(play: Play) -> None:
 @case(
     "epoch-of-all", ASSIGNMENT_EPOCH, MUST,
     "four members join one after the other, and beat until all is settled",
-    "all get to one epoch, and it is the same in the next heartbeats",
+    "all get to the same epoch, and it stays in the next heartbeats",
 )
 def epoch_of_all(play: Play) -> None:
     members = [play.member(name) for name in "abcd"]

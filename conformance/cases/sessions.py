@@ -230,7 +230,7 @@ def static_killed_ends(play: Play) -> None:
 @case(
     "static-away-back-late", STATIC, MUST,
     "a static member is away for three quarters of its session, comes back, and beats",
-    "its partitions were kept, and it is a member beyond the session in which it left",
+    "its partitions were reserved, and it is a member beyond the session in which it left",
     is_slow=True,
 )
 def static_away_back_late(play: Play) -> None:

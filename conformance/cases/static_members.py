@@ -44,7 +44,7 @@ def static_away_reply(play: Play) -> None:
 @case(
     "static-away-keeps", STATIC, MUST,
     "a static member leaves for a while, and the other member beats",
-    "what the one had is kept for it: the other doesn't get it",
+    "what the one had is reserved for it: the other doesn't get it",
 )
 def static_away_keeps(play: Play) -> None:
     s, d = static_pair(play)
@@ -195,7 +195,7 @@ def static_away_dynamic(play: Play) -> None:
 @case(
     "static-away-newcomer", STATIC, MUST,
     "while a static member is away another member joins",
-    "what the static member had is still kept; both have their part once it is back",
+    "what the static member had is still reserved; both have their part once it is back",
 )
 def static_away_newcomer(play: Play) -> None:
     s, d = static_pair(play)
@@ -238,7 +238,7 @@ def static_killed(play: Play) -> None:
     play.note(f"the join of a static member that was killed is answered with {code_text(reply.code)}")
 
 
-@case("static-two-groups", STATIC, MUST, "members of two groups have one instance id", "instances are apart by groups: both are members")
+@case("static-two-groups", STATIC, MUST, "members of two groups have the same instance id", "instances are apart by groups: both are members")
 def static_two_groups(play: Play) -> None:
     a, b = play.member("a", instance="instance-1"), play.member("b", instance="instance-1", group=play.new_group())
     a.join()

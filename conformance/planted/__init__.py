@@ -1,6 +1,6 @@
 """Coordinators with a planted fault each: `python3 -m conformance.planted` shows by which cases the suite finds them.
 
-    faults.txt  the faults, each an edit of the rules in Python (tools/rules) and the case that has to find it
+    faults.txt  the faults, each an edit of the rules in Python (conformance/rules) and the case that has to find it
     found.json  by which cases each was found
     faults      reads them, and makes copies of the rules with one
     serve       answers frames by the rules in Python

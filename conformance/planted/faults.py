@@ -11,12 +11,12 @@ from typing import Dict, List
 FILE = pathlib.Path(__file__).resolve().parent / "faults.txt"
 FOUND = FILE.with_name("found.json")
 TOP = FILE.parents[2]
-RULES, BROKER = TOP / "tools/rules", TOP / "broker"
+RULES, BROKER = TOP / "conformance/rules", TOP / "broker"
 
 
 @dataclasses.dataclass
 class Edit:
-    """Lines of a file of tools/rules, or of broker/, that stand there once, and what stands in their place."""
+    """Lines of a file of conformance/rules, or of broker/, that stand there once, and what stands in their place."""
 
     file: str
     old: List[str] = dataclasses.field(default_factory=list)
@@ -39,9 +39,9 @@ class BadFault(Exception):
     """A fault that can't be planted, and why."""
 
 
-def read() -> List[Fault]:
+def read(file: pathlib.Path = FILE) -> List[Fault]:
     faults: List[Fault] = []
-    for number, line in enumerate(FILE.read_text(encoding="utf-8").splitlines(), 1):
+    for number, line in enumerate(file.read_text(encoding="utf-8").splitlines(), 1):
         if not line or line.startswith("#"):
             continue
         key, colon, value = line.partition(":")
@@ -55,7 +55,7 @@ def read() -> List[Fault]:
         elif colon and key in ("is", "case"):
             faults[-1].words[key] = value
         else:
-            raise BadFault(f"{FILE.name}, line {number}: {line}")
+            raise BadFault(f"{file.name}, line {number}: {line}")
     return faults
 
 

@@ -2,7 +2,7 @@
 
 usage: python3 serve.py RULES SESSION_SECONDS NAME:UUID:COUNT ..
 
-RULES is the folder with the package `rules` (tools/, or a copy with a fault). Prints `listening PORT`. SIGUSR1 adds a partition to each
+RULES is the folder with the package `rules` (conformance/, or a copy with a fault). Prints `listening PORT`. SIGUSR1 adds a partition to each
 topic. Ends with its standard input.
 """
 

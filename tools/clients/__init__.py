@@ -6,7 +6,7 @@ consumers       consumers as processes
 relay           passes frames on on both sides of a front end, records them, cuts and delays
 stand           coordinators, front end and relay, on ports of their own
 trial           a run of one scenario
-scenarios, and scenarios_of_..   what consumers go through
+scenarios       what consumers go through, and what must hold then
 log             what a relay has recorded, as requests with their replies
 holds           who may read what, by the frames
 prints          who owned what and what was read, by the consumers' prints

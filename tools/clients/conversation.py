@@ -10,14 +10,13 @@ values of frames aren't as they were, since they differ from run to run:
 and a Fetch that was answered without records is left out with its reply.
 """
 
-import collections
 import dataclasses
 import pathlib
 import re
 import struct
-from typing import Dict, Iterable, List, Set, Tuple
+from typing import Iterable, List
 
-from clients.log import Event, head_of
+from clients.log import Event, event_of, head_of, replies_of
 from clients.relay import FETCH
 from clients.stand import HOST, Topic
 
@@ -63,18 +62,11 @@ def has_records(reply: bytes, topics: Iterable[Topic]) -> bool:
 
 
 def without_empty_fetches(events: List[Event], topics: List[Topic]) -> List[Event]:
-    waiting: Dict[Tuple[str, int], List[int]] = collections.defaultdict(list)
-    left_out: Set[int] = set()
-    for at, event in enumerate(events):
-        here = waiting[event.side, event.connection]
-        if event.what == ">":
-            here.append(at)
-        elif event.what == "<":
-            asked = here.pop(0)
-            if head_of(events[asked].frame).key == FETCH and not has_records(event.frame, topics):
-                left_out |= {asked, at}
-    left_out |= {asked for here in waiting.values() for asked in here if head_of(events[asked].frame).key == FETCH}
-    return [event for at, event in enumerate(events) if at not in left_out]
+    replies = replies_of(events)
+    fetches = [at for at, event in enumerate(events) if event.what == ">" and head_of(event.frame).key == FETCH]
+    empty = {at for at in fetches if at not in replies or not has_records(events[replies[at]].frame, topics)}
+    empty |= {replies[at] for at in empty if at in replies}
+    return [event for at, event in enumerate(events) if at not in empty]
 
 
 def write(path: pathlib.Path, it: Conversation) -> None:
@@ -91,17 +83,10 @@ def read(path: pathlib.Path) -> Conversation:
         if words[0] == "#":
             it.title.append(line[2:])
         elif words[0] == "topic":
-            name, rest = words[1].split(":", 1)
-            it.topics.append(Topic(name, *split_last(rest)))
+            name, topic_id, count = words[1].split(":")
+            it.topics.append(Topic(name, topic_id, int(count)))
         elif words[0] == "paced":
             it.paced = True
-        elif words[3] in ("<", ">"):
-            it.events.append(Event(float(words[0]), words[1], int(words[2]), words[3], bytes.fromhex(words[4])))
         else:
-            it.events.append(Event(float(words[0]), words[1], int(words[2]), " ".join(words[3:]), b""))
+            it.events.append(event_of(line))
     return it
-
-
-def split_last(rest: str) -> Tuple[str, int]:
-    topic_id, _, count = rest.rpartition(":")
-    return topic_id, int(count)

@@ -2,7 +2,7 @@
 
 import collections
 import dataclasses
-from typing import Deque, Dict, Iterator, List, NamedTuple, Optional, Set, Tuple, Union
+from typing import Deque, Dict, Iterator, List, NamedTuple, Optional, Sequence, Set, Tuple, Union
 
 from rules.fields import Reader
 from rules.messages import Commit, Heartbeat, read_commit_reply, read_heartbeat_reply, read_request
@@ -78,15 +78,28 @@ def head_of(frame: bytes) -> Head:
     return Head(reader.int(2), reader.int(2), reader.int(4), reader.old_text())
 
 
+def event_of(line: str) -> Event:
+    moment, side, connection, *words = line.split()
+    is_frame = words[0] in "<>"
+    return Event(float(moment), side, int(connection), words[0] if is_frame else " ".join(words), bytes.fromhex(words[1]) if is_frame else b"")
+
+
 def read_events(path: str) -> Iterator[Event]:
+    """The events of a record. A last line that isn't whole, and lines that have no event, are left out."""
     with open(path, encoding="utf-8") as record:
-        for line in record:
-            words = line.split()
-            if not line.endswith("\n") or len(words) < 4:
-                continue
-            is_frame = words[3] in "<>"
-            what = " ".join(words[3:4] if is_frame else words[3:])
-            yield Event(float(words[0]), words[1], int(words[2]), what, bytes.fromhex(words[4]) if is_frame else b"")
+        yield from (event_of(line) for line in record if line.endswith("\n") and len(line.split()) >= 4)
+
+
+def replies_of(events: Sequence[Event]) -> Dict[int, int]:
+    """The place of the reply of each request that has one, by the request's place."""
+    waiting: Dict[Tuple[str, int], Deque[int]] = collections.defaultdict(collections.deque)
+    found = {}
+    for at, event in enumerate(events):
+        if event.what == ">":
+            waiting[event.side, event.connection].append(at)
+        elif event.what == "<":
+            found[waiting[event.side, event.connection].popleft()] = at
+    return found
 
 
 def exchange_of(port: int, event: Event) -> Union[Beat, Committing]:

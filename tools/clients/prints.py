@@ -33,50 +33,41 @@ def partitions_of(it: Print) -> List[str]:
     return [] if it.text in ("", "-") else it.text.split(",")
 
 
-def spans(prints: Iterable[Print], ends: Dict[str, List[float]], faults: List[str]) -> List[Span]:
-    """Who owned what. What a consumer has ends at its moments of `ends`: it was killed or stopped, or knows by its own clock that
-    it is out. What it is assigned while it closes isn't counted, since it reads nothing of it. What can't be is told in `faults`."""
-    found: List[Span] = []
-    open_since: Dict[Tuple[str, str], float] = {}
-    closing: Set[str] = set()
+class Owners:
+    """Who owned what. What a consumer has ends at its moments of `ends`: it was killed or stopped, or knows by its own clock that it is out. What it
+    is assigned while it closes isn't counted but in `late`, since it reads nothing of it. What can't be is told in `faults`."""
 
-    def close(name: str, partition: str, moment: float) -> None:
-        start = open_since.pop((name, partition))
-        found.append(Span(partition, start, min([moment] + [end for end in ends.get(name, []) if end >= start]), name))
+    def __init__(self, prints: Iterable[Print], ends: Dict[str, List[float]]) -> None:
+        self.ends, self.late = ends, 0
+        self.spans: List[Span] = []
+        self.faults: List[str] = []
+        self.since: Dict[Tuple[str, str], float] = {}
+        self.closing: Set[str] = set()
+        for it in sorted(prints):
+            self.take(it)
+        for name, partition in [*self.since]:
+            self.close(name, partition, FOREVER)
 
-    for it in sorted(prints):
-        mine = [partition for name, partition in open_since if name == it.name]
+    def close(self, name: str, partition: str, moment: float) -> None:
+        start = self.since.pop((name, partition))
+        self.spans.append(Span(partition, start, min([moment] + [end for end in self.ends.get(name, []) if end >= start]), name))
+
+    def take(self, it: Print) -> None:
+        mine, named = {partition for name, partition in self.since if name == it.name}, partitions_of(it)
         if it.kind == "CLOSING":
-            closing.add(it.name)
-        elif it.kind == "ASSIGN" and it.name not in closing:
-            faults += [f"{it.name} is assigned {partition}, which it has" for partition in partitions_of(it) if partition in mine]
-            open_since.update({(it.name, partition): it.moment for partition in partitions_of(it)})
-        elif it.kind in ("REVOKE", "LOST"):
-            unknown = [partition for partition in partitions_of(it) if partition not in mine and it.name not in closing]
-            faults += [f"{it.name} gives up {partition}, which it hasn't" for partition in unknown]
-            for partition in {*mine} & {*partitions_of(it)}:
-                close(it.name, partition, it.moment)
-        elif it.kind in ("START", "CLOSED"):
-            closing.discard(it.name)
-            for partition in mine:
-                close(it.name, partition, it.moment)
-    for name, partition in [*open_since]:
-        close(name, partition, FOREVER)
-    return found
-
-
-def assigned_while_closing(prints: Iterable[Print]) -> int:
-    """How many partitions were assigned to consumers that were closing."""
-    count = 0
-    closing: Set[str] = set()
-    for it in sorted(prints):
-        if it.kind == "CLOSING":
-            closing.add(it.name)
-        elif it.kind in ("START", "CLOSED"):
-            closing.discard(it.name)
-        elif it.kind == "ASSIGN" and it.name in closing:
-            count += len(partitions_of(it))
-    return count
+            self.closing.add(it.name)
+        elif it.kind == "ASSIGN" and it.name in self.closing:
+            self.late += len(named)
+        elif it.kind == "ASSIGN":
+            self.faults += [f"{it.name} is assigned {partition}, which it has" for partition in named if partition in mine]
+            self.since.update({(it.name, partition): it.moment for partition in named})
+        elif it.kind in ("REVOKE", "LOST", "START", "CLOSED"):
+            given_up = {*named} if it.kind in ("REVOKE", "LOST") else mine
+            unknown = [] if it.name in self.closing else sorted(given_up - mine)
+            self.faults += [f"{it.name} gives up {partition}, which it hasn't" for partition in unknown]
+            for partition in mine & given_up:
+                self.close(it.name, partition, it.moment)
+            self.closing -= {it.name} if it.kind in ("START", "CLOSED") else set()
 
 
 def overlaps(found: Iterable[Span]) -> List[Tuple[Span, Span]]:

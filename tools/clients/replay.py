@@ -3,15 +3,14 @@
 import collections
 import pathlib
 import socket
-import struct
 import subprocess
 import tempfile
 import time
 from typing import Dict, List, Sequence
 
 from clients.conversation import FRONT_END, Conversation, Pins
-from clients.log import Event, head_of
-from clients.stand import HOST, Stand
+from clients.log import Event, head_of, replies_of
+from clients.stand import HOST, Stand, read_frame
 
 REPLY_SECONDS = 10
 TICK_MS = 500
@@ -50,7 +49,7 @@ class Clients:
         if event.what == ">":
             connection.sendall(self.pins.unpin(event.frame))
         elif event.what == "<":
-            found = self.pins.pin(self.read_frame(connection))
+            found = self.pins.pin(read_frame(connection))
             if found != event.frame:
                 raise Differs(f"it answers\n    {found.hex()}\nand not\n    {event.frame.hex()}")
         elif event.what == "end near":
@@ -64,16 +63,6 @@ class Clients:
             return connection.recv(1) == b""
         except ConnectionResetError:
             return True
-
-    @staticmethod
-    def read_frame(connection: socket.socket) -> bytes:
-        data = b""
-        while len(data) < 4 or len(data) < 4 + struct.unpack_from(">i", data)[0]:
-            more = connection.recv(4 - len(data) if len(data) < 4 else 4 + struct.unpack_from(">i", data)[0] - len(data))
-            if not more:
-                raise Differs("it closes")
-            data += more
-        return data
 
     def close(self) -> None:
         for it in self.sockets.values():
@@ -114,16 +103,9 @@ def lines_of(it: Conversation) -> List[str]:
 
 def wanted_of(it: Conversation) -> List[str]:
     """What each request must print."""
-    wanted: List[str] = []
-    waiting: Dict[int, List[int]] = {}
-    for event in it.of("coordinator"):
-        here = waiting.setdefault(event.connection, [])
-        if event.what == ">":
-            here.append(len(wanted))
-            wanted.append("close")
-        elif event.what == "<":
-            wanted[here.pop(0)] = event.frame.hex()
-    return wanted
+    events = it.of("coordinator")
+    replies = replies_of(events)
+    return [events[replies[at]].frame.hex() if at in replies else "close" for at, event in enumerate(events) if event.what == ">"]
 
 
 def play_coordinator(it: Conversation, command: Sequence[str]) -> None:

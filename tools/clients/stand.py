@@ -1,7 +1,6 @@
 """Coordinators, a front end and a relay on both sides of it, on ports of their own."""
 
 import dataclasses
-import os
 import pathlib
 import random
 import signal
@@ -74,8 +73,68 @@ class Ports:
         self.close()
 
 
-class Stand:
-    """What clients connect to, at `port`. The folder gets what each program prints, and frames.log of a relay, unless that is left out."""
+def read_frame(connection: socket.socket) -> bytes:
+    """A whole frame, or what came before the end."""
+    data, missing = b"", 4
+    while missing > 0:
+        try:
+            more = connection.recv(missing)
+        except ConnectionError:
+            more = b""
+        if not more:
+            return data
+        data += more
+        missing = (4 if len(data) < 4 else 4 + int.from_bytes(data[:4], "big", signed=True)) - len(data)
+    return data
+
+
+class Programs:
+    """Programs that run. The folder gets what each prints."""
+
+    def __init__(self, folder: pathlib.Path) -> None:
+        self.folder = folder
+        self.running: Dict[str, subprocess.Popen] = {}
+
+    def start(self, name: str, line: str, words: List[str], top: pathlib.Path = TOP) -> None:
+        """Starts a program in a repository, and waits until it prints a line that begins so."""
+        path = self.folder / f"{name}.txt"
+        with open(path, "w", encoding="utf-8") as printed:
+            process = subprocess.Popen(words, cwd=top, stdin=subprocess.DEVNULL, stdout=printed, stderr=subprocess.STDOUT)
+        self.running[name] = process
+        until = time.monotonic() + START_SECONDS
+        while not any(it.startswith(line) for it in path.read_text(encoding="utf-8").splitlines(keepends=True)):
+            if process.poll() is not None or time.monotonic() > until:
+                self.end()
+                raise Failed(f"{name} doesn't listen: {path.read_text(encoding='utf-8').strip()}")
+            time.sleep(0.02)
+
+    def send_signal(self, name: str, which: signal.Signals) -> None:
+        """Sends a signal. A program that this ends isn't one of these any more."""
+        self.running[name].send_signal(which)
+        if which in (signal.SIGKILL, signal.SIGTERM):
+            self.running.pop(name).wait()
+
+    def relay(self, control: int, sides: Sequence[str], *options: str) -> None:
+        """Starts a relay that records frames.log in the folder."""
+        record = ["--record", str(self.folder / "frames.log"), "--control", str(control)]
+        self.start("relay", "listening", [sys.executable, "-B", str(HERE / "relay.py"), *record, *options, *sides])
+
+    def end(self) -> List[str]:
+        """Ends all programs. Names those that had ended before."""
+        gone = [name for name, process in self.running.items() if process.poll() is not None]
+        for process in reversed([*self.running.values()]):
+            process.terminate()
+        for process in self.running.values():
+            try:
+                process.wait(END_SECONDS)
+            except subprocess.TimeoutExpired:
+                process.kill()
+                process.wait()
+        return gone
+
+
+class Stand(Programs):
+    """What clients connect to, at `port`, through a relay, unless that is left out."""
 
     def __init__(
         self,
@@ -86,8 +145,8 @@ class Stand:
         relay: Optional[Sequence[str]] = (),
         front_end: Sequence[str] = (),
     ) -> None:
-        self.program, self.topics, self.folder = program, topics, folder
-        self.running: Dict[str, subprocess.Popen] = {}
+        super().__init__(folder)
+        self.program, self.topics = program, topics
         self.ports = Ports(4 * coordinators + 1)
         ports = self.ports.numbers
         self.backs, taps, fronts, doors = (ports[at * coordinators : (at + 1) * coordinators] for at in range(4))
@@ -98,8 +157,7 @@ class Stand:
         if relay is not None:
             sides = [f"coordinator:{tap}:{back}" for tap, back in zip(taps, self.backs)]
             sides += [f"client:{door}:{front}" for door, front in zip(doors, fronts)]
-            record = ["--record", str(folder / "frames.log"), "--control", str(self.control)]
-            self.start("relay", "listening", [sys.executable, "-B", str(HERE / "relay.py"), *record, *relay, *sides])
+            self.relay(self.control, sides, *relay)
         several = [word for port in (self.backs if relay is None else taps) for word in ("--coordinator", f"{HOST}:{port}")]
         words = [sys.executable, "-B", "-m", "broker", *several, "--port", str(fronts[0]), *front_end]
         self.start("front-end", f"listening {HOST}:{fronts[0]} ", [*words, *self.topic_words()])
@@ -113,29 +171,13 @@ class Stand:
         words = [self.program, "serve", "--port", str(port), "--workers", "4", "--shards", "4", "--connections", "1000000"]
         self.start(f"coordinator-{number}", f"listening {port}\n", [*words, *self.topic_words()])
 
-    def start(self, name: str, line: str, words: List[str]) -> None:
-        """Starts a program, and waits until it prints a line that begins so."""
-        path = self.folder / f"{name}.txt"
-        with open(path, "w", encoding="utf-8") as printed:
-            process = subprocess.Popen(words, cwd=TOP, stdin=subprocess.DEVNULL, stdout=printed, stderr=subprocess.STDOUT)
-        self.running[name] = process
-        until = time.monotonic() + START_SECONDS
-        while not any(it.startswith(line) for it in path.read_text(encoding="utf-8").splitlines(keepends=True)):
-            if process.poll() is not None or time.monotonic() > until:
-                self.end()
-                raise Failed(f"{name} doesn't listen: {path.read_text(encoding='utf-8').strip()}")
-            time.sleep(0.02)
-
     def kill_coordinator(self) -> None:
-        process = self.running.pop("coordinator-0")
-        process.kill()
-        process.wait()
+        self.send_signal("coordinator-0", signal.SIGKILL)
 
     def stop_coordinator(self, seconds: float) -> None:
-        process = self.running["coordinator-0"]
-        os.kill(process.pid, signal.SIGSTOP)
+        self.send_signal("coordinator-0", signal.SIGSTOP)
         time.sleep(seconds)
-        os.kill(process.pid, signal.SIGCONT)
+        self.send_signal("coordinator-0", signal.SIGCONT)
 
     def tell_relay(self, line: str) -> None:
         with socket.create_connection((HOST, self.control), END_SECONDS) as connection:
@@ -157,15 +199,6 @@ class Stand:
         return [line for line in said if line.startswith("broker: ")] + gone
 
     def end(self) -> List[str]:
-        """Ends all programs. Names those that had ended before."""
-        gone = [name for name, process in self.running.items() if process.poll() is not None]
-        for process in reversed([*self.running.values()]):
-            process.terminate()
-        for process in self.running.values():
-            try:
-                process.wait(END_SECONDS)
-            except subprocess.TimeoutExpired:
-                process.kill()
-                process.wait()
+        gone = super().end()
         self.ports.close()
         return gone

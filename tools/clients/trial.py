@@ -33,11 +33,12 @@ class Setting:
     out: pathlib.Path
 
 
-class Trial:
-    def __init__(self, scenario: str, client: str, setting: Setting, topics: Sequence[Topic] = TOPICS, **stand: Any) -> None:
-        self.scenario, self.client, self.roots = scenario, client, setting.roots
+class Crowd:
+    """Consumers, what they print, and what is found. They connect to `bootstrap`."""
+
+    def __init__(self, client: str, roots: pathlib.Path, folder: pathlib.Path, topics: Sequence[Topic]) -> None:
+        self.client, self.roots, self.folder, self.bootstrap = client, roots, folder, ""
         self.topics = {topic.name: topic for topic in topics}
-        self.folder = setting.out / f"{scenario}-{client}"
         self.folder.mkdir(parents=True, exist_ok=True)
         self.lines: List[str] = []
         self.faults: List[str] = []
@@ -47,17 +48,9 @@ class Trial:
         self.last_change = time.time()
         self.consumers: List[Consumers] = []
         self.groups: Dict[str, str] = {}
-        # Moments at which a consumer's ownership ends whatever it prints, and those at which the groups were lost.
+        # Moments at which a consumer's ownership ends whatever it prints, and the errors that clients may meet here.
         self.ends: Dict[str, List[float]] = collections.defaultdict(list)
-        self.restarts: List[float] = []
-        # The errors that clients may meet here, and whether the coordinator may close connections.
         self.expected: Set[str] = set()
-        self.may_close = False
-        self.stand = Stand(setting.program, topics, self.folder, **stand)
-
-    def is_old(self) -> bool:
-        """The client is librdkafka 2.8.0, or one as old."""
-        return any(it.text.startswith("2.8.") for it in self.of("START"))
 
     # ---- consumers
 
@@ -70,14 +63,11 @@ class Trial:
         if "group_remote_assignor" not in settings:
             given += of.settings
         words = ["chroot", str(self.roots / of.release), *of.words, *map(str, options), *(["-n", str(count)] if count else [])]
-        words += [name, topics, f"bootstrap.servers={HOST}:{self.stand.port}", f"group.id={group}", *given]
+        words += [name, topics, f"bootstrap.servers={self.bootstrap}", f"group.id={group}", *given]
         made = Consumers(words, name, count, self.folder / f"{len(self.consumers)}-{name}.txt", self.take)
         self.groups.update(dict.fromkeys(made.names, group))
         self.consumers.append(made)
         return made
-
-    def start_many(self, names: Sequence[str], *options: object, **settings: Any) -> Dict[str, Consumers]:
-        return {name: self.start(name, *options, **settings) for name in names}
 
     def kill(self, it: Consumers) -> float:
         moment = it.kill()
@@ -115,19 +105,6 @@ class Trial:
     def changes(self, since: float, but: Sequence[str] = ()) -> List[Print]:
         with self.lock:
             return [it for it in self.prints if it.kind in CHANGES and it.moment > since and it.name not in but]
-
-    def exchanges(self, client: str = "", since: float = 0.0) -> List[Union[Beat, Committing]]:
-        """What has come to the coordinator from this client id, and wasn't answered before a moment."""
-        found = read_exchanges(str(self.folder / "frames.log"))
-        return [it for it in found if client in ("", it.head.client) and it.answered >= since]
-
-    def heartbeats(self, client: str = "", since: float = 0.0) -> List[Beat]:
-        """The heartbeats that were answered."""
-        return [it for it in self.exchanges(client, since) if isinstance(it, Beat) and it.is_answered()]
-
-    def commits(self, client: str = "", since: float = 0.0) -> List[Committing]:
-        """The commits that were answered."""
-        return [it for it in self.exchanges(client, since) if isinstance(it, Committing) and it.is_answered()]
 
     # ---- findings
 
@@ -198,7 +175,7 @@ class Trial:
 
     # ---- the end
 
-    def end(self) -> None:
+    def close_all(self) -> None:
         for it in self.consumers:
             if it.status() is None:
                 it.go_on()
@@ -206,6 +183,37 @@ class Trial:
         for it in self.consumers:
             if it.status() is None and not it.wait():
                 self.fail(f"{it.name} doesn't close")
+
+
+class Trial(Crowd):
+    def __init__(self, scenario: str, client: str, setting: Setting, topics: Sequence[Topic] = TOPICS, **stand: Any) -> None:
+        super().__init__(client, setting.roots, setting.out / f"{scenario}-{client}", topics)
+        self.scenario = scenario
+        # Moments at which the groups were lost, and whether the coordinator may close connections.
+        self.restarts: List[float] = []
+        self.may_close = False
+        self.stand = Stand(setting.program, topics, self.folder, **stand)
+        self.bootstrap = f"{HOST}:{self.stand.port}"
+
+    def is_old(self) -> bool:
+        """The client is librdkafka 2.8.0, or one as old."""
+        return any(it.text.startswith("2.8.") for it in self.of("START"))
+
+    def exchanges(self, client: str = "", since: float = 0.0) -> List[Union[Beat, Committing]]:
+        """What has come to the coordinator from this client id, and wasn't answered before a moment."""
+        found = read_exchanges(str(self.folder / "frames.log"))
+        return [it for it in found if client in ("", it.head.client) and it.answered >= since]
+
+    def heartbeats(self, client: str = "", since: float = 0.0) -> List[Beat]:
+        """The heartbeats that were answered."""
+        return [it for it in self.exchanges(client, since) if isinstance(it, Beat) and it.is_answered()]
+
+    def commits(self, client: str = "", since: float = 0.0) -> List[Committing]:
+        """The commits that were answered."""
+        return [it for it in self.exchanges(client, since) if isinstance(it, Committing) and it.is_answered()]
+
+    def end(self) -> None:
+        self.close_all()
         gone = self.stand.end()
         self.check(not gone, "coordinator, front end and relay went on to the end" + f" ({', '.join(gone)} didn't)" * bool(gone))
 

@@ -5,8 +5,8 @@ from typing import Dict, List, Sequence, Tuple, Union
 
 from clients.holds import Holds
 from clients.log import Beat, Committing
-from clients.prints import Print, assigned_while_closing, overlaps, records_read, spans
-from clients.trial import Trial
+from clients.prints import Owners, Print, overlaps, records_read
+from clients.trial import Crowd, Trial
 
 Exchanges = List[Union[Beat, Committing]]
 
@@ -23,19 +23,20 @@ def judge(trial: Trial) -> None:
         judge_reading(trial, group, prints, exchanges)
 
 
-def judge_owners(trial: Trial, by_group: Dict[str, List[Print]]) -> None:
-    faults: List[str] = []
-    pairs = [pair for prints in by_group.values() for pair in overlaps(spans(prints, trial.ends, faults))]
+def judge_owners(trial: Crowd, by_group: Dict[str, List[Print]]) -> None:
+    groups = [Owners(prints, trial.ends) for prints in by_group.values()]
+    pairs = [pair for of in groups for pair in overlaps(of.spans)]
+    faults = [fault for of in groups for fault in of.faults]
     counts = collections.Counter(it.kind for it in trial.prints)
     seen = f"{counts['ASSIGN']} assigns, {counts['REVOKE']} revokes, {counts['LOST']} losses"
     trial.check(not pairs, f"no two consumers of a group owned one partition at a time, by their prints ({seen}){told(pairs)}")
-    late = assigned_while_closing(trial.prints)
+    late = sum(of.late for of in groups)
     if late:
         trial.note(f"consumers that were closing were assigned {late} partitions, which isn't counted")
     trial.check(not faults, f"each gave up what it had, and was assigned what it hadn't{told(faults)}")
 
 
-def judge_prints(trial: Trial) -> None:
+def judge_prints(trial: Crowd) -> None:
     wrong = [it for it in trial.prints if it.kind == "WRONG" or it.kind == "RECORD" and not is_right(it)]
     trial.check(not wrong, f"each record was the right one{told(wrong)}")
     errors = [it for it in trial.prints if it.kind in ("ERROR", "FATAL") and not any(word in it.text for word in trial.expected)]

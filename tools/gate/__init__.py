@@ -1,12 +1,11 @@
 """What the tools share that start programs or ask the prover; docs/GATE.md says how they are run.
 
 commands    starting programs, their time, signals, and ending all of them
+checks      the command line of check scripts, and checks as methods or tests
 crates      crates.txt, the words by which the checker is called for one crate, and what came out as it must before
 schedule    how much has room side by side
 wrong       wrong code that must be refused: reading it, and applying it to a crate's texts
-functions   which function a line of source stands in, and its name in a verdict
 verdicts    reading what a check says
-rounds      one crate's wrong bodies, many in a check
 trials      wrong bodies that only a test or a case refuses
 cases       lines for the program, and what it must answer
 rows        many small cases in one text

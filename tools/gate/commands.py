@@ -21,6 +21,8 @@ from typing import IO, Iterable, Iterator, List, NoReturn, Optional, Sequence, S
 PR_SET_CHILD_SUBREAPER = 36
 # What a signal that stops the tools adds to its number to make the exit status, as shells do.
 STOPPED_STATUS = 128
+# What the reason of a check that can't be run here begins with.
+NOT_RUN = "not run: "
 
 stopping = threading.Event()
 
@@ -184,6 +186,27 @@ def room(name: str, parent: Optional[str] = None) -> Iterator[str]:
         end_all()
         tempfile.tempdir = os.environ["TMPDIR"] = before
         shutil.rmtree(folder, ignore_errors=True)
+
+
+def tell(checks: Iterable[Tuple[str, Optional[str]]], with_all: bool = False) -> int:
+    """Says each check that fails, by its name and why, and in the last line how many passed and failed. Gives the status."""
+    passed = failed = 0
+    for name, why in checks:
+        if why and why.startswith(NOT_RUN):
+            print(f"{NOT_RUN}{name}: {why[len(NOT_RUN):]}", flush=True)
+            continue
+        passed, failed = passed + (not why), failed + bool(why)
+        if why or with_all:
+            print(f"FAILED {name}: {why}" if why else f"ok     {name}", flush=True)
+    print(f"{passed} passed, {failed} failed")
+    return int(failed > 0 or not passed)
+
+
+def exit_on_signals() -> None:
+    """From here on a signal to stop ends this process as an exit does, and a program that is started gets the signal's default, also where a
+    shell without jobs has started this with it ignored."""
+    for it in (signal.SIGINT, signal.SIGTERM, signal.SIGHUP):
+        signal.signal(it, lambda number, _: sys.exit(STOPPED_STATUS + number))
 
 
 def usage(doc: str, words: Sequence[str], known: Sequence[str] = ()) -> None:

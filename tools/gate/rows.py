@@ -40,16 +40,32 @@ class Row:
     errors: bytes = b""
     status: int = 0
 
+    def put(self, mark: bytes, text: bytes) -> None:
+        """Takes a line of the row."""
+        if mark == b"$":
+            self.words = tuple(unescaped(it).decode() for it in text.split())
+        elif mark in (b"<", b"+"):
+            self.given += unescaped(text) + b"\n" * (mark == b"<")
+        elif mark == b">":
+            self.output += text + b"\n"
+        elif mark == b"!":
+            self.errors += text + b"\n"
+        else:
+            raise BadRow(f"a line has no mark of these: {mark!r}")
+
 
 def rows_of(text: bytes, words: Tuple[str, ...]) -> Iterator[Row]:
     """The rows of a file, for which the words of the command line are these where a row names no others."""
-    around, row = (b"", b""), None
+    before, printed, row = b"", b"", None
     for line in text.removesuffix(b"\n").split(b"\n"):
         mark, rest = line[:1], line[2:]
         if mark == b"@":
-            around = pair_of(rest)
+            before, arrow, printed = (it + b"\n" for it in rest.partition(b" => "))
+            before, printed = (before, printed) if arrow != b"\n" else (b"", b"")
         elif mark == b"-":
-            yield bad_line(rest, around, words)
+            # The lines before it are done, it is told by its number, and nothing else is done.
+            told = b"bad line %d\n" % (before.count(b"\n") + 1)
+            yield Row(f"bad line: {rest.decode()}", words, before + unescaped(rest) + b"\n" + before, printed, told, 2)
         elif mark == b"#":
             row = Row(rest.decode(), words)
         elif mark == b"=" and row:
@@ -57,56 +73,26 @@ def rows_of(text: bytes, words: Tuple[str, ...]) -> Iterator[Row]:
             yield row
             row = None
         elif mark not in (b"", b"|"):
-            put(row, mark, rest)
+            if row is None:
+                raise BadRow(f"a line stands in no row: {rest!r}")
+            row.put(mark, rest)
     if row:
         raise BadRow(f"the row {row.name!r} has no status")
 
 
-def put(row: Row, mark: bytes, text: bytes) -> None:
-    """Takes a line of a row."""
-    if row is None:
-        raise BadRow(f"a line stands in no row: {text!r}")
-    if mark == b"$":
-        row.words = tuple(unescaped(it).decode() for it in text.split())
-    elif mark in (b"<", b"+"):
-        row.given += unescaped(text) + b"\n" * (mark == b"<")
-    elif mark == b">":
-        row.output += text + b"\n"
-    elif mark == b"!":
-        row.errors += text + b"\n"
-    else:
-        raise BadRow(f"a line has no mark of these: {mark!r}")
-
-
-def bad_line(text: bytes, around: Tuple[bytes, bytes], words: Tuple[str, ...]) -> Row:
-    """The row of a bad line: the lines before it are done, it is told by its number, and nothing else is done."""
-    before, printed = around
-    number = before.count(b"\n") + 1
-    given = before + unescaped(text) + b"\n" + before
-    return Row(f"bad line: {text.decode()}", words, given, printed, b"bad line %d\n" % number, 2)
-
-
-def pair_of(text: bytes) -> Tuple[bytes, bytes]:
-    """A line of the input and what is printed for it."""
-    line, arrow, printed = text.partition(b" => ")
-    return (line + b"\n", printed + b"\n") if arrow else (b"", b"")
-
-
 def unescaped(text: bytes) -> bytes:
+    def byte_of(found: "re.Match[bytes]") -> bytes:
+        code, letter, times, repeated = found.groups()
+        return int(times) * unescaped(repeated) if times else LETTERS[letter] if letter else bytes([int(code, 16)])
+
     return ESCAPE.sub(byte_of, text)
 
 
-def byte_of(found: "re.Match[bytes]") -> bytes:
-    code, letter, times, repeated = found.groups()
-    if times:
-        return int(times) * unescaped(repeated)
-    return LETTERS[letter] if letter else bytes([int(code, 16)])
-
-
-def names_of(rows: List[Row]) -> List[str]:
-    """The names of rows, each once."""
-    names = [it.name for it in rows]
-    twice = {it for it in names if names.count(it) > 1}
-    if twice:
-        raise BadRow(f"two rows have one name: {min(twice)!r}")
-    return names
+def named_rows(text: bytes, words: Tuple[str, ...]) -> List[Row]:
+    """The rows of a file, of which no two have one name."""
+    found = [*rows_of(text, words)]
+    names = [it.name for it in found]
+    for it in names:
+        if names.count(it) > 1:
+            raise BadRow(f"two rows have one name: {it!r}")
+    return found

@@ -11,12 +11,8 @@ CHECK_MEMORY, LINE_MEMORY = 2_500_000_000, 500_000
 USED_MEMORY, JOB_MEMORY = 0.85, 0.3
 # More jobs than this seldom make a check faster.
 MOST_JOBS = 4
-# How many proofs `rt ci` runs at once, whatever it would plan; and what one of these takes of memory, by one job: 1 to 3.5 GB, and only
-# that of coord_server 4.7.
+# How many proofs `rt ci` runs at once, whatever it would plan; and what one of these takes of memory, by one job.
 JOBS_NAME, PROOF_MEMORY = "RT_JOBS", 3_500_000_000
-# Where a control group says how much processor time (quota and period) and memory (limit and use) there is.
-QUOTA_FILE = "/sys/fs/cgroup/cpu.max"
-MEMORY_FILES = ("/sys/fs/cgroup/memory.max", "/sys/fs/cgroup/memory.current")
 
 
 def proof_jobs() -> Dict[str, str]:
@@ -42,7 +38,7 @@ def need_of(tree: object, crate: str) -> float:
     return CHECK_MEMORY + LINE_MEMORY * sum(it.count("\n") for it in texts)
 
 
-def number_in(file: str, pattern: str) -> Optional[int]:
+def number_in(file: str, pattern: str = r"(\d+)") -> Optional[int]:
     try:
         with open(file, encoding="utf-8") as text:
             found = re.search(pattern, text.read())
@@ -52,14 +48,13 @@ def number_in(file: str, pattern: str) -> Optional[int]:
 
 
 def processors() -> int:
-    """How many processors this process may use."""
-    found = len(os.sched_getaffinity(0))
-    quota, period = number_in(QUOTA_FILE, r"^(\d+)"), number_in(QUOTA_FILE, r" (\d+)")
+    """How many processors this process may use, also by its control group's quota of processor time."""
+    found, quota, period = len(os.sched_getaffinity(0)), *(number_in("/sys/fs/cgroup/cpu.max", it) for it in (r"^(\d+)", r" (\d+)"))
     return min(found, max(quota // period, 1)) if quota and period else found
 
 
 def free_memory() -> int:
-    """How many bytes of memory are free for this process."""
+    """How many bytes of memory are free for this process, also by its control group's limit."""
     free = 1024 * number_in("/proc/meminfo", r"MemAvailable:\s+(\d+)")
-    limit, used = (number_in(it, r"(\d+)") for it in MEMORY_FILES)
+    limit, used = (number_in(f"/sys/fs/cgroup/memory.{it}") for it in ("max", "current"))
     return free if limit is None or used is None else min(free, limit - used)

@@ -11,7 +11,7 @@ import tempfile
 import threading
 from typing import Dict, List, Optional, Set
 
-from gate import cases, commands, crates, functions, wrong
+from gate import cases, commands, crates, wrong
 
 # How long a build with its run may take, in seconds: beside `rt ci` it has what proofs leave of the processors.
 LIMIT = 5_400
@@ -127,10 +127,10 @@ def leave_out_tests(folder: str, kept: Set[str]) -> None:
 def without_tests(text: str, kept: Set[str]) -> str:
     """The text with empty lines in place of the tests that have none of these names."""
     lines = text.split("\n")
-    for it in functions.functions_in("", text):
-        above = it.first
+    for name, first, last in wrong.functions_in(text):
+        above = first
         while above and lines[above - 1].lstrip().startswith(("///", "#[")):
             above -= 1
-        if it.name not in kept and any(line.strip() == "#[test]" for line in lines[above : it.first]):
-            lines[above : it.last + 1] = [""] * (it.last + 1 - above)
+        if name not in kept and any(line.strip() == "#[test]" for line in lines[above:first]):
+            lines[above : last + 1] = [""] * (last + 1 - above)
     return "\n".join(lines)

@@ -5,12 +5,9 @@ that a function calls another one that is not proved is no failure of its own.
 """
 
 import re
-from typing import Iterable, Optional, Set, Tuple
+from typing import Iterable, Optional, Set
 
-from gate import commands, functions
-
-# RESTS: the function's own proof stands, and it calls one that is not proved. WAITS: it is not judged for such a call.
-PROVED, RESTS, WAITS, UNKNOWN, FAILED = "proved", "rests", "waits", "unknown", "failed"
+from gate import commands
 
 LINE = re.compile(r"fn (\S+): (.*)")
 # A function whose signature lets it wait or end the process is proved all the same.
@@ -22,9 +19,7 @@ WAITS_FOR = re.compile(
 )
 # What is said of a text that cannot be read, where a statement that is only false reads well.
 MESSAGE = re.compile(r"(?:\./)?(\S+?):\d+:\d+: error: (?:(`[^`]*`): )?(.*)")
-UNREADABLE = re.compile(
-    r"is not in scope|has no field|is no name|operand is missing|expected the end|cannot continue"
-)
+UNREADABLE = re.compile(r"is not in scope|has no field|is no name|operand is missing|expected the end|cannot continue")
 # What is said of a proof that names what the code no longer has.
 NAMES_WHAT_IS_GONE = re.compile(r"has no field|is not in scope|has no `|was not admitted")
 # What is said at a place of the crate's files, as an error or a note.
@@ -41,7 +36,7 @@ class Verdict:
         self.last = next((it for it in reversed(self.said) if it.startswith(("logic=", "only="))), "")
 
     def proves_all(self) -> bool:
-        is_last = self.last.startswith("logic=proved ")
+        is_last = self.last.startswith(("logic=proved ", "only="))
         return self.status == 0 and is_last and bool(self.lines) and all(map(IS_PROVED.fullmatch, self.lines.values()))
 
     def why_void(self, edited: Iterable[str]) -> Optional[str]:
@@ -55,64 +50,25 @@ class Verdict:
             return f"it did not reach the prover: {self.first_error()}"
         return None
 
-    def lines_with_errors(self) -> Set[Tuple[str, int]]:
-        """The lines of source, from 0, at which an error is said to be."""
-        found = (re.match(r"(?:\./)?(\S+?):(\d+):\d+: error", it) for it in self.said)
-        return {(it[1], int(it[2]) - 1) for it in found if it}
-
     def first_error(self) -> str:
         errors = [it for it in self.said if re.search(r"error[\[:]", it)]
         return (errors or self.said[-1:] or [""])[0][:200]
 
-    def of(self, name: str) -> str:
-        """How a function is judged, its closures and inner functions with it."""
-        found = [judged(said) for it, said in self.lines.items() if functions.owner_in(it, self.lines) == name]
-        return next((it for it in (FAILED, UNKNOWN, WAITS, RESTS, PROVED) if it in found), UNKNOWN)
-
     def failing(self) -> Set[str]:
-        """The functions that fail of their own, or of which an unknown thing is said."""
-        bad = (it for it, said in self.lines.items() if judged(said) in (FAILED, UNKNOWN))
-        return {functions.owner_in(it, self.lines) for it in bad}
-
-    def why_stray(self, turned: Set[str]) -> Optional[str]:
-        """Why a verdict tells nothing of the functions that edits turn: another one fails. Else None."""
-        strays = sorted(self.failing() - turned)
-        return f"{strays[0]} fails, which no edit turns: {self.lines[strays[0]][:120]}" if strays else None
-
-    def is_only_by_name(self, name: str, function: functions.Function) -> bool:
-        """Whether a function that fails does so only since its proof files use a name that is gone."""
-        *path, last = name.split("::")[1:]
-        folder = "".join(f"{re.escape(it)}/" for it in path)
-        own = re.compile(rf"(?:\./)?proofs/{folder}\+?{re.escape(last)}/\S+: error: ")
-        told = [it for it in self.said if own.match(it)]
-        by_name = bool(told) and all(map(NAMES_WHAT_IS_GONE.search, told))
-        return by_name and self.lines[name].startswith("not proved") and not self.has_open_goal(function)
+        """The functions that fail of their own. (Closures and inner functions have names that go on behind their function's.)"""
+        return {name for name, said in self.lines.items() if fails(said)}
 
     def is_all_by_name(self) -> bool:
         """Whether nothing is said to be wrong but that proof files use names that are gone."""
         told = [it for it in self.said if TOLD.match(it)]
-        by_name = (it.startswith(("proofs/", "./proofs/")) and NAMES_WHAT_IS_GONE.search(it) for it in told)
-        return bool(told) and all(by_name)
-
-    def has_open_goal(self, function: functions.Function) -> bool:
-        """Whether a goal of the function's own code is said to be not proved."""
-        note = re.compile(rf"(?:note: )?(?:\./)?{re.escape(function.path)}:(\d+):\d+: (?:error: )?it is not proved")
-        rows = (int(it[1]) - 1 for it in map(note.match, self.said) if it)
-        return any(function.first <= row <= function.last for row in rows)
+        return bool(told) and all(it.startswith(("proofs/", "./proofs/")) and NAMES_WHAT_IS_GONE.search(it) for it in told)
 
 
-def judged(said: str) -> str:
-    """What the text behind `fn NAME: ` says of the function's own proof."""
-    if IS_PROVED.fullmatch(said):
-        return PROVED
-    if WAITS_FOR.search(said):
-        return WAITS
+def fails(said: str) -> bool:
+    """Whether the text behind `fn NAME: ` says that the function's own proof fails, and not just that of one that it calls."""
     rest = re.sub(r"[;\s]+$", "", CALLS.sub("", said))
-    if rest != said and rest == "no proof:":
-        return RESTS
-    if rest == "not proved" or rest.startswith("no proof: expected "):
-        return FAILED
-    return UNKNOWN
+    rests = rest != said and rest == "no proof:"
+    return not (IS_PROVED.fullmatch(said) or WAITS_FOR.search(said) or rests)
 
 
 def is_unread(line: str, edited: Iterable[str]) -> bool:

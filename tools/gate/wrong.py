@@ -16,9 +16,11 @@ turned: a `\\n` in its texts ends a line.
 import dataclasses
 import pathlib
 import re
-from typing import Callable, Dict, Iterable, List, Set, Tuple
+from typing import Callable, Dict, Iterable, List, Optional, Set, Tuple
 
 EDITED_PARTS = ("src/", "specs/", "proofs/")
+# The head of a function.
+HEAD = re.compile(r'( *)(?:pub(?:\([^)]*\))? )?(?:const )?(?:unsafe )?(?:extern "C" )?fn (\w+)')
 ENTRY = re.compile(r"name: ([\w.-]+)\nby: (prover|(?:test|case|law) \S+)\n((?:(?:file|old|new):.*\n)+)")
 
 
@@ -115,10 +117,37 @@ def turned_lines(before: str, after: str) -> Set[int]:
     return {at for at, (old, new) in enumerate(pairs) if old != new}
 
 
-def merged(changes: Iterable[Change], read: Callable[[str], str]) -> Dict[str, str]:
-    """The texts that several changes leave together. No two of them turn the same line."""
-    texts: Dict[str, List[str]] = {}
-    for change in changes:
-        for path, at in change.lines:
-            texts.setdefault(path, read(path).split("\n"))[at] = change.texts[path].split("\n")[at]
-    return {path: "\n".join(lines) for path, lines in texts.items()}
+def functions_in(text: str) -> List[Tuple[str, int, int]]:
+    """The functions of a file that stand in no other one: name, first line and last line, from 0.
+
+    The source is in `rt fmt`'s layout: a function's last line is the first one behind its head that begins with a brace at the head's
+    indentation.
+    """
+    lines, found = text.split("\n"), []
+    for at, line in enumerate(lines):
+        head = HEAD.match(line)
+        if head and (not found or at > found[-1][2]):
+            last = last_line(lines, at, head[1])
+            found += [(head[2], at, last)] if last is not None else []
+    return found
+
+
+def last_line(lines: List[str], first: int, indent: str) -> Optional[int]:
+    """The last line of the function whose head begins at `first`, or None where it has no body."""
+    is_open = False
+    for at in range(first, len(lines)):
+        line, is_head = lines[at], at == first or lines[at].startswith(f"{indent})")
+        if is_open and line.startswith(f"{indent}}}") or is_head and line.endswith("}"):
+            return at
+        if not is_open and line.endswith(";"):
+            return None
+        is_open = is_open or line == f"{indent}{{" or is_head and line.endswith("{")
+    return None
+
+
+def functions_of(change: Change, read: Callable[[str], str]) -> Set[str]:
+    """The names of the functions whose bodies, or own proof files, a change turns."""
+    found = {path.split("/")[-2].lstrip("+") for path in change.texts if path.startswith("proofs/") and path.count("/") > 1}
+    for path in (it for it in change.texts if it.startswith("src/")):
+        found |= {name for name, first, last in functions_in(read(path)) if any((path, at) in change.lines for at in range(first, last + 1))}
+    return found

@@ -8,20 +8,19 @@ import sys
 from typing import Dict, List, Tuple
 
 from gate import commands, crates
+from gate.checks import TOP
 from launch import answers
-from packages import completions, manual, options
+from packages import manual, options
 from packages.archives import Entry, Files, zipped
 
-TOP = pathlib.Path(__file__).resolve().parents[2]
 FILES = TOP / "tools/packages/files"
 ANSWERS = answers.of(str(TOP))
 VERSION = ANSWERS["--version",].split()[1]
 SUBCOMMANDS = ("reply", "frame", "run", "serve")
 # The programs in Python, with the document that their man pages have, and its sections where that isn't all. They are commands migwelun-NAME of the
-# package, and so are the tools that need only Python. Behind these the parts that they share.
+# package, and so are the tools that need only Python. Some of these have their parts in the folder `stories`.
 PROGRAMS = {"broker": ("broker/README.md", ("The command line", "A record of the frames", "What a broker does for a consumer")), "conformance": ("conformance/README.md", ())}
 TOOLS = ("tell-run", "draw-run", "write-run", "tell-capture", "run-lines", "reply-lines")
-SHARED = ("rules", "stories")
 EXAMPLES = ("*.md", "*.py", "run/*", "reply/*", "frame/*", "stories/*", "capture/*", "embed/*.c", "embed/python/*.py", "embed/rust/*.*", "embed/rust/*/*.rs")
 # The newest C library that may be needed: Debian 11's.
 NEWEST_GLIBC = (2, 31)
@@ -72,10 +71,11 @@ def files_of(program: pathlib.Path, library: pathlib.Path, version: str, seconds
         "share/migwelun/coord": Entry(link="../../bin/coord"),
         "share/migwelun/out/libmigwelun.so": Entry(link="../../../lib/libmigwelun.so"),
         "share/migwelun/out/libmigwelun.a": Entry(link="../../../lib/libmigwelun.a"),
+        "share/migwelun/tools/rules": Entry(link="../conformance/rules"),
         "share/doc/migwelun/examples": Entry(link="../../migwelun/examples"),
     }
     shared = [it for each in EXAMPLES for it in (TOP / "examples").glob(each)]
-    shared += [it for each in SHARED for it in (TOP / "tools" / each).glob("**/*.py")]
+    shared += (TOP / "stories").glob("*.py")
     for name in programs():
         files[f"bin/migwelun-{name}"] = Entry((FILES / "python-program").read_bytes(), 0o755)
         shared += [it for ending in ("py", "html", "md", "txt") for it in (TOP / name).glob(f"**/*.{ending}") if "tests" not in it.parts]
@@ -111,7 +111,7 @@ def of_options(version: str, seconds: int) -> Files:
     for it, own in zip((*coord, *others), pages):
         text = manual.page(it, version, seconds, parts[it.command], [name for name in pages if name != own])
         files[f"share/man/man1/{own}.1.gz"] = Entry(zipped(text.encode()))
-    return {**files, **completions_of([coord, *([it] for it in others)])}
+    return {**files, **completions_of(["coord", *(it.command for it in others)])}
 
 
 def as_installed(text: str) -> str:
@@ -125,15 +125,15 @@ def programs() -> List[str]:
     return [it for it in PROGRAMS if (TOP / it).is_dir()]
 
 
-def completions_of(programs: List[List[options.Help]]) -> Files:
-    found: Dict[str, Entry] = {}
-    for it in programs:
-        name = it[0].command
-        for path, text in (
-            (f"share/bash-completion/completions/{name}", completions.bash(it)),
-            (f"share/zsh/vendor-completions/_{name}", completions.zsh(it)),
-            (f"share/fish/vendor_completions.d/{name}.fish", completions.fish(it)),
+def completions_of(commands: List[str]) -> Files:
+    found: Files = {}
+    for name in commands:
+        for shell, path in (
+            ("bash", f"share/bash-completion/completions/{name}"),
+            ("zsh", f"share/zsh/vendor-completions/_{name}"),
+            ("fish", f"share/fish/vendor_completions.d/{name}.fish"),
         ):
+            text = (FILES / f"completion.{shell}").read_text().replace("COMMAND", name).replace("FUNCTION", name.replace("-", "_"))
             found[path] = Entry(text.encode())
     return found
 

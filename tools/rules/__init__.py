@@ -1,16 +1,5 @@
-"""The rules of the protocol in Python, for the tools that say what the program must print.
+"""The rules of the protocol, `conformance/rules`, by the name that the tools import them by."""
 
-    fields     the bytes of fields, and back
-    messages   requests and replies
-    assignors  range and uniform: which member owns which partition
-    group      one group: heartbeats, ticks and commits
-    node       the groups of a coordinator, frame by frame
-    client     the client side: what a member asks, and what it makes of replies
-    world      one coordinator, its clients, and pools of messages that are delivered in any order
-    lines      the lines of scripts of worlds: what each asks for and prints, and why one can't be read
-    decode     what lines ask and print, by field, for people
-    compare    runs a program over scripts, compares what it prints, and cuts a script down that differs
+import pathlib
 
-The rules are those of KIP-848 and of the Kafka protocol guide, and this project's own where these leave a choice
-(docs/MODEL.md). Nothing here is taken from the program.
-"""
+__path__ = [str(pathlib.Path(__file__).resolve().parents[2] / "conformance" / "rules")]

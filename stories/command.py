@@ -1,0 +1,138 @@
+"""The commands tools/write-run, draw-run, tell-run and tell-capture."""
+
+from __future__ import annotations
+
+import argparse
+import os
+import re
+import sys
+from typing import Callable, Iterable, Iterator, Optional
+
+from stories import picture, table
+from stories.capture import Captured
+from stories.notation import Writer
+from stories.reading import NoScript, Output, lines_of, output_in, output_of
+from stories.recording import Recording
+from stories.story import Story, tell
+
+
+def write_run(document: str) -> int:
+    made = parser("write-run", document)
+    made.add_argument("story", metavar="STORY", help="the story; - is standard input")
+    asked = made.parse_args()
+    return run("write-run", lambda: Writer(asked.story).write(lines_of(asked.story)))
+
+
+def draw_run(document: str) -> int:
+    made = parser("draw-run", document)
+    add_script(made)
+    asked = made.parse_args()
+    return run("draw-run", lambda: picture.picture(asked.script, story(asked)))
+
+
+def tell_run(document: str) -> int:
+    made = parser("tell-run", document)
+    add_script(made)
+    made.add_argument("--lines", metavar="A-B", type=span, default=(), help="the table of these lines alone, or of one")
+    made.add_argument("--story", action="store_true", help="the story of the script")
+    made.add_argument("--strict", action="store_true", help="the status is 1 where something is wrong")
+    asked = made.parse_args()
+    wrong: list[bool] = []
+
+    def told() -> Iterable[str]:
+        it = story(asked)
+        wrong.append(asked.strict and table.is_wrong(it))
+        if asked.story:
+            return [*it.heads, "", *it.acts]
+        return table.part(it, asked.lines) if asked.lines else table.table(it)
+
+    return run("tell-run", told) or int(any(wrong))
+
+
+def tell_capture(document: str) -> int:
+    made = parser("tell-capture", document)
+    made.add_argument("file", metavar="FILE", help="the recording; - is standard input, for what the broker writes")
+    made.add_argument("topics", metavar="NAME:UUID:COUNT", nargs="*", help="topics, where the recording names none")
+    made.add_argument("--group", metavar="GROUP", help="this group alone")
+    made.add_argument("--all", action="store_true", help="heartbeats that bring nothing new, too")
+    made.add_argument("--strict", action="store_true", help="the status is 1 where two members hold one partition")
+    forms = made.add_mutually_exclusive_group()
+    forms.add_argument("--picture", action="store_true", help="a picture, as an SVG document")
+    forms.add_argument("--script", action="store_true", help="the requests as lines for `coord reply`")
+    asked = made.parse_args()
+    wrong: list[bool] = []
+    return run("tell-capture", lambda: captured(asked, wrong)) or int(any(wrong))
+
+
+def captured(asked: argparse.Namespace, wrong: list[bool]) -> Iterator[str]:
+    recording = Recording(asked.file)
+    recording.add_topics(asked.topics)
+    followed = Captured(recording, asked.group, asked.all)
+    it = followed.story()
+    wrong.append(asked.strict and table.is_wrong(it))
+    unread = "heartbeats and commits of other versions or forms aren't read"
+    for count, what in ((recording.unread, unread), (recording.lost, "lines or packets are missing or cut")):
+        if count:
+            print(f"tools/tell-capture: {asked.file}: {count} {what}", file=sys.stderr)
+    if asked.script:
+        yield from followed.replay.lines
+    elif asked.picture:
+        yield from picture.picture(asked.file, it)
+    else:
+        yield from table.table(it)
+        if followed.left_out:
+            yield f"heartbeats that bring nothing new, left out: {followed.left_out}"
+
+
+def span(word: str) -> list[str]:
+    found = re.fullmatch("([0-9]{1,9})(?:-([0-9]{1,9}))?", word, re.ASCII)
+    lines = [*map(str, range(int(found[1]), int(found[2] or found[1]) + 1))] if found else []
+    if not lines:
+        raise argparse.ArgumentTypeError(f"{word!r} isn't like 3-9 or 5")
+    return lines
+
+
+def parser(name: str, document: str) -> argparse.ArgumentParser:
+    return argparse.ArgumentParser(prog=f"tools/{name}", description=document, formatter_class=argparse.RawDescriptionHelpFormatter)
+
+
+def add_script(made: argparse.ArgumentParser) -> None:
+    """Words that name a script, and where its output comes from."""
+    made.add_argument("script", metavar="SCRIPT", help="lines for `coord run`, or a story where its name ends in .story; - is standard input")
+    outputs = made.add_mutually_exclusive_group()
+    outputs.add_argument("output", metavar="OUTPUT", nargs="?", help="what it printed; without it the rules in conformance/rules say so")
+    outputs.add_argument("--program", metavar="PATH", help="runs PATH run over the script, and takes its output")
+
+
+def read(path: str) -> tuple[list[bytes], Optional[Writer]]:
+    """The lines of a script, or those that a story stands for, with what has written them."""
+    lines, writer = lines_of(path), None
+    if path.endswith(".story"):
+        writer = Writer(path)
+        lines = [line.encode() for line in writer.write(lines)]
+    return lines, writer
+
+
+def story(asked: argparse.Namespace) -> Story:
+    lines, writer = read(asked.script)
+    if asked.output is not None:
+        printed = output_in(asked.output)
+    else:
+        printed = Output() if asked.program is None else output_of(asked.program, lines)
+    return tell(asked.script, lines, printed, writer)
+
+
+def run(name: str, lines: Callable[[], Iterable[str]]) -> int:
+    """Prints lines, and gives the status: 2 where they can't be made."""
+    try:
+        for line in lines():
+            sys.stdout.buffer.write(f"{line}\n".encode())
+        sys.stdout.flush()
+    except NoScript as wrong:
+        print(f"tools/{name}: {wrong}", file=sys.stderr)
+        return 2
+    except BrokenPipeError:
+        # Whoever read the lines has ended.
+        os.dup2(os.open(os.devnull, os.O_WRONLY), sys.stdout.fileno())
+        return 1
+    return 0
