@@ -8,6 +8,8 @@ use std::alloc::{AllocError, Global};
 use std::sync::Wait;
 use std::sync::ledger::Ledger;
 use std::test::Fail;
+use test_support::frames;
+use test_support::frames::JOINED;
 use test_support::tables::{Answers, cut, number, wrong_rows};
 use topic_meta::{Image, TopicEntry};
 use uuid::Uuid;
@@ -160,7 +162,8 @@ pub fn ask<A: Ledger, C: Ledger, R: Wait>(
     }
 }
 
-/// Appends what an answer is: `CODE@EPOCH:SHOWN` of a reply to a heartbeat, `closes`, `done:N` or `refused`.
+/// Appends what an answer is: `joined` where its bytes are those of the worked reply to a first join, `CODE@EPOCH:SHOWN` of another
+/// reply to a heartbeat, `closes`, `done:N` or `refused`.
 pub fn put_answer(alloc: Global, answer: &Answer, out: &mut String) -> Result<(), AllocError> {
     match answer {
         Answer::Replied(frame) => put_reply(alloc, frame.as_slice(), out),
@@ -171,6 +174,9 @@ pub fn put_answer(alloc: Global, answer: &Answer, out: &mut String) -> Result<()
 }
 
 fn put_reply(alloc: Global, frame: &[u8], out: &mut String) -> Result<(), AllocError> {
+    if frame == frames::frame_of(alloc, JOINED)?.as_slice() {
+        return out.push_str("joined");
+    }
     let body = frame.get(4..).unwrap_or(&[]);
     match read_reply(alloc, Api::Heartbeat, body) {
         Ok(reply) => put_fields(&reply, out),

@@ -24,8 +24,8 @@ use test_support::tables::{cut, number, part_words};
 /// - `SEAT tick SHARD MS`, `SEAT image SHARD COUNT`: the time of a shard goes on to MS ms, and a topic `t` of COUNT partitions comes to
 ///   it.
 ///
-/// The answer has for each event `CODE@EPOCH:SHOWN` of a reply, with the number of partitions that it shows, `closes`, `done:N`
-/// or `refused`; and the number of a fault where no shards or no seat are to be had. Behind `|` stands what each seat tells
+/// The answer has for each event `CODE@EPOCH:SHOWN` of a reply, with the number of partitions that it shows, `joined`, `closes`,
+/// `done:N` or `refused`; and the number of a fault where no shards or no seat are to be had. Behind `|` stands what each seat tells
 /// from which something was called: its number, its calls and its events that were kept. Then come the faults of closing without
 /// the last seat, where there is one, and with all seats; and at last what each shard tells to which something came: its number, its
 /// entries that were kept, `SEAT*COUNT` for each seat, the members of the groups `a`, `b` and `c` that are there, and what it answers
@@ -52,6 +52,13 @@ const SHARDS: &str = "
 1 2; seats 1; 0 ask a; 0 join a; 0 ask a = 0@1:0 0@2:0 refused | seat:0 2 2 short:2 closed:1 shard:0 2 0*2 a:2 refused*2
 ";
 
+/// The worked join, whose reply is told by its bytes, at a shard that keeps no entries and at one that keeps two. So few growths are
+/// made here that each can be refused.
+const CALLS: &str = "
+1 0; seats 1; 0 image 0 2; 0 join g = done:0 joined | seat:0 2 0 short:2 closed:1 shard:0 0 0*2 done:1*3
+1 2; seats 1; 0 image 0 2; 0 join g = done:0 joined | seat:0 2 2 short:2 closed:1 shard:0 2 0*2 refused*2
+";
+
 /// How many shards there are, how many entries the journal of each keeps, and what comes to them.
 #[derive(Clone, Copy)]
 struct Question<'a> {
@@ -62,15 +69,27 @@ struct Question<'a> {
 
 #[test]
 fn shards_answer_and_close(rt: HostRuntime) -> Result<(), Fail> {
-    let wrong = wrong_rows(&rt, rt.alloc(), RandomState::new(&rt)?)?;
+    let wrong = wrong_rows(&rt, rt.alloc(), RandomState::new(&rt)?, SHARDS)?;
     assert_eq!(rt; wrong.as_str(), "");
     Ok(())
 }
 
-/// The rows whose answer is another one, each with that answer.
-fn wrong_rows<R: Wait>(rt: &R, alloc: Global, hasher: RandomState) -> Result<String, AllocError> {
+#[test]
+fn calls_are_made_again(rt: HostRuntime) -> Result<(), Fail> {
+    let wrong = wrong_rows(&rt, rt.alloc(), RandomState::new(&rt)?, CALLS)?;
+    assert_eq!(rt; wrong.as_str(), "");
+    Ok(())
+}
+
+/// The rows of a table whose answer is another one, each with that answer.
+fn wrong_rows<R: Wait>(
+    rt: &R,
+    alloc: Global,
+    hasher: RandomState,
+    table: &str,
+) -> Result<String, AllocError> {
     let mut wrong = String::new(alloc);
-    for row in SHARDS.lines().filter(|row| !row.is_empty()) {
+    for row in table.lines().filter(|row| !row.is_empty()) {
         look(rt, alloc, hasher, row, &mut wrong)?;
     }
     Ok(wrong)
