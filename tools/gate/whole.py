@@ -28,6 +28,7 @@ in turn: check-failover --short
 beside: cases PROGRAM
 beside: cases BY_RATTLE
 beside: check-readme PROGRAM
+beside: refuse-growths --short
 beside: check-library
 beside: check-package PROGRAM
 beside: check-model
