@@ -70,3 +70,7 @@ pub mod LiveRuns
 pub mod SettlingEnds
 pub mod BroughtAgain
 pub mod GroupSteps
+pub mod Exchanges
+pub mod StaticSteps
+pub mod StaticMessages
+pub mod TakenOver

@@ -26,3 +26,4 @@ pub mod Viewing
 pub mod Places
 pub mod Existence
 pub mod GroupExamples
+pub mod StaticExamples

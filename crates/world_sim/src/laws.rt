@@ -7,6 +7,7 @@ ghost use Rattle.world_sim.specs.GroupExamples.{SomeMemberGivesUp, SomeOffsetIsS
 ghost use Rattle.world_sim.specs.Exclusivity.{ActsLawfully, Always, BringsHeld, CommitHeld, HoldApart, HoldGranted, ShowGranted, SinceGranted};
 ghost use Rattle.world_sim.specs.Invariant.{Keeps};
 ghost use Rattle.world_sim.specs.Laws.{OneOutcomeAnAct, OneRunOfActs};
+ghost use Rattle.world_sim.specs.StaticExamples.{SomeStaticMemberIsTakenOver};
 ghost use Rattle.world_sim.specs.Underway.{RoundsGo, RoundsKeepClients};
 ghost use Rattle.world_sim.specs.Viewing.{RepliesAreSpelled};
 
@@ -148,7 +149,8 @@ pub fn settling_ends()
 /// The laws aren't empty: in worlds that acts lead to a member holds a partition, two members of one group each hold one,
 /// a reply that may be taken shows one, a commit that is taken was made while one was held, one is brought and accepted twice, a
 /// target is renewed, a world with a member meets the condition of the three rounds, and three rounds are made in which a member
-/// gives up a partition that its target doesn't give it.
+/// gives up a partition that its target doesn't give it. In one run a static member goes away, another client takes its place over, and
+/// a client joins under a former member's id.
 pub fn the_laws_are_met()
     ensures holds { SomebodyHolds }
     ensures two_hold { TwoHold }
@@ -158,6 +160,7 @@ pub fn the_laws_are_met()
     ensures renews { SomeTargetIsRenewed }
     ensures settles { SomeWorldCanSettle }
     ensures moves { SomeRoundsMove }
+    ensures takes_over { SomeStaticMemberIsTakenOver }
 {}
 
 /// Nor are the laws of one group (`crates/group_types/src/laws.rt`): a member is asked to give up a partition, and by its next beat goes

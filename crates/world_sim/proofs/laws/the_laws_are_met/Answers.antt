@@ -1,4 +1,5 @@
 use Rattle.world_sim.proofs.BroughtAgain.{some_commit_is_brought_again}
+use Rattle.world_sim.proofs.TakenOver.{some_static_member_is_taken_over}
 use Rattle.world_sim.proofs.TwoHolders.{some_commit_is_taken, some_reply_shows, some_target_is_renewed, some_world_can_settle, some_rounds_move, somebody_holds, two_hold}
 use Rattle.world_sim.proofs.laws.the_laws_are_met.Goals as goal
 
@@ -25,3 +26,6 @@ returns-clause-settles c = some_world_can_settle
 
 pub returns-clause-moves : goal.returns-clause-moves
 returns-clause-moves c = some_rounds_move
+
+pub returns-clause-takes_over : goal.returns-clause-takes_over
+returns-clause-takes_over c = some_static_member_is_taken_over
