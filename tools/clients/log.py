@@ -7,7 +7,7 @@ from typing import Deque, Dict, Iterator, List, NamedTuple, Optional, Sequence, 
 from rules.fields import Reader
 from rules.messages import Commit, Heartbeat, read_commit_reply, read_heartbeat_reply, read_request
 
-HEARTBEAT = 68
+COMMIT, HEARTBEAT = 8, 68
 # A topic's id and an index.
 Partition = Tuple[bytes, int]
 

@@ -6,7 +6,7 @@ import time
 import uuid
 from typing import Awaitable, Callable, Counter, Dict, List, Optional, Set
 
-from clients.prints import Print
+from broker.trials.prints import Print
 from clients.stand import Topic
 from conformance.connection import Address
 from conformance.messages import OFFSET_FETCH, framed, header, offset_fetch_fields, read_offset_fetch_reply, reply_fields

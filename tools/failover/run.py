@@ -8,10 +8,10 @@ import pathlib
 import time
 from typing import Awaitable, Callable, Dict, Iterable, List, Sequence, Tuple, Union
 
-from clients import verdict
-from clients.prints import Print
+from broker.trials import verdict
+from broker.trials.prints import Print
+from broker.trials.trial import Crowd
 from clients.stand import TOP, Failed, Topic
-from clients.trial import Crowd
 from failover import waits
 from failover.brokers import Brokers, Channel, Gone
 from failover.etcds import Etcds
@@ -48,7 +48,6 @@ class Run(Crowd):
     async def begin(self) -> None:
         self.timer, self.began = waits.Timer(), time.monotonic()
         await self.brokers.begin()
-        self.logs = await asyncio.to_thread(Logs, self.etcds, self.brokers.library)
         for at, group in enumerate(GROUPS):
             for number, name in enumerate(self.names_of(group)):
                 # (The first of each group is our own, which sees when the group is answered.)
@@ -223,10 +222,10 @@ class Run(Crowd):
             by_group[self.groups[it.name]].append(it)
         verdict.judge_owners(self, by_group)
         verdict.judge_prints(self)
-        await asyncio.to_thread(self.logs.catch_up)
-        count, faults = self.logs.judge(self.folder / "frames.log")
+        logs = await asyncio.to_thread(Logs, self.etcds, self.brokers.library)
+        count, faults = logs.judge(self.folder / "frames.log")
         self.check(not faults, f"each of the {count} replies that passed is one of the logs' run{verdict.told(faults)}")
-        codes = self.logs.codes()
+        codes = logs.codes()
         self.check(not {*FENCED} & {*codes}, f"nobody is told 25 or 110 by the logs' run: codes {dict(sorted(codes.items()))}")
         results = self.results + ["FAILED" not in line for line in self.lines]
         used, hours = self.etcds.used() / 1e6, (time.monotonic() - self.began) / 3600

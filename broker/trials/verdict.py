@@ -3,10 +3,10 @@
 import collections
 from typing import Dict, List, Sequence, Tuple, Union
 
+from broker.trials.prints import Owners, Print, overlaps, records_read
+from broker.trials.trial import Crowd, Trial
 from clients.holds import Holds
 from clients.log import Beat, Committing
-from clients.prints import Owners, Print, overlaps, records_read
-from clients.trial import Crowd, Trial
 
 Exchanges = List[Union[Beat, Committing]]
 

@@ -3,15 +3,16 @@
 import collections
 import random
 import re
+import signal
 import subprocess
 import time
 from typing import Any, Callable, Dict, Iterable, List, NamedTuple, Sequence, Set, Tuple, Union
 
-from clients.consumers import Consumers
+from broker.trials.consumers import Consumers
+from broker.trials.roots import CLIENTS
+from broker.trials.trial import BOTH, Trial
 from clients.log import Beat, Committing
-from clients.roots import CLIENTS
 from clients.stand import HOST
-from clients.trial import BOTH, Trial
 from rules.messages import read_commit_reply
 
 SESSION, TICK, INTERVAL = 45.0, 0.5, 5.0
@@ -208,14 +209,14 @@ def stopped(t: Trial) -> None:
     t.expect("UNKNOWN_MEMBER_ID", "STALE_MEMBER_EPOCH", "SESSTMOUT", *BROKEN)
     group = settled(t, ("c1", "c2", "c3"), *(["-l"] if t.client != "confluent" else []))
     late = t.commits("c2")[-1].frame
-    stop = t.pause(group["c2"])
+    stop = t.stop(group["c2"])
     group["c2"].say("commit c2")
     time.sleep(60)
     t.check(not t.problem(BOTH, ("c1", "c3")), "60 s later the others have all")
     t.note(f"they had it {max(it.moment for it in t.of('ASSIGN', since=stop)) - stop:.2f} s after the stop")
     told = read_commit_reply(t.stand.send(late)[4:])
     t.check(0 not in told, f"a commit of its comes once more, over another connection: {sorted({*told})}")
-    back = group["c2"].go_on()
+    back = group["c2"].signal(signal.SIGCONT)
     t.wait_for(lambda: t.of("ASSIGN", "c2", back), 30, "c2 is assigned partitions again")
     t.quiet(BOTH, "after c2's return", back)
     losses = [round(it.moment - back, 2) for it in t.of("LOST", "c2", back)]
@@ -380,7 +381,7 @@ def coordinator_restarts(t: Trial) -> None:
     group = settled(t, ("c1", "c2", "c3"))
     for away in (0, 8):
         moment = time.time()
-        t.stand.kill_coordinator()
+        t.stand.send_signal("coordinator-0", signal.SIGKILL)
         time.sleep(away)
         t.stand.serve()
         back = time.time()

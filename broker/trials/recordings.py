@@ -3,9 +3,9 @@
 import time
 from typing import Any, Callable, Dict, List, NamedTuple, Tuple
 
-from clients.consumers import Consumers
+from broker.trials.consumers import Consumers
+from broker.trials.trial import Trial
 from clients.stand import Topic
-from clients.trial import Trial
 
 INTERVAL = 5.0
 ORDERS = Topic("orders", "aaaaaaaa-0000-4000-8000-000000000001", 4)
