@@ -11,7 +11,7 @@ from typing import Any, Callable, Dict, Iterable, List, NamedTuple, Sequence, Se
 from broker.trials.consumers import Consumers
 from broker.trials.roots import CLIENTS
 from broker.trials.trial import BOTH, Trial
-from clients.log import Beat, Committing
+from clients.log import Exchange
 from clients.stand import HOST
 from rules.messages import read_commit_reply
 
@@ -368,10 +368,10 @@ def late_request(t: Trial, kind: str) -> str:
     return outcome([it for it in t.exchanges("c1") if it.connection == former and it.sent >= moment + LATE - 1][0])
 
 
-def outcome(it: Union[Beat, Committing]) -> str:
+def outcome(it: Exchange) -> str:
     if not it.is_answered():
         return "closes" if it.closes else "no reply"
-    return f"code {it.told.code}" if isinstance(it, Beat) else f"codes {sorted({*it.codes})}"
+    return f"code {it.told.code}" if not it.is_commit else f"codes {sorted({*it.codes})}"
 
 
 def coordinator_restarts(t: Trial) -> None:

@@ -12,7 +12,7 @@ from typing import Any, Callable, Counter, Dict, Iterator, List, Optional, Seque
 from broker.trials.consumers import Consumers
 from broker.trials.prints import CHANGES, Print, partitions_of
 from broker.trials.roots import CLIENTS, CONSUMER
-from clients.log import Beat, Committing, read_exchanges
+from clients.log import Exchange, read_exchanges
 from clients.stand import HOST, Stand, Topic
 
 ORDERS = Topic("orders", "aaaaaaaa-0000-4000-8000-000000000001", 12)
@@ -189,18 +189,18 @@ class Trial(Crowd):
         """The client is librdkafka 2.8.0, or one as old."""
         return any(it.text.startswith("2.8.") for it in self.of("START"))
 
-    def exchanges(self, client: str = "", since: float = 0.0) -> List[Union[Beat, Committing]]:
+    def exchanges(self, client: str = "", since: float = 0.0) -> List[Exchange]:
         """What has come to the coordinator from this client id, and wasn't answered before a moment."""
         found = read_exchanges(str(self.folder / "frames.log"))
         return [it for it in found if client in ("", it.head.client) and it.answered >= since]
 
-    def heartbeats(self, client: str = "", since: float = 0.0) -> List[Beat]:
+    def heartbeats(self, client: str = "", since: float = 0.0) -> List[Exchange]:
         """The heartbeats that were answered."""
-        return [it for it in self.exchanges(client, since) if isinstance(it, Beat) and it.is_answered()]
+        return [it for it in self.exchanges(client, since) if not it.is_commit and it.is_answered()]
 
-    def commits(self, client: str = "", since: float = 0.0) -> List[Committing]:
+    def commits(self, client: str = "", since: float = 0.0) -> List[Exchange]:
         """The commits that were answered."""
-        return [it for it in self.exchanges(client, since) if isinstance(it, Committing) and it.is_answered()]
+        return [it for it in self.exchanges(client, since) if it.is_commit and it.is_answered()]
 
     def end(self) -> None:
         self.close_all()

@@ -6,10 +6,7 @@ from typing import Dict, List, Sequence, Tuple, Union
 from broker.trials.prints import Owners, Print, overlaps, records_read
 from broker.trials.trial import Crowd, Trial
 from clients.holds import Holds
-from clients.log import Beat, Committing
-
-Exchanges = List[Union[Beat, Committing]]
-
+from clients.log import Exchange
 
 def judge(trial: Trial) -> None:
     exchanges = trial.exchanges()
@@ -49,7 +46,7 @@ def is_right(it: Print) -> bool:
     return value == f"{topic}/{index}/{offset}"
 
 
-def judge_frames(trial: Trial, exchanges: Exchanges) -> None:
+def judge_frames(trial: Trial, exchanges: List[Exchange]) -> None:
     holds = Holds({topic.name: topic.id for topic in trial.topics.values()}).walk(exchanges, trial.restarts)
     trial.check(not holds.faults, f"by the frames: nothing granted while held, no commit taken of what isn't held{told(holds.faults)}")
     trial.note(f"heartbeat codes {dict(sorted(holds.heartbeat_codes.items()))}, commit codes {dict(sorted(holds.commit_codes.items()))}")
@@ -58,12 +55,12 @@ def judge_frames(trial: Trial, exchanges: Exchanges) -> None:
         trial.check(not closes, f"the coordinator closed no connection{told(closes)}")
 
 
-def judge_reading(trial: Trial, group: str, prints: List[Print], exchanges: Exchanges) -> None:
+def judge_reading(trial: Trial, group: str, prints: List[Print], exchanges: List[Exchange]) -> None:
     """Each record below the last offset that was committed was read by somebody of the group."""
     read = records_read(prints)
     committed: Dict[Tuple[str, int], int] = {}
     for it in exchanges:
-        if isinstance(it, Committing) and it.asked.group == group:
+        if it.is_commit and it.asked.group == group:
             parts = [(name, *part) for name, parts in it.asked.topics for part in parts]
             committed.update({(name, index): offset for (name, index, offset, *_), code in zip(parts, it.codes) if code == 0})
     if read:

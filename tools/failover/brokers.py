@@ -116,6 +116,12 @@ class Brokers(Programs):
         words += ["--lease", str(self.lease), "--rate", "5", "--port", str(self.fronts[slot]), "--status", str(self.pages[slot])]
         await asyncio.to_thread(self.start, str(slot), "listening", [*words, "--library", self.library, self.topic.word()], self.top)
 
+    async def add_one(self) -> int:
+        """Starts one more, in a slot that is free."""
+        new = min({*range(SLOTS)} - {*self.slots()})
+        await self.start_one(new)
+        return new
+
     def slots(self) -> List[int]:
         return sorted(int(name) for name in self.running if name.isdigit())
 

@@ -8,6 +8,8 @@ import contextlib
 import ctypes
 import dataclasses
 import os
+import pathlib
+import resource
 import shutil
 import signal
 import subprocess
@@ -110,6 +112,19 @@ def processes() -> Iterator[Tuple[int, int, int]]:
                 state, parent, _, session = file.read().rpartition(")")[2].split()[:4]
             if state != "Z":
                 yield int(name), int(parent), int(session)
+
+
+def processor_seconds(number: int) -> float:
+    """The processor time that a process has taken; 0 of none."""
+    if not number:
+        return 0.0
+    fields = pathlib.Path(f"/proc/{number}/stat").read_text(encoding="utf-8").rpartition(")")[2].split()
+    return (int(fields[11]) + int(fields[12])) / os.sysconf("SC_CLK_TCK")
+
+
+def memory_of(number: int) -> int:
+    """The bytes that a process has in memory."""
+    return int(pathlib.Path(f"/proc/{number}/statm").read_text(encoding="ascii").split()[1]) * resource.getpagesize()
 
 
 def below(number: int) -> Set[int]:
