@@ -8,7 +8,6 @@ import contextlib
 import hashlib
 import os
 import pathlib
-import shutil
 import subprocess
 from typing import Sequence
 
@@ -95,8 +94,6 @@ def copy(tree: crates.Tree, folder: str, name: str) -> crates.Tree:
     """Copies the sources of a crate and of those below it, without what was built of them."""
     names = [*tree.below(name), name]
     for crate in names:
-        os.makedirs(f"{folder}/crates/{crate}")
-        for part in (it for it in crates.PARTS if os.path.isdir(f"{tree.folder(crate)}/{it}")):
-            shutil.copytree(f"{tree.folder(crate)}/{part}", f"{folder}/crates/{crate}/{part}", symlinks=True)
+        tree.lay(crate, f"{folder}/crates/{crate}")
     pathlib.Path(folder, "crates.txt").write_text("".join(f"{it}: {' '.join(tree.uses[it])}\n" for it in names))
     return crates.Tree(folder, tree.kit)
