@@ -1,26 +1,26 @@
 """What must hold at the end of every trial."""
 
 import collections
-from typing import Dict, List, Sequence, Tuple, Union
+from typing import Dict, List, Sequence, Tuple
 
 from broker.trials.prints import Owners, Print, overlaps, records_read
 from broker.trials.trial import Crowd, Trial
 from clients.holds import Holds
 from clients.log import Exchange
 
+
 def judge(trial: Trial) -> None:
     exchanges = trial.exchanges()
-    by_group: Dict[str, List[Print]] = collections.defaultdict(list)
-    for it in trial.prints:
-        by_group[trial.groups[it.name]].append(it)
-    judge_owners(trial, by_group)
-    judge_prints(trial)
     judge_frames(trial, exchanges)
-    for group, prints in by_group.items():
+    for group, prints in judge_prints(trial).items():
         judge_reading(trial, group, prints, exchanges)
 
 
-def judge_owners(trial: Crowd, by_group: Dict[str, List[Print]]) -> None:
+def judge_prints(trial: Crowd) -> Dict[str, List[Print]]:
+    """What consumers have printed, by their groups."""
+    by_group: Dict[str, List[Print]] = collections.defaultdict(list)
+    for it in trial.prints:
+        by_group[trial.groups[it.name]].append(it)
     groups = [Owners(prints, trial.ends) for prints in by_group.values()]
     pairs = [pair for of in groups for pair in overlaps(of.spans)]
     faults = [fault for of in groups for fault in of.faults]
@@ -31,13 +31,11 @@ def judge_owners(trial: Crowd, by_group: Dict[str, List[Print]]) -> None:
     if late:
         trial.note(f"consumers that were closing were assigned {late} partitions, which isn't counted")
     trial.check(not faults, f"each gave up what it had, and was assigned what it hadn't{told(faults)}")
-
-
-def judge_prints(trial: Crowd) -> None:
     wrong = [it for it in trial.prints if it.kind == "WRONG" or it.kind == "RECORD" and not is_right(it)]
     trial.check(not wrong, f"each record was the right one{told(wrong)}")
     errors = [it for it in trial.prints if it.kind in ("ERROR", "FATAL") and not any(word in it.text for word in trial.expected)]
     trial.check(not errors, f"no error but those that belong here{told(errors)}")
+    return by_group
 
 
 def is_right(it: Print) -> bool:

@@ -5,7 +5,7 @@ brokers   the brokers, a relay before them, and wires to each etcd that can be c
 member    a consumer that is played
 faults    the faults, as a table
 waits     how long programs had to wait for the machine
-planted   brokers with a planted fault, which have to be found
+planted.txt   faults that are planted in brokers, and have to be found
 logs      the logs in etcd, run through the library, beside the frames that passed
 run       consumers in groups, the faults brought to them, and what must hold
 """

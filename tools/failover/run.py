@@ -100,9 +100,6 @@ class Run(Crowd):
             even = collections.Counter({TOPIC.count // len(names): len(names)})
             await self.until(lambda: not self.problem([TOPIC.name], names) and self.counts(names) == even, f"{group} settles")
 
-    async def all_lead(self) -> bool:
-        return all([await self.brokers.leads(slot) for slot in self.brokers.slots()])
-
     async def disturb(self, group: str, kind: str) -> None:
         """The last member leaves, and another one joins once the others have what it had. So each of these is to give something up, and one of ours
         holds on to it."""
@@ -125,8 +122,9 @@ class Run(Crowd):
         number, faults, began = len(self.results), len(self.faults), time.monotonic()
         said = f"{name} {number + 1}"
         try:
-            await self.until(self.all_lead, "each broker leads a part")
             slots = self.brokers.slots()
+            for slot in slots:
+                await self.until(functools.partial(self.brokers.leads, slot), "each broker leads a part")
             slot = slots[number % len(slots)]
             led = [group for group in GROUPS if await self.brokers.leader_of(group) == slot] or GROUPS
             group, kind = led[number // len(slots) % len(led)], self.kinds[number % len(self.kinds)]
@@ -144,7 +142,8 @@ class Run(Crowd):
     async def watch(self, fault: Fault, slot: int, group: str) -> str:
         """What was seen, in words."""
         steady = [it for it in GROUPS if it != group]
-        before = {it.name: (it.client.id, it.client.epoch) for it in self.own_of(steady)}
+        epochs = lambda: {it.name: (it.client.id, it.client.epoch) for it in self.own_of(steady)}
+        before = epochs()
         began, waited, late = time.time(), self.waited(), self.timer.late
         asyncio.get_running_loop().call_later(HOLD_SECONDS, self.let_go)
         await fault.act(self.brokers, slot)
@@ -154,12 +153,14 @@ class Run(Crowd):
         took = max((it.moment - began for it in self.changes(began)), default=0.0)
         gaps = {it: self.gap(it, began) for it in GROUPS}
         slack = self.timer.late - late + sum(waits.most(some, more) for some, more in zip(waited, self.waited()))
-        self.judge_gaps(gaps, fault, slack)
+        # (Where programs have to wait for the machine, it may take so much longer.)
+        most = self.brokers.lease + fault.most + slack
+        for it, gap in gaps.items():
+            self.want(fault.least <= gap <= most, f"{it} had no answer for {gap:.1f} s, where {fault.least:g} to {most:.1f} may be")
         self.judge_changes(steady, began)
         stopped = await asyncio.to_thread(self.brokers.stopped)
         self.want(not stopped, f"a broker can't apply a log any further{verdict.told(stopped)}")
-        after = {it.name: (it.client.id, it.client.epoch) for it in self.own_of(steady)}
-        self.want(before == after, f"groups without a rebalance have other epochs: {before}, then {after}")
+        self.want(before == epochs(), f"groups without a rebalance have other epochs: {before}, then {epochs()}")
         await self.judge_commits()
         return f": unanswered for {max(gaps.values()):.1f} s at most, the last move after {took:.1f} s (programs waited {slack:.1f} s for the machine)"
 
@@ -177,12 +178,6 @@ class Run(Crowd):
         brokers = [it.pid for name, it in self.brokers.running.items() if name.isdigit()]
         kinds = brokers, [it.pid for it in self.etcds.running.values()], [self.brokers.running["relay"].pid]
         return [waits.of_processors(numbers) for numbers in kinds]
-
-    def judge_gaps(self, gaps: Dict[str, float], fault: Fault, slack: float) -> None:
-        """Where programs have to wait for the machine, it may take so much longer."""
-        most = self.brokers.lease + fault.most + slack
-        for group, gap in gaps.items():
-            self.want(fault.least <= gap <= most, f"{group} had no answer for {gap:.1f} s, where {fault.least:g} to {most:.1f} may be")
 
     def judge_changes(self, steady: Sequence[str], began: float) -> None:
         for it in self.changes(began):
@@ -217,10 +212,6 @@ class Run(Crowd):
     async def judge_all(self) -> None:
         """What was printed and what passed, from the beginning to the end. It ends all but etcd, and prints the last line."""
         await self.end_consumers()
-        by_group: Dict[str, List[Print]] = collections.defaultdict(list)
-        for it in self.prints:
-            by_group[self.groups[it.name]].append(it)
-        verdict.judge_owners(self, by_group)
         verdict.judge_prints(self)
         logs = await asyncio.to_thread(Logs, self.etcds, self.brokers.library)
         count, faults = logs.judge(self.folder / "frames.log")
