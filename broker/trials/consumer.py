@@ -162,15 +162,17 @@ INT, TEXT, SIZE, OFFSET, HANDLE = ctypes.c_int, ctypes.c_char_p, ctypes.c_size_t
 
 
 class Partition(ctypes.Structure):
-    _fields_ = [("topic", TEXT), ("index", INT), ("offset", OFFSET), ("metadata", HANDLE), ("metadata_size", SIZE), ("_", HANDLE), ("code", INT), ("__", HANDLE)]
+    _fields_ = [("topic", TEXT), ("index", INT), ("offset", OFFSET)]
+    _fields_ += [("metadata", HANDLE), ("metadata_size", SIZE), ("opaque", HANDLE), ("code", INT), ("private", HANDLE)]
 
 
 class Partitions(ctypes.Structure):
-    _fields_ = [("count", INT), ("_", INT), ("parts", ctypes.POINTER(Partition))]
+    _fields_ = [("count", INT), ("room", INT), ("parts", ctypes.POINTER(Partition))]
 
 
 class Message(ctypes.Structure):
-    _fields_ = [("code", INT), ("topic", HANDLE), ("index", INT), ("value", HANDLE), ("size", SIZE), ("_", HANDLE), ("__", SIZE), ("offset", OFFSET), ("___", HANDLE)]
+    _fields_ = [("code", INT), ("topic", HANDLE), ("index", INT), ("value", HANDLE), ("size", SIZE)]
+    _fields_ += [("key", HANDLE), ("key_size", SIZE), ("offset", OFFSET), ("private", HANDLE)]
 
 
 LIST, PART, MESSAGE = (ctypes.POINTER(it) for it in (Partitions, Partition, Message))

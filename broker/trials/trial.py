@@ -48,6 +48,8 @@ class Crowd:
         self.last_change = time.time()
         self.consumers: List[Consumers] = []
         self.groups: Dict[str, str] = {}
+        # After how many seconds all was quiet, each time that somebody came.
+        self.took: List[float] = []
         # Moments at which a consumer's ownership ends whatever it prints, and the errors that clients may meet here.
         self.ends: Dict[str, List[float]] = collections.defaultdict(list)
         self.expected: Set[str] = set()
@@ -61,11 +63,17 @@ class Crowd:
         given = [f"{key.replace('_', '.')}={value}" for key, value in settings.items() if value is not None]
         if "group_remote_assignor" not in settings:
             given += of.settings
-        words = ["chroot", str(self.roots / of.release), "python3", f"/{CONSUMER.name}", *of.words, *map(str, options), *(["-n", str(count)] if count else [])]
+        words = ["chroot", str(self.roots / of.release), "python3", f"/{CONSUMER.name}", *of.words, *map(str, options), "-n", str(count)]
         words += [name, topics, f"bootstrap.servers={self.bootstrap}", f"group.id={group}", *given]
         made = Consumers(words, name, count, self.folder / f"{len(self.consumers)}-{name}.txt", self.take)
         self.groups.update(dict.fromkeys(made.names, group))
         self.consumers.append(made)
+        return made
+
+    def come(self, name: str, what: str, *options: object, topics: str = "orders,bills", limit: float = 120, **settings: Any) -> Consumers:
+        """Starts a consumer, or several, and waits until all is quiet."""
+        made = self.start(name, *options, topics=topics, **settings)
+        self.took.append(self.quiet(topics.split(","), what, made.started, limit))
         return made
 
     def kill(self, it: Consumers) -> float:
@@ -135,25 +143,25 @@ class Crowd:
                 self.lock.wait(0.2)
         return True
 
-    def problem(self, topics: Sequence[str], names: Optional[Sequence[str]] = None) -> str:
+    def problem(self, topics: Sequence[str], names: Sequence[str] = ()) -> str:
         """Why it isn't so that each partition of these topics has exactly one owner; nothing where it is."""
         with self.lock:
             every = {f"{name}:{index}" for name in topics for index in range(self.topics[name].count)}
-            owners = collections.Counter(p for name, parts in self.owned.items() if names is None or name in names for p in parts)
+            owners = collections.Counter(p for name, parts in self.owned.items() if not names or name in names for p in parts)
         twice = sorted(p for p, count in owners.items() if count > 1)
         kinds = {"twice": twice, "missing": sorted(every - {*owners}), "of other topics": sorted({*owners} - every)}
         return "; ".join(f"{len(them)} {kind}, {them[0]} among them" for kind, them in kinds.items() if them)
 
-    def counts(self, names: Optional[Sequence[str]] = None) -> Counter:
+    def counts(self, names: Sequence[str] = ()) -> Counter:
         with self.lock:
-            return collections.Counter(len(parts) for name, parts in self.owned.items() if names is None or name in names)
+            return collections.Counter(len(parts) for name, parts in self.owned.items() if not names or name in names)
 
-    def uneven(self, names: Optional[Sequence[str]] = None) -> str:
+    def uneven(self, names: Sequence[str] = ()) -> str:
         """How many partitions how many consumers own, where that is more or less than one apart."""
         counts = self.counts(names)
         return f"the counts are {dict(counts)}" if counts and max(counts) - min(counts) > 1 else ""
 
-    def quiet(self, topics: Sequence[str], what: str, since: float, limit: float = 120, even: bool = True, names: Optional[List[str]] = None) -> float:
+    def quiet(self, topics: Sequence[str], what: str, since: float, limit: float = 120, even: bool = True, names: Sequence[str] = ()) -> float:
         """Waits until each partition has exactly one owner, all have as many but for one, and nothing has changed for a while.
         Gives the seconds from `since` to the last change."""
         until, fault = time.time() + limit, lambda: self.problem(topics, names) or (self.uneven(names) if even else "")

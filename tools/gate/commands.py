@@ -85,15 +85,14 @@ def set_nice_of_session(leader: int, nice: int) -> None:
     """Linux shares the processors out to sessions first, by a value of theirs (sched(7), "The autogroup feature")."""
     for _ in range(10):
         try:
-            with open(f"/proc/{leader}/autogroup", "w", encoding="ascii") as value:
-                value.write(str(nice))
+            pathlib.Path(f"/proc/{leader}/autogroup").write_text(str(nice), encoding="ascii")
         except BlockingIOError:
             # Who isn't root may set one such value in a tenth of a second.
             time.sleep(0.1)
-            continue
         except OSError:
-            pass
-        return
+            break
+        else:
+            break
 
 
 def wait_for(child: subprocess.Popen) -> Tuple[int, float]:
@@ -107,9 +106,9 @@ def processes() -> Iterator[Tuple[int, int, int]]:
     """The processes of the machine that have not ended: number, parent and session."""
     for name in filter(str.isdigit, os.listdir("/proc")):
         with contextlib.suppress(OSError):
-            with open(f"/proc/{name}/stat", encoding="utf-8", errors="replace") as file:
-                # The program's name stands in brackets, and can have spaces and brackets itself.
-                state, parent, _, session = file.read().rpartition(")")[2].split()[:4]
+            # The program's name stands in brackets, and can have spaces and brackets itself.
+            stat = pathlib.Path(f"/proc/{name}/stat").read_text(encoding="utf-8", errors="replace")
+            state, parent, _, session = stat.rpartition(")")[2].split()[:4]
             if state != "Z":
                 yield int(name), int(parent), int(session)
 
