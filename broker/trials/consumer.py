@@ -355,8 +355,8 @@ class Confluent:
         self.of.gives_up([(it.topic, it.partition) for it in parts], is_lost)
         kafka.incremental_unassign(parts)
 
-    def commit(self, places: Dict[Key, Place], metadata: str, _: bool) -> None:
-        parts = [self.module.TopicPartition(*key, it.next, metadata=metadata or None, leader_epoch=it.leader_epoch) for key, it in places.items()]
+    def commit(self, places: Dict[Key, Place], *_: object) -> None:
+        parts = [self.module.TopicPartition(*key, it.next) for key, it in places.items()]
         try:
             refused = [it.error for it in self.kafka.commit(offsets=parts, asynchronous=False) if it.error is not None]
         except self.module.KafkaException as fault:
@@ -367,8 +367,7 @@ class Confluent:
         read = self.kafka.poll(POLL_MS / 1000)
         if read is None or read.error():
             return read and self.fault(read.error())
-        epoch = read.leader_epoch()
-        return Record((read.topic(), read.partition()), read.offset(), -1 if epoch is None else epoch, read.value().decode())
+        return Record((read.topic(), read.partition()), read.offset(), -1, read.value().decode())
 
     def close(self) -> None:
         self.kafka.close()

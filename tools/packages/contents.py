@@ -78,7 +78,7 @@ def files_of(program: pathlib.Path, library: pathlib.Path, version: str, seconds
     shared += (TOP / "stories").glob("*.py")
     for name in programs():
         files[f"bin/migwelun-{name}"] = Entry((FILES / "python-program").read_bytes(), 0o755)
-        shared += [it for ending in ("py", "html", "md", "txt") for it in (TOP / name).glob(f"**/*.{ending}") if not {"tests", "trials"} & {*it.parts}]
+        shared += [it for ending in ("py", "html", "md", "txt") for it in (TOP / name).glob(f"**/*.{ending}") if not {"tests", "trials", "failover"} & {*it.parts}]
     for name in filter(lambda it: (TOP / "tools" / it).is_file(), TOOLS):
         shared.append(TOP / "tools" / name)
         files[f"bin/migwelun-{name}"] = Entry(link=f"../share/migwelun/tools/{name}")

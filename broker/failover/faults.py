@@ -6,7 +6,7 @@ import time
 from typing import Awaitable, Callable, Dict, NamedTuple, Sequence
 
 from clients.stand import Failed, Programs
-from failover.brokers import Brokers
+from broker.failover.brokers import Brokers
 
 # A time longer than a session, how long all is down, and how long a new broker may wait for a leadership.
 LONG_SECONDS, DOWN_SECONDS, SPREAD_SECONDS = 60, 120, 30

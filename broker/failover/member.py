@@ -10,7 +10,7 @@ from broker.trials.prints import Print
 from clients.stand import Topic
 from conformance.connection import Address
 from conformance.messages import OFFSET_FETCH, framed, header, offset_fetch_fields, read_offset_fetch_reply, reply_fields
-from failover.brokers import Channel, Gone
+from broker.failover.brokers import Channel, Gone
 from rules.client import FENCED, INSIDE, OUTSIDE, Client
 from rules.messages import Commit, read_commit_reply, read_heartbeat_reply
 

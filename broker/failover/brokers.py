@@ -15,7 +15,7 @@ from clients.relay import read_frame
 from clients.stand import HOST, Ports, Programs, Topic
 from conformance.connection import Address
 from conformance.messages import FIND_COORDINATOR, find_coordinator_fields, framed, header, read_find_coordinator_reply, reply_fields
-from failover.etcds import Etcds
+from broker.failover.etcds import Etcds
 
 # How many brokers there are, how many there may be where one is added, and into how many parts the groups are divided.
 BROKERS, SLOTS, PARTS = 3, 4, 6

@@ -12,12 +12,12 @@ from broker.trials import verdict
 from broker.trials.prints import Print
 from broker.trials.trial import Crowd
 from clients.stand import TOP, Failed, Topic
-from failover import waits
-from failover.brokers import Brokers, Channel, Gone
-from failover.etcds import Etcds
-from failover.faults import FAULTS, Fault
-from failover.logs import Logs
-from failover.member import ANSWER_SECONDS, Member, committed
+from broker.failover import waits
+from broker.failover.brokers import Brokers, Channel, Gone
+from broker.failover.etcds import Etcds
+from broker.failover.faults import FAULTS, Fault
+from broker.failover.logs import Logs
+from broker.failover.member import ANSWER_SECONDS, Member, committed
 from rules.client import FENCED
 
 TOPIC = Topic("orders", "aaaaaaaa-0000-4000-8000-000000000001", 12)

@@ -6,9 +6,9 @@ import time
 from typing import Dict, List
 
 from clients.stand import HOST, TOP, Failed, Ports, Programs
-from failover.brokers import PARTS
-from failover.etcds import Etcds, text
-from failover.run import TOPIC
+from broker.failover.brokers import PARTS
+from broker.failover.etcds import Etcds, text
+from broker.failover.run import TOPIC
 from gate import commands
 
 CONSUMERS, SECONDS, LEAD_SECONDS, APPENDS = (1, 20, 200), 5, 30, 300

@@ -10,8 +10,8 @@ from broker.batches import LOGS, decode, part_and_place
 from broker.embedded import module
 from broker.settings import KEY
 from clients.log import COMMIT, HEARTBEAT, head_of, read_events
-from failover.etcds import Etcds, text
-from failover.member import NOT_HERE
+from broker.failover.etcds import Etcds, text
+from broker.failover.member import NOT_HERE
 from rules.messages import read_commit_reply, read_heartbeat_reply
 
 # Where the body of a frame's entry begins. Each part has a salt of its own. How many batches are read at a time.
