@@ -20,7 +20,6 @@ from broker.failover.etcds import Etcds
 # How many brokers there are, how many there may be where one is added, and into how many parts the groups are divided.
 BROKERS, SLOTS, PARTS = 3, 4, 6
 FIND_VERSION, FIND_SECONDS, PAGE_SECONDS = 2, 0.5, 30
-NO_ROOM = "no room"
 
 
 class Gone(Exception):
@@ -143,10 +142,6 @@ class Brokers(Programs):
     def page(self, slot: int) -> str:
         with urllib.request.urlopen(f"http://{HOST}:{self.pages[slot]}/groups", timeout=PAGE_SECONDS) as page:
             return page.read().decode()
-
-    def says_full(self, slot: int) -> bool:
-        """Whether a broker says that etcd has no room, in a line and on its page."""
-        return NO_ROOM in self.page(slot) and NO_ROOM in (self.folder / f"{slot}.txt").read_text(encoding="utf-8")
 
     def stopped(self) -> List[str]:
         """The parts that have stopped in a broker, and why."""

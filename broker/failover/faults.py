@@ -92,9 +92,9 @@ async def replace(it: Brokers, slot: int) -> None:
 async def fill_etcd(it: Brokers, slot: int) -> None:
     await asyncio.to_thread(it.etcds.fill)
     await asyncio.sleep(2 * it.lease)
-    says = it.says_full(slot)
+    said = it.page(slot), (it.folder / f"{slot}.txt").read_text(encoding="utf-8")
     await asyncio.to_thread(it.etcds.empty)
-    if not says:
+    if not all("no room" in text for text in said):
         raise Failed("no line and no page says that etcd has no room")
 
 

@@ -1,4 +1,4 @@
-"""A consumer that is played. It follows KIP-848, commits what it would have read, and prints what happens to it as the consumers of broker/trials do."""
+"""A consumer that is played. It follows KIP-848, commits what it would have read, and prints what those of broker/trials print."""
 
 import asyncio
 import collections

@@ -26,7 +26,6 @@ import queue
 import sys
 import threading
 import time
-import types
 from typing import Dict, Iterable, List, NamedTuple, Optional, Tuple, Union
 
 POLL_MS = 50
@@ -158,12 +157,16 @@ class Consumer:
 # ---- librdkafka
 
 
-INT, TEXT, SIZE, OFFSET, HANDLE = ctypes.c_int, ctypes.c_char_p, ctypes.c_size_t, ctypes.c_int64, ctypes.c_void_p
+class Handle(ctypes.c_void_p):
+    """(Of a type of its own it stays one, and is no number of Python, which would be passed as 32 bits.)"""
+
+
+INT, TEXT, SIZE, OFFSET = ctypes.c_int, ctypes.c_char_p, ctypes.c_size_t, ctypes.c_int64
 
 
 class Partition(ctypes.Structure):
     _fields_ = [("topic", TEXT), ("index", INT), ("offset", OFFSET)]
-    _fields_ += [("metadata", HANDLE), ("metadata_size", SIZE), ("opaque", HANDLE), ("code", INT), ("private", HANDLE)]
+    _fields_ += [("metadata", ctypes.c_void_p), ("metadata_size", SIZE), ("opaque", Handle), ("code", INT), ("private", Handle)]
 
 
 class Partitions(ctypes.Structure):
@@ -171,52 +174,37 @@ class Partitions(ctypes.Structure):
 
 
 class Message(ctypes.Structure):
-    _fields_ = [("code", INT), ("topic", HANDLE), ("index", INT), ("value", HANDLE), ("size", SIZE)]
-    _fields_ += [("key", HANDLE), ("key_size", SIZE), ("offset", OFFSET), ("private", HANDLE)]
+    _fields_ = [("code", INT), ("topic", Handle), ("index", INT), ("value", ctypes.c_void_p), ("size", SIZE)]
+    _fields_ += [("key", Handle), ("key_size", SIZE), ("offset", OFFSET), ("private", Handle)]
 
 
 LIST, PART, MESSAGE = (ctypes.POINTER(it) for it in (Partitions, Partition, Message))
-# The functions rd_kafka_NAME: what each gives, and what it takes.
-CALLS = {
-    "conf_new": (HANDLE,),
-    "conf_set": (INT, HANDLE, TEXT, TEXT, TEXT, SIZE),
-    **{f"conf_set_{it}_cb": (None, HANDLE, HANDLE) for it in ("rebalance", "offset_commit", "error", "log")},
-    "new": (HANDLE, INT, HANDLE, TEXT, SIZE),
-    "version_str": (TEXT,),
-    "err2name": (TEXT, INT),
-    "fatal_error": (INT, HANDLE, TEXT, SIZE),
-    "error_string": (TEXT, HANDLE),
-    **{it: (INT, HANDLE) for it in ("poll_set_consumer", "unsubscribe", "assignment_lost", "consumer_close")},
-    **{it: (INT, HANDLE, LIST) for it in ("subscribe", "assign")},
-    **{f"incremental_{it}": (HANDLE, HANDLE, LIST) for it in ("assign", "unassign")},
-    "rebalance_protocol": (TEXT, HANDLE),
-    "commit": (INT, HANDLE, LIST, INT),
-    "consumer_poll": (MESSAGE, HANDLE, INT),
-    "message_destroy": (None, MESSAGE),
-    "message_errstr": (TEXT, MESSAGE),
-    "message_leader_epoch": (INT, MESSAGE),
-    "topic_name": (TEXT, HANDLE),
-    "topic_partition_list_new": (LIST, INT),
-    "topic_partition_list_add": (PART, LIST, TEXT, INT),
-    "topic_partition_list_destroy": (None, LIST),
-    "topic_partition_set_leader_epoch": (None, PART, INT),
-    "destroy": (None, HANDLE),
+# What the functions rd_kafka_NAME give that don't give a number.
+RESULTS = {
+    Handle: "conf_new new incremental_assign incremental_unassign",
+    TEXT: "version_str err2name error_string rebalance_protocol message_errstr topic_name",
+    LIST: "topic_partition_list_new",
+    PART: "topic_partition_list_add",
+    MESSAGE: "consumer_poll",
 }
 # A rebalance, a commit and an error are told by the handle, a code, the partitions or a text, and nothing of ours.
-OF_PARTITIONS, OF_ERROR, OF_LOG = (ctypes.CFUNCTYPE(None, HANDLE, INT, it, HANDLE) for it in (LIST, TEXT, TEXT))
+OF_PARTITIONS, OF_ERROR, OF_LOG = (ctypes.CFUNCTYPE(None, ctypes.c_void_p, INT, it, ctypes.c_void_p) for it in (LIST, TEXT, TEXT))
 CONSUMER, ANY_PARTITION, ASSIGNS, FATAL, NO_OFFSET = 1, -1, -175, -150, -168
 TEXT_SIZE = 512
 
 
-def opened() -> types.SimpleNamespace:
-    """The functions of the library."""
-    library, found = ctypes.CDLL("librdkafka.so.1"), types.SimpleNamespace(strdup=ctypes.CDLL(None).strdup)
-    found.strdup.restype = HANDLE
-    for name, (gives, *takes) in CALLS.items():
-        call = getattr(library, f"rd_kafka_{name}")
-        call.restype, call.argtypes = gives, takes
-        setattr(found, name, call)
-    return found
+class Calls:
+    """The functions of the library, without rd_kafka_ before their names."""
+
+    def __init__(self) -> None:
+        self.library, self.strdup = ctypes.CDLL("librdkafka.so.1"), ctypes.CDLL(None).strdup
+        self.strdup.restype = ctypes.c_void_p
+        for kind, names in RESULTS.items():
+            for name in names.split():
+                getattr(self, name).restype = kind
+
+    def __getattr__(self, name: str) -> "ctypes._FuncPointer":
+        return getattr(self.library, f"rd_kafka_{name}")
 
 
 def keys_of(parts: LIST) -> List[Key]:
@@ -227,7 +215,7 @@ class Library:
     """A consumer of librdkafka."""
 
     def __init__(self, of: Consumer, settings: Dict[str, str]) -> None:
-        self.of, self.calls, self.text = of, opened(), ctypes.create_string_buffer(TEXT_SIZE)
+        self.of, self.calls, self.text = of, Calls(), ctypes.create_string_buffer(TEXT_SIZE)
         conf = self.calls.conf_new()
         for name, value in settings.items():
             if self.calls.conf_set(conf, name.encode(), value.encode(), self.text, TEXT_SIZE):
@@ -236,7 +224,7 @@ class Library:
         self.told = {"rebalance": OF_PARTITIONS(self.rebalance), "offset_commit": OF_PARTITIONS(self.committed)}
         self.told.update({"error": OF_ERROR(lambda _, code, why, __: of.tell(self.fault(code, why))), "log": OF_LOG(lambda *_: None)})
         for name, call in self.told.items():
-            getattr(self.calls, f"conf_set_{name}_cb")(conf, ctypes.cast(call, HANDLE))
+            getattr(self.calls, f"conf_set_{name}_cb")(conf, call)
         self.kafka = self.calls.new(CONSUMER, conf, self.text, TEXT_SIZE)
         if not self.kafka:
             sys.exit(f"consumer: {self.text.value.decode()}")

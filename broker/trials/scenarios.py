@@ -6,7 +6,7 @@ import re
 import signal
 import subprocess
 import time
-from typing import Any, Callable, Dict, Iterable, List, NamedTuple, Sequence, Set, Tuple
+from typing import Any, Callable, Dict, Iterable, NamedTuple, Sequence, Set, Tuple
 
 from broker.trials.consumers import Consumers
 from broker.trials.roots import CLIENTS

@@ -7,7 +7,7 @@ import pathlib
 import signal
 import threading
 import time
-from typing import Any, Callable, Counter, Dict, Iterator, List, Optional, Sequence, Set
+from typing import Any, Callable, Counter, Dict, Iterator, List, Sequence, Set
 
 from broker.trials.consumers import Consumers
 from broker.trials.prints import CHANGES, Print, partitions_of

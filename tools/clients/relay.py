@@ -95,11 +95,6 @@ class Relay:
 
         await asyncio.start_server(accept, HOST, port, limit=LONGEST)
 
-    def with_ports(self, reply: bytes) -> bytes:
-        for old, new in self.ports.items():
-            reply = reply.replace(old, new)
-        return reply
-
     def command(self, verb: str, client: str = "", what: str = "", seconds: str = "") -> str:
         if verb == "cut-all" or verb == "cut" and what == "now":
             for connection in [it for it in self.connections if client in ("", it.client)]:
@@ -198,8 +193,10 @@ class Connection:
             if late == LOST:
                 return self.cut()
             await asyncio.sleep(late)
+            for old, new in self.relay.ports.items() if self.side == "client" else ():
+                frame = frame.replace(old, new)
             with contextlib.suppress(ConnectionError):
-                self.near.write(self.relay.with_ports(frame) if self.side == "client" else frame)
+                self.near.write(frame)
                 await self.near.drain()
         self.end("far")
         self.near.close()
