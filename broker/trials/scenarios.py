@@ -389,7 +389,9 @@ def coordinator_stalls(t: Trial) -> None:
     group = settled(t, ("c1", "c2", "c3"))
     for seconds in (4, 14, 30):
         moment = time.time()
-        t.stand.stop_coordinator(seconds)
+        t.stand.send_signal("coordinator-0", signal.SIGSTOP)
+        time.sleep(seconds)
+        t.stand.send_signal("coordinator-0", signal.SIGCONT)
         time.sleep(1)
         t.quiet(BOTH, f"stopped for {seconds} s", moment)
         codes = {it.told.code for it in t.heartbeats(since=moment)}

@@ -142,11 +142,6 @@ class Stand(Programs):
         words = [self.program, "serve", "--port", str(port), "--workers", "4", "--shards", "4", "--connections", "1000000"]
         self.start(f"coordinator-{number}", f"listening {port}\n", [*words, *self.topic_words])
 
-    def stop_coordinator(self, seconds: float) -> None:
-        self.send_signal("coordinator-0", signal.SIGSTOP)
-        time.sleep(seconds)
-        self.send_signal("coordinator-0", signal.SIGCONT)
-
     def tell_relay(self, line: str) -> None:
         with socket.create_connection((HOST, self.control), END_SECONDS) as connection:
             connection.sendall(f"{line}\n".encode())

@@ -216,13 +216,6 @@ def tell(checks: Iterable[Tuple[str, Optional[str]]], with_all: bool = False) ->
     return int(failed > 0 or not passed)
 
 
-def exit_on_signals() -> None:
-    """From here on a signal to stop ends this process as an exit does, and a program that is started gets the signal's default, also where a
-    shell without jobs has started this with it ignored."""
-    for it in (signal.SIGINT, signal.SIGTERM, signal.SIGHUP):
-        signal.signal(it, lambda number, _: sys.exit(STOPPED_STATUS + number))
-
-
 def usage(doc: str, words: Sequence[str], known: Sequence[str] = ()) -> None:
     """Prints the help and ends where it is asked for; ends with the usage where a word is an option that isn't known."""
     if {"--help", "-h"} & {*words}:

@@ -150,13 +150,9 @@ def content(path: str) -> bytes:
 
 def listed(file: str) -> Dict[str, List[str]]:
     """What crates.txt says: each crate, and the libraries that it names."""
-    found = {}
     with open(file, encoding="utf-8") as lines:
-        for line in lines:
-            head, colon, uses = line.partition("#")[0].partition(":")
-            if colon:
-                found[head.split()[0]] = uses.split()
-    return found
+        parts = [line.partition("#")[0].partition(":") for line in lines]
+    return {head.split()[0]: uses.split() for head, colon, uses in parts if colon}
 
 
 def kit_folder() -> str:

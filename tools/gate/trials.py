@@ -4,6 +4,7 @@ The test is built and run by `rt try`, from the sources of the whole tree and wi
 out, which makes the build shorter. It must pass without the wrong body, built in the same way.
 """
 
+import collections
 import os
 import pathlib
 import re
@@ -27,10 +28,9 @@ class Trials:
 
     def __init__(self, tree: crates.Tree, room: str, tried: List[wrong.Wrong]) -> None:
         self.tree, self.room, self.lock, self.without = tree, room, threading.Lock(), {}
-        self.tests = {}
-        for it in tried:
-            crate, _, test = it.whom.partition("::")
-            self.tests.setdefault(crate, set()).add(test)
+        self.tests = collections.defaultdict(set)
+        for crate, _, test in (it.whom.partition("::") for it in tried):
+            self.tests[crate].add(test)
         self.rt = f"{kit_without_hints(tree.kit, tempfile.mkdtemp(prefix='kit-', dir=room))}/bin/rt"
 
     def passes(self, it: wrong.Wrong, texts: Dict[str, str]) -> bool:

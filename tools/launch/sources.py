@@ -30,7 +30,9 @@ class Kept:
     def is_current(self) -> bool:
         """Whether the file was made of the sources as they are. If so, the list is noted that shows it sooner next time."""
         try:
-            listed, clock = self.listed(), self.file_clock()
+            # The present moment by the clock that dates the files, which may be another machine's.
+            os.utime(self.out)
+            listed, clock = self.listed(), self.out.stat().st_ctime
             if self.sum.read_text() != self.sums(sum_of(self.tree, self.crate)):
                 return False
         except OSError:
@@ -65,11 +67,6 @@ class Kept:
     def listed(self) -> bytes:
         words = [f"{self.tree.root}/tools/launch/list-sources", self.file.name]
         return subprocess.run(words, stdout=subprocess.PIPE).stdout
-
-    def file_clock(self) -> float:
-        """The present moment by the clock that dates the files, which may be another machine's."""
-        os.utime(self.out)
-        return self.out.stat().st_ctime
 
 
 def program(tree: crates.Tree) -> Kept:
