@@ -101,24 +101,24 @@ def taken(path: pathlib.Path) -> Entry:
 
 def of_options(version: str, seconds: int) -> Files:
     """Man pages and completions."""
-    coord = [options.read("coord", ANSWERS["--help",]), *(options.read(f"coord {it}", ANSWERS[it, "--help"]) for it in SUBCOMMANDS)]
     document = as_installed((TOP / "docs/COMMANDS.md").read_text())
-    parts = {"coord": "\n\n".join(document.split("\n\n")[1:3]) + "\n" + "".join(f"### {it}\n{manual.section(document, it)}" for it in ("Lines", "Reasons"))}
-    parts.update({f"coord {it}": manual.section(document, f"`coord {it}`") for it in SUBCOMMANDS})
-    others = []
+    more = "".join(f"### {it}\n{manual.section(document, it)}" for it in ("Lines", "Reasons"))
+    # Each command's help, and the text of its page.
+    found = [(options.read("coord", ANSWERS["--help",]), "\n\n".join(document.split("\n\n")[1:3]) + "\n" + more)]
+    found += [(options.read(f"coord {it}", ANSWERS[it, "--help"]), manual.section(document, f"`coord {it}`")) for it in SUBCOMMANDS]
     for name, (path, titles) in PROGRAMS.items():
         command = f"migwelun-{name}"
         words = {**os.environ, "COLUMNS": "1000", "BROKER_NAME": command}
         ran = subprocess.run([sys.executable, "-B", "-m", name, "--help"], cwd=TOP, env=words, stdout=subprocess.PIPE, text=True, check=True)
-        others.append(options.read(command, ran.stdout.replace(f"python3 -m {name}", command)))
         text = as_installed((TOP / path).read_text())
-        parts[command] = "".join(manual.section(text, it) for it in titles) or text.partition("\n")[2]
-    pages = [it.command.replace(" ", "-") for it in (*coord, *others)]
+        part = "".join(manual.section(text, it) for it in titles) or text.partition("\n")[2]
+        found.append((options.read(command, ran.stdout.replace(f"python3 -m {name}", command)), part))
+    pages = {it.command.replace(" ", "-"): (it, part) for it, part in found}
     files: Files = {}
-    for it, own in zip((*coord, *others), pages):
-        text = manual.page(it, version, seconds, parts[it.command], [name for name in pages if name != own])
+    for own, (it, part) in pages.items():
+        text = manual.page(it, version, seconds, part, [name for name in pages if name != own])
         files[f"share/man/man1/{own}.1.gz"] = Entry(zipped(text.encode()))
-    return {**files, **completions_of(["coord", *(it.command for it in others)])}
+    return {**files, **completions_of(["coord", *(f"migwelun-{it}" for it in PROGRAMS)])}
 
 
 def as_installed(text: str) -> str:
