@@ -162,7 +162,8 @@ class Run(Crowd):
         self.want(not stopped, f"a broker can't apply a log any further{verdict.told(stopped)}")
         self.want(before == epochs(), f"groups without a rebalance have other epochs: {before}, then {epochs()}")
         await self.judge_commits()
-        return f": unanswered for {max(gaps.values()):.1f} s at most, the last move after {took:.1f} s (programs waited {slack:.1f} s for the machine)"
+        seen = f": unanswered for {max(gaps.values()):.1f} s at most, the last move after {took:.1f} s"
+        return f"{seen} (programs waited {slack:.1f} s for the machine)"
 
     def want(self, holds: object, text: str) -> None:
         if not holds:
@@ -181,7 +182,8 @@ class Run(Crowd):
 
     def judge_changes(self, steady: Sequence[str], began: float) -> None:
         for it in self.changes(began):
-            self.want(self.groups[it.name] not in steady and it.kind != "LOST", f"{it.name} {it.kind} {it.text} {it.moment - began:.1f} s after the fault")
+            is_right = self.groups[it.name] not in steady and it.kind != "LOST"
+            self.want(is_right, f"{it.name} {it.kind} {it.text} {it.moment - began:.1f} s after the fault")
         for member in self.played.values():
             told = [code for code in FENCED if member.codes.pop(code, 0)]
             self.want(not told, f"{member.name} is told {told}")
