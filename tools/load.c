@@ -60,13 +60,6 @@ static void set_int32(uint8_t *at, int32_t value)
     memcpy(at, &big, 4);
 }
 
-static int32_t get_int32(const uint8_t *at)
-{
-    uint32_t big;
-    memcpy(&big, at, 4);
-    return (int32_t)ntohl(big);
-}
-
 struct frame {
     size_t length;
     uint8_t data[MOST_FRAME];
@@ -101,41 +94,28 @@ static void send_all(int fd, const uint8_t *data, size_t count)
     }
 }
 
-/* ---- how long answers took */
+/* ---- how long answers took: counts by tenths of a microsecond, up to a second */
 
-/* Buckets of nanoseconds: one each below 64, then 32 for each power of two. */
-enum { BUCKETS = 64 + 32 * 40 };
+enum { BUCKETS = 10000000 };
 
 struct times {
-    uint64_t counts[BUCKETS], all;
+    uint32_t *counts;
+    uint64_t all;
 };
 
-static int bucket_of(uint64_t ns)
+static void count_time(struct times *times, uint64_t ns)
 {
-    if (ns < 64)
-        return (int)ns;
-    int above = 58 - __builtin_clzll(ns);
-    int bucket = 64 + 32 * (above - 1) + (int)(ns >> above) - 32;
-    return bucket < BUCKETS ? bucket : BUCKETS - 1;
-}
-
-/* The first moment behind a bucket. */
-static uint64_t end_of(int bucket)
-{
-    if (bucket < 64)
-        return (uint64_t)bucket + 1;
-    return (uint64_t)((bucket - 64) % 32 + 33) << ((bucket - 64) / 32 + 1);
+    times->counts[ns / 100 < BUCKETS ? ns / 100 : BUCKETS - 1]++;
+    times->all++;
 }
 
 static double within_us(const struct times *times, double part)
 {
     uint64_t wanted = (uint64_t)((double)times->all * part), seen = 0;
-    for (int bucket = 0; bucket < BUCKETS; bucket++) {
-        seen += times->counts[bucket];
-        if (seen > wanted)
-            return (double)end_of(bucket) / 1000;
-    }
-    return 0;
+    int bucket = 0;
+    while (bucket < BUCKETS && (seen += times->counts[bucket]) <= wanted)
+        bucket++;
+    return (bucket + 1) / 10.0;
 }
 
 /* ---- connections, with a member each */
@@ -191,17 +171,12 @@ static void send_beats(struct sender *sender, struct line *line, int count)
 static void check_reply(struct line *line, const uint8_t *found)
 {
     struct frame *answer = &line->answer;
+    size_t at = 0;
     set_int32(answer->data + REPLY_ID, (int32_t)(line->heard & INT32_MAX));
-    if (memcmp(found, answer->data, answer->length) == 0)
-        return;
-    fprintf(stderr, "tools/load: a reply is ");
-    for (size_t at = 0; at < answer->length; at++)
-        fprintf(stderr, "%02x", found[at]);
-    fprintf(stderr, ", and must be ");
-    for (size_t at = 0; at < answer->length; at++)
-        fprintf(stderr, "%02x", answer->data[at]);
-    fprintf(stderr, "\n");
-    _exit(1);
+    while (at < answer->length && found[at] == answer->data[at])
+        at++;
+    if (at < answer->length)
+        fail("reply %u of a connection has byte %02x at place %zu, and must have %02x", line->heard, found[at], at, answer->data[at]);
 }
 
 /* Reads once, and takes the whole replies. Gives how many there were. */
@@ -220,14 +195,13 @@ static int read_replies(struct sender *sender, struct line *line)
         if (line->filled - at < line->answer.length)
             break;
         check_reply(line, line->input + at);
-        sender->times.counts[bucket_of(now - line->sent_at[line->heard % MOST_DEPTH])]++;
+        count_time(&sender->times, now - line->sent_at[line->heard % MOST_DEPTH]);
         at += line->answer.length;
     }
     if (line->heard == line->sent && at != line->filled)
         fail("bytes came that nothing was asked for");
     memmove(line->input, line->input + at, line->filled - at);
     line->filled -= at;
-    sender->times.all += (uint64_t)count;
     sender->waiting -= count;
     sender->in_time += now < sender->end ? (uint64_t)count : 0;
     return count;
@@ -260,49 +234,46 @@ static void measure(int depth, int seconds)
 {
     int count;
     struct line *lines = read_lines(&count);
-    struct sender senders[THREADS], all = {0};
+    struct sender senders[THREADS];
     uint64_t end = now_ns() + (uint64_t)seconds * 1000000000;
     for (int at = 0; at < THREADS; at++) {
         senders[at] = (struct sender){.lines = lines, .count = count, .first = at, .depth = depth, .end = end, .poll = epoll_create1(0)};
+        senders[at].times.counts = taken(calloc(BUCKETS, sizeof *senders[at].times.counts));
         if (senders[at].poll < 0 || pthread_create(&senders[at].thread, NULL, send_and_read, &senders[at]) != 0)
             fail("no thread: %s", strerror(errno));
     }
+    struct sender *all = &senders[0];
     for (int at = 0; at < THREADS; at++) {
         pthread_join(senders[at].thread, NULL);
-        all.in_time += senders[at].in_time;
-        all.times.all += senders[at].times.all;
-        for (int bucket = 0; bucket < BUCKETS; bucket++)
-            all.times.counts[bucket] += senders[at].times.counts[bucket];
+        for (int bucket = 0; at > 0 && bucket < BUCKETS; bucket++)
+            all->times.counts[bucket] += senders[at].times.counts[bucket];
+        all->in_time += at > 0 ? senders[at].in_time : 0;
+        all->times.all += at > 0 ? senders[at].times.all : 0;
     }
-    printf("%f %lu ", (double)all.in_time / seconds, (unsigned long)all.times.all);
-    printf("%f %f %f\n", within_us(&all.times, 0.5), within_us(&all.times, 0.99), within_us(&all.times, 0.999));
+    printf("%f %lu ", (double)all->in_time / seconds, (unsigned long)all->times.all);
+    printf("%f %f %f\n", within_us(&all->times, 0.5), within_us(&all->times, 0.99), within_us(&all->times, 0.999));
 }
 
 /* ---- the echo server: a thread for each connection */
 
 static struct frame echo_answer;
 
-/* Answers the whole frames of one read by one write. */
+/* Answers the whole frames of one read by one write. All frames that come are as long as the first. */
 static void *echo(void *argument)
 {
     int fd = (int)(intptr_t)argument;
-    uint8_t *input = taken(malloc(MOST_DEPTH * MOST_FRAME)), *output = taken(malloc(MOST_DEPTH * MOST_FRAME));
+    static __thread uint8_t input[MOST_DEPTH * MOST_FRAME], output[MOST_DEPTH * MOST_FRAME];
     size_t filled = 0;
-    for (ssize_t found; (found = recv(fd, input + filled, MOST_DEPTH * MOST_FRAME - filled, 0)) > 0;) {
-        size_t at = 0, length = 0;
-        filled += (size_t)found;
-        while (filled - at >= 4 && filled - at - 4 >= (size_t)get_int32(input + at)) {
+    for (ssize_t found; (found = recv(fd, input + filled, sizeof input - filled, 0)) > 0;) {
+        size_t at = 0, length = 0, size = 4 + (size_t)input[2] * 256 + input[3];
+        for (filled += (size_t)found; filled - at >= size; at += size, length += echo_answer.length) {
             memcpy(output + length, echo_answer.data, echo_answer.length);
             memcpy(output + length + REPLY_ID, input + at + REQUEST_ID, 4);
-            at += 4 + (size_t)get_int32(input + at);
-            length += echo_answer.length;
         }
         memmove(input, input + at, filled -= at);
         send_all(fd, output, length);
     }
     close(fd);
-    free(input);
-    free(output);
     return NULL;
 }
 

@@ -14,7 +14,7 @@ import dataclasses
 import pathlib
 import re
 import struct
-from typing import Iterable, List
+from typing import List
 
 from clients.log import Event, event_of, head_of, replies_of
 from clients.relay import FETCH
@@ -56,16 +56,13 @@ class Pins:
         return MADE.sub(lambda found: self.salt if found[1] == NO_SALT else found[1], frame)
 
 
-def has_records(reply: bytes, topics: Iterable[Topic]) -> bool:
-    """A record's value begins with its topic's name and a slash."""
-    return any(f"{topic.name}/".encode() in reply for topic in topics)
-
-
 def without_empty_fetches(events: List[Event], topics: List[Topic]) -> List[Event]:
-    replies = replies_of(events)
-    fetches = [at for at, event in enumerate(events) if event.what == ">" and head_of(event.frame).key == FETCH]
-    empty = {at for at in fetches if at not in replies or not has_records(events[replies[at]].frame, topics)}
-    empty |= {replies[at] for at in empty if at in replies}
+    """(A record's value begins with its topic's name and a slash.)"""
+    replies, empty = replies_of(events), set()
+    for at, event in enumerate(events):
+        reply = events[replies[at]].frame if at in replies else b""
+        if event.what == ">" and head_of(event.frame).key == FETCH and not any(f"{topic.name}/".encode() in reply for topic in topics):
+            empty |= {at, replies.get(at, at)}
     return [event for at, event in enumerate(events) if at not in empty]
 
 

@@ -3,9 +3,9 @@
 import collections
 import functools
 import uuid
-from typing import Callable, Counter, Dict, Iterable, List, Sequence, Set, Tuple, Union
+from typing import Counter, Dict, Iterable, List, Sequence, Set, Tuple
 
-from clients.log import Beat, Committing, Partition
+from clients.log import Exchange, Partition
 
 # The protocol's session time, and how much a moment at the relay may be off, in seconds.
 SESSION = 45.0
@@ -31,33 +31,28 @@ class Holds:
         self.heartbeat_codes: Counter = collections.Counter()
         self.commit_codes: Counter = collections.Counter()
 
-    def walk(self, exchanges: Iterable[Union[Beat, Committing]], restarts: Sequence[float]) -> "Holds":
+    def walk(self, exchanges: Iterable[Exchange], restarts: Sequence[float]) -> "Holds":
         """Goes through requests and replies in their order. At a restart the coordinator has lost its groups."""
-        steps: List[Tuple[float, int, Callable[[], object]]] = [(moment, 0, self.held.clear) for moment in restarts]
+        steps = [(moment, 0, self.held.clear) for moment in restarts]
         for it in exchanges:
-            if isinstance(it, Committing):
-                steps.append((it.answered, 2, functools.partial(self.take_commit, it)))
-                continue
-            if not it.closes:
+            if not it.is_commit and not it.closes:
                 steps.append((it.sent, 1, functools.partial(self.take_request, it)))
-            if it.is_answered():
-                steps.append((it.answered, 2, functools.partial(self.take_reply, it)))
+            if it.is_commit or it.is_answered():
+                steps.append((it.answered, 2, functools.partial(self.take_commit if it.is_commit else self.take_reply, it)))
         for _moment, _order, take in sorted(steps, key=lambda step: step[:2]):
             take()
         return self
 
-    def take_request(self, it: Beat) -> None:
-        if it.asked.epoch < 0:
-            self.let_go(it.asked.group, it.asked.member, set())
-        elif it.asked.owned is not None or it.asked.epoch == 0:
-            self.let_go(it.asked.group, it.asked.member, it.asked.owned or set())
+    def take_request(self, it: Exchange) -> None:
+        if it.asked.owned is not None or it.asked.epoch <= 0:
+            self.let_go(it.asked.group, it.asked.member, (it.asked.epoch >= 0 and it.asked.owned) or set())
 
     def let_go(self, group: str, member: str, kept: Set[Partition]) -> None:
         for partition in [p for p, m in self.held[group].items() if m == member and p not in kept]:
             del self.held[group][partition]
             self.losing.pop((group, member, partition), None)
 
-    def take_reply(self, it: Beat) -> None:
+    def take_reply(self, it: Exchange) -> None:
         group, member = it.asked.group, it.member()
         self.heartbeat_codes[it.told.code] += 1
         if it.told.code in FENCED:
@@ -89,7 +84,7 @@ class Holds:
         limit = self.timeouts[group, member]
         return any(key[:2] == (group, member) and moment + SLACK >= since + limit for key, since in self.losing.items())
 
-    def take_commit(self, it: Committing) -> None:
+    def take_commit(self, it: Exchange) -> None:
         """A partition's commit is taken only of who holds it."""
         self.commit_codes.update(it.codes)
         parts = [(name, part[0]) for name, parts in it.asked.topics for part in parts]

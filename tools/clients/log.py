@@ -7,7 +7,7 @@ from typing import Deque, Dict, Iterator, List, NamedTuple, Optional, Sequence, 
 from rules.fields import Reader
 from rules.messages import Commit, Heartbeat, read_commit_reply, read_heartbeat_reply, read_request
 
-HEARTBEAT = 68
+COMMIT, HEARTBEAT = 8, 68
 # A topic's id and an index.
 Partition = Tuple[bytes, int]
 
@@ -44,33 +44,36 @@ NOTHING = Told(-1, -1, None, 0, None)
 
 @dataclasses.dataclass
 class Exchange:
-    """A request that came to the coordinator at this port, and its reply. No reply, and `closes`: it ended the connection."""
+    """A heartbeat or a commit that came to the coordinator at this port, and its reply. No reply, and `closes`: it ended the connection."""
 
     port: int
     connection: int
     sent: float
     frame: bytes
     head: Head
-    answered: float = dataclasses.field(default=float("inf"), init=False)
-    closes: bool = dataclasses.field(default=False, init=False)
+    asked: Union[Heartbeat, Commit]
+    answered: float = float("inf")
+    closes: bool = False
+    # What a heartbeat was told, and the codes of a commit's partitions.
+    told: Told = NOTHING
+    codes: Tuple[int, ...] = ()
+
+    @property
+    def is_commit(self) -> bool:
+        return isinstance(self.asked, Commit)
 
     def is_answered(self) -> bool:
         return self.answered < float("inf")
 
-
-@dataclasses.dataclass
-class Beat(Exchange):
-    asked: Heartbeat
-    told: Told = NOTHING
-
     def member(self) -> str:
         return self.asked.member or self.told.member or ""
 
-
-@dataclasses.dataclass
-class Committing(Exchange):
-    asked: Commit
-    codes: Tuple[int, ...] = ()
+    def answer(self, event: Event) -> None:
+        self.answered = event.moment
+        if self.is_commit:
+            self.codes = tuple(read_commit_reply(event.frame[4:]))
+        else:
+            self.told = Told(*read_heartbeat_reply(event.frame[4:]))
 
 
 def head_of(frame: bytes) -> Head:
@@ -102,36 +105,21 @@ def replies_of(events: Sequence[Event]) -> Dict[int, int]:
     return found
 
 
-def exchange_of(port: int, event: Event) -> Union[Beat, Committing]:
-    head, asked = head_of(event.frame), read_request(event.frame[4:])
-    kind = Beat if head.key == HEARTBEAT else Committing
-    return kind(port, event.connection, event.moment, event.frame, head, asked)
-
-
-def answer(it: Union[Beat, Committing], event: Event) -> None:
-    it.answered = event.moment
-    if isinstance(it, Beat):
-        it.told = Told(*read_heartbeat_reply(event.frame[4:]))
-    else:
-        it.codes = tuple(read_commit_reply(event.frame[4:]))
-
-
-def read_exchanges(path: str) -> List[Union[Beat, Committing]]:
+def read_exchanges(path: str) -> List[Exchange]:
     """The exchanges with coordinators, in the order of the requests."""
-    found: List[Union[Beat, Committing]] = []
-    waiting: Dict[int, Deque[Union[Beat, Committing]]] = collections.defaultdict(collections.deque)
+    found: List[Exchange] = []
+    waiting: Dict[int, Deque[Exchange]] = collections.defaultdict(collections.deque)
     ports: Dict[int, int] = {}
-    for event in read_events(path):
-        if event.side != "coordinator":
-            continue
+    for event in (it for it in read_events(path) if it.side == "coordinator"):
         here = waiting[event.connection]
         if event.what.startswith("open "):
             ports[event.connection] = int(event.what.split()[1])
         elif event.what == ">":
-            found.append(exchange_of(ports[event.connection], event))
+            place = ports[event.connection], event.connection
+            found.append(Exchange(*place, event.moment, event.frame, head_of(event.frame), read_request(event.frame[4:])))
             here.append(found[-1])
         elif event.what == "<":
-            answer(here.popleft(), event)
+            here.popleft().answer(event)
         elif event.what == "end far" and here:
             here[0].closes = True
     return found

@@ -35,14 +35,16 @@ import collections
 import contextlib
 import struct
 import time
-from typing import Deque, Dict, List, Optional, Set, TextIO, Tuple
+from typing import Deque, Dict, Set, TextIO, Tuple
 
 HOST = "127.0.0.1"
 FETCH, COMMIT, HEARTBEAT = 1, 8, 68
+KINDS = {"heartbeat": HEARTBEAT, "commit": COMMIT}
 LONGEST = 16 << 20
 # How long replies may take that are under way when a client ends its connection.
 LAST_REPLIES_SECONDS = 2
 LOST = float("inf")
+Side = Tuple[asyncio.StreamReader, asyncio.StreamWriter]
 
 
 async def read_frame(reader: asyncio.StreamReader) -> bytes:
@@ -64,71 +66,57 @@ def head_of(frame: bytes) -> Tuple[int, str]:
 class Relay:
     def __init__(self, record: TextIO, serial: bool, fetches: bool) -> None:
         self.record, self.serial, self.fetches = record, serial, fetches
-        self.listeners: List[asyncio.AbstractServer] = []
         self.ports: Dict[bytes, bytes] = {}
         self.counts: Dict[str, int] = collections.Counter()
-        self.opening = asyncio.Lock()
-        self.turn = asyncio.Lock()
+        self.opening, self.turn = asyncio.Lock(), asyncio.Lock()
         self.connections: Set[Connection] = set()
-        self.cuts: Dict[str, str] = {}
-        # For each client the key of the request that is held, or whose reply is, and the seconds.
-        self.holds: Dict[str, Tuple[int, float]] = {}
-        self.reply_holds: Dict[str, Tuple[int, float]] = {}
-
-    def say(self, *words: object) -> None:
-        self.record.write(f"{time.time():.6f} {' '.join(map(str, words))}\n")
+        # For each client, and the API's key: how its next request is cut, by how many seconds it is held, and its reply.
+        self.cuts: Dict[Tuple[str, int], str] = {}
+        self.holds: Dict[Tuple[str, int], float] = {}
+        self.reply_holds: Dict[Tuple[str, int], float] = {}
 
     async def listen(self, side: str, port: int, target: int) -> None:
         if side == "client":
             self.ports[HOST.encode() + struct.pack(">i", target)] = HOST.encode() + struct.pack(">i", port)
 
-        async def accept(reader: asyncio.StreamReader, writer: asyncio.StreamWriter) -> None:
+        async def accept(*near: object) -> None:
             async with self.opening:
                 try:
                     far = await asyncio.open_connection(HOST, target)
                 except OSError:
-                    writer.close()
+                    near[1].close()
                     return
                 self.counts[side] += 1
-                connection = Connection(self, side, self.counts[side], (reader, writer), far)
+                connection = Connection(self, side, self.counts[side], near, far)
                 self.connections.add(connection)
-                self.say(side, connection.number, "open", target)
+                connection.say("open", target)
             await connection.run()
             self.connections.discard(connection)
 
-        self.listeners.append(await asyncio.start_server(accept, HOST, port, limit=LONGEST))
+        await asyncio.start_server(accept, HOST, port, limit=LONGEST)
 
-    def with_ports(self, reply: bytes) -> bytes:
-        for old, new in self.ports.items():
-            reply = reply.replace(old, new)
-        return reply
-
-    def command(self, words: List[str]) -> str:
-        if words[0] == "cut-all":
-            for connection in [*self.connections]:
+    def command(self, verb: str, client: str = "", what: str = "", seconds: str = "") -> str:
+        if verb == "cut-all" or verb == "cut" and what == "now":
+            for connection in [it for it in self.connections if client in ("", it.client)]:
                 connection.cut()
-        elif words[0] == "cut" and words[2] == "now":
-            for connection in [it for it in self.connections if it.client == words[1]]:
-                connection.cut()
-        elif words[0] == "cut":
-            self.cuts[words[1]] = words[2]
-        elif words[0] in ("hold", "hold-reply"):
-            holds = self.holds if words[0] == "hold" else self.reply_holds
-            holds[words[1]] = {"heartbeat": HEARTBEAT, "commit": COMMIT}[words[2]], float(words[3])
+        elif verb == "cut":
+            self.cuts[client, COMMIT if what == "after-commit" else HEARTBEAT] = what
+        elif verb in ("hold", "hold-reply"):
+            (self.holds if verb == "hold" else self.reply_holds)[client, KINDS[what]] = float(seconds)
         else:
             return "unknown"
         return "done"
 
     async def control(self, reader: asyncio.StreamReader, writer: asyncio.StreamWriter) -> None:
         while words := (await reader.readline()).decode().split():
-            writer.write(f"{self.command(words)}\n".encode())
+            writer.write(f"{self.command(*words)}\n".encode())
         writer.close()
 
 
 class Connection:
     """One that came, and the one that was opened for it."""
 
-    def __init__(self, relay: Relay, side: str, number: int, near: Tuple, far: Tuple) -> None:
+    def __init__(self, relay: Relay, side: str, number: int, near: Side, far: Side) -> None:
         self.relay, self.side, self.number = relay, side, number
         (self.near_reader, self.near), (self.far_reader, self.far) = near, far
         # The client that sent heartbeats or commits over it; the keys of the requests under way, and by how many seconds their
@@ -139,7 +127,11 @@ class Connection:
         self.replied = asyncio.Event()
 
     def say(self, *words: object) -> None:
-        self.relay.say(self.side, self.number, *words)
+        self.relay.record.write(f"{time.time():.6f} {self.side} {self.number} {' '.join(map(str, words))}\n")
+
+    def say_frame(self, mark: str, key: int, frame: bytes) -> None:
+        if key != FETCH or self.relay.fetches:
+            self.say(mark, frame.hex())
 
     async def run(self) -> None:
         replies = asyncio.ensure_future(self.pass_replies())
@@ -160,20 +152,18 @@ class Connection:
         for writer in (self.near, self.far):
             writer.transport.abort()
 
-    # ---- requests
-
     async def pass_requests(self) -> None:
         while frame := await read_frame(self.near_reader):
             key, client = head_of(frame)
-            if self.side == "client" and key in (HEARTBEAT, COMMIT):
+            if self.side == "client" and key in KINDS.values():
                 self.client = client
-                await asyncio.sleep(self.seconds_of(self.relay.holds, key))
-            cut = self.next_cut(key)
+                await asyncio.sleep(self.relay.holds.pop((client, key), 0.0))
+            cut = self.relay.cuts.pop((self.client, key), "")
             if cut == "before":
                 return self.cut()
             if self.ended:
                 return
-            late = LOST if cut else self.seconds_of(self.relay.reply_holds, key)
+            late = LOST if cut else self.relay.reply_holds.pop((self.client, key), 0.0)
             if self.relay.serial and self.side == "client" and key != FETCH:
                 async with self.relay.turn:
                     await self.send(frame, key, late)
@@ -186,45 +176,27 @@ class Connection:
         self.end("near")
         self.far.close()
 
-    def seconds_of(self, holds: Dict[str, Tuple[int, float]], key: int) -> float:
-        """For how long this request of the client, or its reply, is held."""
-        if holds.get(self.client, (None,))[0] != key:
-            return 0.0
-        return holds.pop(self.client)[1]
-
-    def next_cut(self, key: int) -> Optional[str]:
-        """Whether the connection is cut at this request, and when."""
-        kind = self.relay.cuts.get(self.client)
-        if (key, kind) in ((HEARTBEAT, "before"), (HEARTBEAT, "after"), (COMMIT, "after-commit")):
-            return self.relay.cuts.pop(self.client)
-        return None
-
     async def send(self, frame: bytes, key: int, late: float) -> None:
-        if self.is_recorded(key):
-            self.say(">", frame.hex())
+        self.say_frame(">", key, frame)
         self.under_way.append((key, late))
         if not self.ended:
             self.replied.clear()
         self.far.write(frame)
         await self.far.drain()
 
-    def is_recorded(self, key: int) -> bool:
-        return key != FETCH or self.relay.fetches
-
-    # ---- replies
-
     async def pass_replies(self) -> None:
         while frame := await read_frame(self.far_reader):
             key, late = self.under_way.popleft() if self.under_way else (-1, 0.0)
-            if self.is_recorded(key):
-                self.say("<", frame.hex())
+            self.say_frame("<", key, frame)
             if not self.under_way:
                 self.replied.set()
             if late == LOST:
                 return self.cut()
             await asyncio.sleep(late)
+            for old, new in self.relay.ports.items() if self.side == "client" else ():
+                frame = frame.replace(old, new)
             with contextlib.suppress(ConnectionError):
-                self.near.write(self.relay.with_ports(frame) if self.side == "client" else frame)
+                self.near.write(frame)
                 await self.near.drain()
         self.end("far")
         self.near.close()

@@ -48,25 +48,13 @@ class Clients:
         connection = self.sockets[event.connection]
         if event.what == ">":
             connection.sendall(self.pins.unpin(event.frame))
-        elif event.what == "<":
+        elif event.what == "end near":
+            connection.close()
+        else:
+            # (At the end that the other side makes nothing is there to be read.)
             found = self.pins.pin(read_frame(connection))
             if found != event.frame:
                 raise Differs(f"it answers\n    {found.hex()}\nand not\n    {event.frame.hex()}")
-        elif event.what == "end near":
-            connection.close()
-        elif not self.closes(connection):
-            raise Differs("it doesn't close")
-
-    @staticmethod
-    def closes(connection: socket.socket) -> bool:
-        try:
-            return connection.recv(1) == b""
-        except ConnectionResetError:
-            return True
-
-    def close(self) -> None:
-        for it in self.sockets.values():
-            it.close()
 
 
 def play_clients(it: Conversation, program: str) -> None:
@@ -79,7 +67,8 @@ def play_clients(it: Conversation, program: str) -> None:
         except Differs as why:
             raise Differs("\n    ".join([str(why), *stand.complaints()])) from None
         finally:
-            clients.close()
+            for connection in clients.sockets.values():
+                connection.close()
             stand.end()
 
 
@@ -101,23 +90,17 @@ def lines_of(it: Conversation) -> List[str]:
     return lines
 
 
-def wanted_of(it: Conversation) -> List[str]:
-    """What each request must print."""
-    events = it.of("coordinator")
-    replies = replies_of(events)
-    return [events[replies[at]].frame.hex() if at in replies else "close" for at, event in enumerate(events) if event.what == ">"]
-
-
 def play_coordinator(it: Conversation, command: Sequence[str]) -> None:
     """The coordinator's side, as lines for a command that answers them."""
     given = "\n".join(lines_of(it)) + "\n"
     ran = subprocess.run(command, input=given, capture_output=True, text=True, timeout=REPLAY_SECONDS, check=False)
     if ran.returncode or ran.stderr:
         raise Differs(f"{command[-1]} ended with {ran.returncode}: {ran.stderr.strip()}")
-    found = [line for line in ran.stdout.splitlines() if not line.startswith("removed")]
-    asked = [event for event in it.of("coordinator") if event.what == ">"]
-    for event, was, is_now in zip(asked, wanted_of(it), found):
+    found, events = [line for line in ran.stdout.splitlines() if not line.startswith("removed")], it.of("coordinator")
+    asked, replies = [at for at, event in enumerate(events) if event.what == ">"], replies_of(events)
+    for at, is_now in zip(asked, found):
+        was = events[replies[at]].frame.hex() if at in replies else "close"
         if was != is_now:
-            raise Differs(f"the request {head_of(event.frame)} at {event.moment:.0f} ms is answered\n    {is_now}\nand not\n    {was}")
+            raise Differs(f"the request {head_of(events[at].frame)} at {events[at].moment:.0f} ms is answered\n    {is_now}\nand not\n    {was}")
     if len(found) != len(asked):
         raise Differs(f"{len(asked)} requests have {len(found)} answers")

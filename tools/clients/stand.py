@@ -1,8 +1,8 @@
 """Coordinators, a front end and a relay on both sides of it, on ports of their own."""
 
+import contextlib
 import dataclasses
 import pathlib
-import random
 import signal
 import socket
 import subprocess
@@ -13,8 +13,6 @@ from typing import Dict, List, Optional, Sequence
 HERE = pathlib.Path(__file__).resolve().parent
 TOP = HERE.parent.parent
 HOST = "127.0.0.1"
-# Below the ports that Linux gives to clients, so that none takes one of them meanwhile. A stand has a block of them.
-PORTS, BLOCK = range(20_000, 32_000), 16
 START_SECONDS = 180
 END_SECONDS = 5
 
@@ -34,37 +32,25 @@ class Failed(Exception):
 
 
 class Ports:
-    """Ports in a row that nobody listens on. They are this object's until it is closed: no other one on this machine has them."""
+    """Free ports in a row, which nobody gets by chance until this is closed. (Several sockets may be bound to one, and one of them may listen.)"""
 
     def __init__(self, count: int) -> None:
-        for first in random.sample(PORTS[::BLOCK], len(PORTS[::BLOCK])):
-            self.lock = socket.socket(socket.AF_UNIX)
-            if self._takes(first, count):
-                self.numbers = [*range(first, first + count)]
-                return
-            self.lock.close()
-        raise Failed("no ports are left")
-
-    def _takes(self, first: int, count: int) -> bool:
-        """A name that begins with a null byte is of no file, and only one socket can have it."""
-        try:
-            self.lock.bind(f"\0loopback-ports-{first}")
-            for port in range(first, first + count):
-                self._bind(port)
-            return True
-        except OSError:
-            return False
-
-    @staticmethod
-    def _bind(port: int) -> None:
-        """Fails where somebody listens. It doesn't listen itself: a program that another thread starts just now has the socket, too, until it runs,
-        and then nobody else could listen."""
-        with socket.socket() as taken:
-            taken.setsockopt(socket.SOL_SOCKET, socket.SO_REUSEADDR, 1)
-            taken.bind((HOST, port))
+        self.holders: List[socket.socket] = []
+        self.numbers: List[int] = []
+        while len(self.holders) < count:
+            self.holders.append(socket.socket())
+            try:
+                self.holders[-1].bind((HOST, self.numbers[-1] + 1 if self.numbers else 0))
+                self.numbers.append(self.holders[-1].getsockname()[1])
+            except (OSError, OverflowError):
+                self.close()
+        for it in self.holders:
+            it.setsockopt(socket.SOL_SOCKET, socket.SO_REUSEADDR, 1)
 
     def close(self) -> None:
-        self.lock.close()
+        for it in self.holders:
+            it.close()
+        self.holders, self.numbers = [], []
 
     def __enter__(self) -> List[int]:
         return self.numbers
@@ -76,15 +62,10 @@ class Ports:
 def read_frame(connection: socket.socket) -> bytes:
     """A whole frame, or what came before the end."""
     data, missing = b"", 4
-    while missing > 0:
-        try:
-            more = connection.recv(missing)
-        except ConnectionError:
-            more = b""
-        if not more:
-            return data
-        data += more
-        missing = (4 if len(data) < 4 else 4 + int.from_bytes(data[:4], "big", signed=True)) - len(data)
+    with contextlib.suppress(ConnectionError):
+        while missing > 0 and (more := connection.recv(missing)):
+            data += more
+            missing = (4 if len(data) < 4 else 4 + int.from_bytes(data[:4], "big", signed=True)) - len(data)
     return data
 
 
@@ -136,48 +117,30 @@ class Programs:
 class Stand(Programs):
     """What clients connect to, at `port`, through a relay, unless that is left out."""
 
-    def __init__(
-        self,
-        program: str,
-        topics: Sequence[Topic],
-        folder: pathlib.Path,
-        coordinators: int = 1,
-        relay: Optional[Sequence[str]] = (),
-        front_end: Sequence[str] = (),
-    ) -> None:
+    def __init__(self, program: str, topics: Sequence[Topic], folder: pathlib.Path, coordinators: int = 1, **how: Optional[Sequence[str]]) -> None:
+        """`relay` and `front_end` are words more for these; no relay where it is None."""
         super().__init__(folder)
-        self.program, self.topics = program, topics
+        relay, front_end = how.get("relay", ()), how.get("front_end") or ()
+        self.program, self.topic_words = program, [topic.word() for topic in topics]
         self.ports = Ports(4 * coordinators + 1)
-        ports = self.ports.numbers
+        *ports, self.control = self.ports.numbers
         self.backs, taps, fronts, doors = (ports[at * coordinators : (at + 1) * coordinators] for at in range(4))
-        self.tap, self.front, self.control = taps[0], fronts[0], ports[-1]
+        self.tap, self.front = taps[0], fronts[0]
         self.port = fronts[0] if relay is None else doors[0]
         for number in range(coordinators):
             self.serve(number)
         if relay is not None:
             sides = [f"coordinator:{tap}:{back}" for tap, back in zip(taps, self.backs)]
-            sides += [f"client:{door}:{front}" for door, front in zip(doors, fronts)]
-            self.relay(self.control, sides, *relay)
+            self.relay(self.control, [*sides, *(f"client:{door}:{front}" for door, front in zip(doors, fronts))], *relay)
         several = [word for port in (self.backs if relay is None else taps) for word in ("--coordinator", f"{HOST}:{port}")]
         words = [sys.executable, "-B", "-m", "broker", *several, "--port", str(fronts[0]), *front_end]
-        self.start("front-end", f"listening {HOST}:{fronts[0]} ", [*words, *self.topic_words()])
-
-    def topic_words(self) -> List[str]:
-        return [topic.word() for topic in self.topics]
+        self.start("front-end", f"listening {HOST}:{fronts[0]} ", [*words, *self.topic_words])
 
     def serve(self, number: int = 0) -> None:
         """Starts a coordinator, for the first time or again."""
         port = self.backs[number]
         words = [self.program, "serve", "--port", str(port), "--workers", "4", "--shards", "4", "--connections", "1000000"]
-        self.start(f"coordinator-{number}", f"listening {port}\n", [*words, *self.topic_words()])
-
-    def kill_coordinator(self) -> None:
-        self.send_signal("coordinator-0", signal.SIGKILL)
-
-    def stop_coordinator(self, seconds: float) -> None:
-        self.send_signal("coordinator-0", signal.SIGSTOP)
-        time.sleep(seconds)
-        self.send_signal("coordinator-0", signal.SIGCONT)
+        self.start(f"coordinator-{number}", f"listening {port}\n", [*words, *self.topic_words])
 
     def tell_relay(self, line: str) -> None:
         with socket.create_connection((HOST, self.control), END_SECONDS) as connection:
@@ -190,7 +153,7 @@ class Stand(Programs):
         """The coordinator's reply to a frame that comes over a new connection; none where it closes."""
         with socket.create_connection((HOST, self.tap), END_SECONDS) as connection:
             connection.sendall(frame)
-            return connection.recv(1 << 16)
+            return read_frame(connection)
 
     def complaints(self) -> List[str]:
         """What the front end said on standard error, and the programs that have ended."""

@@ -22,7 +22,7 @@ import os
 import pathlib
 import sys
 import tempfile
-from typing import Callable, Dict, Iterator, List, Optional, Sequence, Tuple, Union
+from typing import Callable, Iterator, List, Optional, Sequence, Tuple, Union
 
 from gate import commands, rows
 
@@ -59,42 +59,37 @@ def cases_of(root: str, with_made: bool = True) -> Iterator[Tuple[str, Union[Cas
     for path in dict.fromkeys(it.with_suffix("") for it in files):
         if not with_made and path.with_suffix(".made").is_file():
             continue
-        label = str(path.relative_to(root))
+        label, text = str(path.relative_to(root)), content_of(path.with_suffix(".rows"))
         try:
-            if path.with_suffix(".rows").is_file():
-                found = rows.named_rows(path.with_suffix(".rows").read_bytes(), (path.parent.name,))
-                yield from ((f"{label}, {it.name}", Case(f"{label}, {it.name}", it.words, it.given, it.output, it.errors, it.status)) for it in found)
-            else:
+            for it in rows.named_rows(text, (path.parent.name,)) if text is not None else ():
+                yield f"{label}, {it.name}", Case(f"{label}, {it.name}", it.words, it.given, it.output, it.errors, it.status)
+            if text is None:
                 yield label, read_case(root, label)
         except (BadCase, rows.BadRow, OSError, ValueError) as why:
             yield label, f"BAD CASE: {why}"
 
 
 def read_case(root: str, label: str) -> Case:
-    """Reads the files of one case."""
-    parts = label.split("/")
-    if len(parts) != 3:
+    """Reads the files of one case. Where it has a file .made, cases/made.py writes the input and the output."""
+    path = pathlib.Path(root, label)
+    if label.count("/") != 2:
         raise BadCase("a case stands in cases/SUBCOMMAND/")
-    files = {it: content_of(f"{root}/{label}{it}") for it in ENDINGS}
+    files = {it: content_of(path.with_name(path.name + it)) for it in ENDINGS}
     if files[".made"] is not None:
-        files.update(made_files(root, files[".made"].decode().strip()))
+        with tempfile.TemporaryDirectory(prefix="case-") as folder:
+            words = [sys.executable, "-B", os.path.abspath(f"{root}/cases/made.py"), files[".made"].decode().strip(), f"{folder}/case"]
+            ran = commands.run(words, folder, b"", LIMIT, merged=False)
+            if ran.status:
+                raise BadCase(f"cases/made.py ended with status {ran.status}")
+            files.update({it: content_of(pathlib.Path(folder, f"case{it}")) for it in (".in", ".out")})
     if files[".in"] is None or files[".out"] is None:
-        raise BadCase(f"it has no file {parts[2]}{'.in' if files['.in'] is None else '.out'}")
-    words = (files[".args"] or b"").decode().splitlines()
-    return Case(label, (parts[1], *words), files[".in"], files[".out"], files[".err"] or b"", int(files[".status"] or b"0"))
+        raise BadCase(f"it has no file {path.name}{'.in' if files['.in'] is None else '.out'}")
+    words = (path.parent.name, *(files[".args"] or b"").decode().splitlines())
+    return Case(label, words, files[".in"], files[".out"], files[".err"] or b"", int(files[".status"] or b"0"))
 
 
-def made_files(root: str, name: str) -> Dict[str, Optional[bytes]]:
-    """The input and the output that cases/made.py writes."""
-    with tempfile.TemporaryDirectory(prefix="case-") as folder:
-        ran = commands.run([sys.executable, "-B", f"{os.path.abspath(root)}/cases/made.py", name, f"{folder}/case"], folder, b"", LIMIT, merged=False)
-        if ran.status:
-            raise BadCase(f"cases/made.py ended with status {ran.status}")
-        return {it: content_of(f"{folder}/case{it}") for it in (".in", ".out")}
-
-
-def content_of(path: str) -> Optional[bytes]:
-    return pathlib.Path(path).read_bytes() if os.path.isfile(path) else None
+def content_of(path: pathlib.Path) -> Optional[bytes]:
+    return path.read_bytes() if path.is_file() else None
 
 
 def run_all(root: str, program: Program, say: Callable[[str], None], with_made: bool = True) -> Tuple[int, int]:

@@ -5,7 +5,7 @@ import pathlib
 import subprocess
 import sys
 import unittest
-from typing import Callable, Iterable, Iterator, Optional, Tuple, Type
+from typing import Callable, Iterable, Iterator, List, Optional, Tuple, Type
 
 from gate import commands
 
@@ -14,6 +14,7 @@ TOP = pathlib.Path(__file__).resolve().parents[2]
 Check = Tuple[str, Optional[str]]
 # Whether a check's command line has a program.
 NONE, OPTIONAL, WANTED = range(3)
+CLIENT_SECONDS = 60
 
 
 class Failed(Exception):
@@ -40,6 +41,13 @@ def why_fails(call: Callable[[], object], faults: Tuple[Type[Exception], ...] = 
     except (Failed, OSError, subprocess.SubprocessError, *faults) as why:
         return str(why) or repr(why)
     return None
+
+
+def rebalances(port: object) -> List[str]:
+    """The lines of examples/client.py, whose two members go through a rebalance at this port."""
+    ran = commands.run([sys.executable, "-B", str(TOP / "examples/client.py"), f"127.0.0.1:{port}"], limit=CLIENT_SECONDS)
+    want(ran.status == 0 and ran.lines()[-1].startswith("first leaves"), "\n".join([*ran.lines(), f"the client ends with {ran.status}"]))
+    return ran.lines()
 
 
 def of_tests(tests: unittest.TestSuite) -> Iterator[Check]:

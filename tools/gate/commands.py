@@ -8,6 +8,8 @@ import contextlib
 import ctypes
 import dataclasses
 import os
+import pathlib
+import resource
 import shutil
 import signal
 import subprocess
@@ -83,15 +85,14 @@ def set_nice_of_session(leader: int, nice: int) -> None:
     """Linux shares the processors out to sessions first, by a value of theirs (sched(7), "The autogroup feature")."""
     for _ in range(10):
         try:
-            with open(f"/proc/{leader}/autogroup", "w", encoding="ascii") as value:
-                value.write(str(nice))
+            pathlib.Path(f"/proc/{leader}/autogroup").write_text(str(nice), encoding="ascii")
         except BlockingIOError:
             # Who isn't root may set one such value in a tenth of a second.
             time.sleep(0.1)
-            continue
         except OSError:
-            pass
-        return
+            break
+        else:
+            break
 
 
 def wait_for(child: subprocess.Popen) -> Tuple[int, float]:
@@ -105,11 +106,24 @@ def processes() -> Iterator[Tuple[int, int, int]]:
     """The processes of the machine that have not ended: number, parent and session."""
     for name in filter(str.isdigit, os.listdir("/proc")):
         with contextlib.suppress(OSError):
-            with open(f"/proc/{name}/stat", encoding="utf-8", errors="replace") as file:
-                # The program's name stands in brackets, and can have spaces and brackets itself.
-                state, parent, _, session = file.read().rpartition(")")[2].split()[:4]
+            # The program's name stands in brackets, and can have spaces and brackets itself.
+            stat = pathlib.Path(f"/proc/{name}/stat").read_text(encoding="utf-8", errors="replace")
+            state, parent, _, session = stat.rpartition(")")[2].split()[:4]
             if state != "Z":
                 yield int(name), int(parent), int(session)
+
+
+def processor_seconds(number: int) -> float:
+    """The processor time that a process has taken; 0 of none."""
+    if not number:
+        return 0.0
+    fields = pathlib.Path(f"/proc/{number}/stat").read_text(encoding="utf-8").rpartition(")")[2].split()
+    return (int(fields[11]) + int(fields[12])) / os.sysconf("SC_CLK_TCK")
+
+
+def memory_of(number: int) -> int:
+    """The bytes that a process has in memory."""
+    return int(pathlib.Path(f"/proc/{number}/statm").read_text(encoding="ascii").split()[1]) * resource.getpagesize()
 
 
 def below(number: int) -> Set[int]:
@@ -200,13 +214,6 @@ def tell(checks: Iterable[Tuple[str, Optional[str]]], with_all: bool = False) ->
             print(f"FAILED {name}: {why}" if why else f"ok     {name}", flush=True)
     print(f"{passed} passed, {failed} failed")
     return int(failed > 0 or not passed)
-
-
-def exit_on_signals() -> None:
-    """From here on a signal to stop ends this process as an exit does, and a program that is started gets the signal's default, also where a
-    shell without jobs has started this with it ignored."""
-    for it in (signal.SIGINT, signal.SIGTERM, signal.SIGHUP):
-        signal.signal(it, lambda number, _: sys.exit(STOPPED_STATUS + number))
 
 
 def usage(doc: str, words: Sequence[str], known: Sequence[str] = ()) -> None:

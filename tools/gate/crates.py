@@ -3,6 +3,7 @@
 import contextlib
 import hashlib
 import os
+import shutil
 from typing import Dict, Iterable, List, Optional
 
 from gate import commands
@@ -53,15 +54,19 @@ class Tree:
 
     def sources(self, crate: str) -> List[str]:
         """The crate's own files, by their path in it."""
-        folder, found = self.folder(crate), []
-        for part in PARTS:
-            for at, _, names in os.walk(f"{folder}/{part}"):
-                found += [os.path.relpath(f"{at}/{name}", folder) for name in names]
-        return sorted(found)
+        folder = self.folder(crate)
+        found = [f"{at}/{name}" for part in PARTS for at, _, names in os.walk(f"{folder}/{part}") for name in names]
+        return sorted(os.path.relpath(it, folder) for it in found)
 
     def read(self, crate: str, path: str) -> str:
         with open(f"{self.folder(crate)}/{path}", encoding="utf-8") as file:
             return file.read()
+
+    def lay(self, crate: str, folder: str, texts: Optional[Dict[str, str]] = None) -> None:
+        """Copies a crate's own files into a folder, with these texts in place of some."""
+        for part in filter(lambda part: os.path.isdir(f"{self.folder(crate)}/{part}"), PARTS):
+            shutil.copytree(f"{self.folder(crate)}/{part}", f"{folder}/{part}", symlinks=True)
+        write(folder, texts or {})
 
     def check_words(self, crate: str, uses: Optional[List[str]] = None, root_file: Optional[str] = None, verb: str = "check") -> List[str]:
         """The words that check a crate, in a folder that has its files, over the tree's built libraries.
@@ -69,8 +74,7 @@ class Tree:
         `uses` and `root_file` are given for code that is no crate of the tree. The verb `build` wants more words behind these.
         """
         uses = self.uses[crate] if uses is None else uses
-        words = [f"{self.kit}/bin/rattle", verb, "--crate-name", crate]
-        words.append(root_file or self.root_file(crate))
+        words = [f"{self.kit}/bin/rattle", verb, "--crate-name", crate, root_file or self.root_file(crate)]
         own = [it for it in uses if it in self.uses]
         for name in ["std", *(it for it in uses if it not in self.uses)]:
             words += ["--extern", f"{name}={self.kit}/rlibs/{name}.rlib"]
@@ -87,17 +91,16 @@ class Tree:
         folder = os.path.dirname(self.library(name))
         return self.is_proved and os.path.isdir(self.library(name)) and not os.path.isfile(f"{folder}/stamp")
 
-    def build_below(self, crates: Iterable[str]) -> Optional[str]:
-        """Builds the libraries that these crates rest on. Says why one does not build, or None."""
-        return self.build(dict.fromkeys(low for it in crates for low in self.below(it)))
+    def build_below(self, crates: Iterable[str]) -> None:
+        """Builds the libraries that these crates rest on."""
+        self.build(dict.fromkeys(low for it in crates for low in self.below(it)))
 
-    def build(self, names: Iterable[str]) -> Optional[str]:
-        """Builds these libraries, where they have changed. Says why one does not build, or None."""
+    def build(self, names: Iterable[str]) -> None:
+        """Builds these libraries, where they have changed. Where one does not build, this process ends."""
         for name in (it for it in names if not self.is_made(it)):
             ran = commands.run(["rt", "lib"], self.folder(name))
             if ran.status:
-                return "\n".join([*ran.lines()[-20:], f"the library {name} is not proved"])
-        return None
+                commands.fail("\n".join([*ran.lines()[-20:], f"the library {name} is not proved"]))
 
 
 class Kept:
@@ -132,6 +135,12 @@ class Kept:
                 pass
 
 
+def write(folder: str, texts: Dict[str, str]) -> None:
+    for path, text in texts.items():
+        with open(f"{folder}/{path}", "w", encoding="utf-8") as file:
+            file.write(text)
+
+
 def content(path: str) -> bytes:
     """A file's bytes; none where there is no such file."""
     with contextlib.suppress(OSError), open(path, "rb") as file:
@@ -141,13 +150,9 @@ def content(path: str) -> bytes:
 
 def listed(file: str) -> Dict[str, List[str]]:
     """What crates.txt says: each crate, and the libraries that it names."""
-    found = {}
     with open(file, encoding="utf-8") as lines:
-        for line in lines:
-            head, colon, uses = line.partition("#")[0].partition(":")
-            if colon:
-                found[head.split()[0]] = uses.split()
-    return found
+        parts = [line.partition("#")[0].partition(":") for line in lines]
+    return {head.split()[0]: uses.split() for head, colon, uses in parts if colon}
 
 
 def kit_folder() -> str:

@@ -46,10 +46,8 @@ class Row:
             self.words = tuple(unescaped(it).decode() for it in text.split())
         elif mark in (b"<", b"+"):
             self.given += unescaped(text) + b"\n" * (mark == b"<")
-        elif mark == b">":
-            self.output += text + b"\n"
-        elif mark == b"!":
-            self.errors += text + b"\n"
+        elif mark in (b">", b"!"):
+            self.output, self.errors = self.output + (text + b"\n") * (mark == b">"), self.errors + (text + b"\n") * (mark == b"!")
         else:
             raise BadRow(f"a line has no mark of these: {mark!r}")
 
@@ -90,9 +88,8 @@ def unescaped(text: bytes) -> bytes:
 
 def named_rows(text: bytes, words: Tuple[str, ...]) -> List[Row]:
     """The rows of a file, of which no two have one name."""
-    found = [*rows_of(text, words)]
-    names = [it.name for it in found]
-    for it in names:
-        if names.count(it) > 1:
-            raise BadRow(f"two rows have one name: {it!r}")
-    return found
+    found = {}
+    for it in rows_of(text, words):
+        if found.setdefault(it.name, it) is not it:
+            raise BadRow(f"two rows have one name: {it.name!r}")
+    return [*found.values()]

@@ -4,7 +4,9 @@ The test is built and run by `rt try`, from the sources of the whole tree and wi
 out, which makes the build shorter. It must pass without the wrong body, built in the same way.
 """
 
+import collections
 import os
+import pathlib
 import re
 import shutil
 import tempfile
@@ -26,10 +28,9 @@ class Trials:
 
     def __init__(self, tree: crates.Tree, room: str, tried: List[wrong.Wrong]) -> None:
         self.tree, self.room, self.lock, self.without = tree, room, threading.Lock(), {}
-        self.tests = {}
-        for it in tried:
-            crate, _, test = it.whom.partition("::")
-            self.tests.setdefault(crate, set()).add(test)
+        self.tests = collections.defaultdict(set)
+        for crate, _, test in (it.whom.partition("::") for it in tried):
+            self.tests[crate].add(test)
         self.rt = f"{kit_without_hints(tree.kit, tempfile.mkdtemp(prefix='kit-', dir=room))}/bin/rt"
 
     def passes(self, it: wrong.Wrong, texts: Dict[str, str]) -> bool:
@@ -47,8 +48,7 @@ class Trials:
 
     def outcomes(self, it: wrong.Wrong, crate: Optional[str], texts: Dict[str, str]) -> Dict[str, bool]:
         """Whether the tests of a crate, or the case, pass."""
-        folder = tempfile.mkdtemp(prefix="try-", dir=self.room)
-        try:
+        with tempfile.TemporaryDirectory(prefix="try-", dir=self.room) as folder:
             self.lay(folder, crate, texts)
             if it.kind == "case":
                 return {"": self.case_passes(it.whom, f"{folder}/crates/{cases.PROGRAM_CRATE}")}
@@ -60,18 +60,13 @@ class Trials:
             if not any(found):
                 raise NotRun(f"the tests of {test_crate} did not run: {told(ran.lines())}")
             return {line[1]: line[2] == "ok" for line in found if line}
-        finally:
-            shutil.rmtree(folder, ignore_errors=True)
 
     def lay(self, folder: str, crate: Optional[str], texts: Dict[str, str]) -> None:
         """A copy of the tree's sources, with these texts in the crate."""
         for name in ("crates.txt", "HANDLES"):
             shutil.copyfile(f"{self.tree.root}/{name}", f"{folder}/{name}")
         for name in self.tree.uses:
-            for part in filter(lambda part: os.path.isdir(f"{self.tree.folder(name)}/{part}"), crates.PARTS):
-                shutil.copytree(f"{self.tree.folder(name)}/{part}", f"{folder}/crates/{name}/{part}")
-        for path, text in texts.items():
-            write(f"{folder}/crates/{crate}/{path}", text)
+            self.tree.lay(name, f"{folder}/crates/{name}", texts if name == crate else {})
 
     def case_passes(self, label: str, folder: str) -> bool:
         """By its standard output and its status; rt writes lines of its own to standard error."""
@@ -94,7 +89,7 @@ def kit_without_hints(kit: str, folder: str, scripts: Optional[Dict[str, str]] =
         for name in (it for it in os.listdir(f"{kit}/{part}") if f"{part}{it}" not in ("bin", "toolchain", "toolchain/bin")):
             source, target = f"{kit}/{part}{name}", f"{folder}/{part}{name}"
             if f"{part}{name}" in scripts:
-                write(target, scripts[f"{part}{name}"])
+                pathlib.Path(target).write_text(scripts[f"{part}{name}"], encoding="utf-8")
                 os.chmod(target, 0o755)
             elif name in ("rt", "rtlib.py"):
                 # (these find the toolchain by where they lie)
@@ -110,18 +105,10 @@ def told(lines: List[str]) -> str:
     return (errors or [it for it in lines if it.strip()] or ["nothing was said"])[0][:200]
 
 
-def write(path: str, text: str) -> None:
-    with open(path, "w", encoding="utf-8") as file:
-        file.write(text)
-
-
 def leave_out_tests(folder: str, kept: Set[str]) -> None:
     """Empties the lines of every test below the folder that has none of these names."""
-    for at, _, names in os.walk(folder):
-        for name in (it for it in names if it.endswith(".rt")):
-            with open(f"{at}/{name}", encoding="utf-8") as file:
-                text = file.read()
-            write(f"{at}/{name}", without_tests(text, kept))
+    for path in pathlib.Path(folder).glob("**/*.rt"):
+        path.write_text(without_tests(path.read_text(encoding="utf-8"), kept), encoding="utf-8")
 
 
 def without_tests(text: str, kept: Set[str]) -> str:

@@ -52,7 +52,7 @@ class Wrong:
 
 @dataclasses.dataclass
 class Change:
-    """What wrong code does to a crate: the texts that it leaves, by path, and the lines that it turns."""
+    """What wrong code does to a crate: the texts that it leaves, by path, and the lines that it turns, from 0. (One that is turned back is none.)"""
 
     texts: Dict[str, str]
     lines: Set[Tuple[str, int]]
@@ -108,13 +108,8 @@ def change_of(it: Wrong, read: Callable[[str], str]) -> Change:
         texts[path] = text.replace(old, new)
     if not texts:
         raise BadEdit("it has no 'old:' and 'new:' pair")
-    return Change(texts, {(path, at) for path, text in texts.items() for at in turned_lines(read(path), text)})
-
-
-def turned_lines(before: str, after: str) -> Set[int]:
-    """The lines, from 0, that differ in two texts: one that is turned and turned back is none."""
-    pairs = zip(before.split("\n"), after.split("\n"))
-    return {at for at, (old, new) in enumerate(pairs) if old != new}
+    pairs = {path: zip(read(path).split("\n"), text.split("\n")) for path, text in texts.items()}
+    return Change(texts, {(path, at) for path, lines in pairs.items() for at, (old, new) in enumerate(lines) if old != new})
 
 
 def functions_in(text: str) -> List[Tuple[str, int, int]]:

@@ -8,7 +8,6 @@ import contextlib
 import hashlib
 import os
 import pathlib
-import shutil
 import subprocess
 from typing import Sequence
 
@@ -31,7 +30,9 @@ class Kept:
     def is_current(self) -> bool:
         """Whether the file was made of the sources as they are. If so, the list is noted that shows it sooner next time."""
         try:
-            listed, clock = self.listed(), self.file_clock()
+            # The present moment by the clock that dates the files, which may be another machine's.
+            os.utime(self.out)
+            listed, clock = self.listed(), self.out.stat().st_ctime
             if self.sum.read_text() != self.sums(sum_of(self.tree, self.crate)):
                 return False
         except OSError:
@@ -67,11 +68,6 @@ class Kept:
         words = [f"{self.tree.root}/tools/launch/list-sources", self.file.name]
         return subprocess.run(words, stdout=subprocess.PIPE).stdout
 
-    def file_clock(self) -> float:
-        """The present moment by the clock that dates the files, which may be another machine's."""
-        os.utime(self.out)
-        return self.out.stat().st_ctime
-
 
 def program(tree: crates.Tree) -> Kept:
     """The proved program. The object that it is linked of is kept for packages."""
@@ -95,8 +91,6 @@ def copy(tree: crates.Tree, folder: str, name: str) -> crates.Tree:
     """Copies the sources of a crate and of those below it, without what was built of them."""
     names = [*tree.below(name), name]
     for crate in names:
-        os.makedirs(f"{folder}/crates/{crate}")
-        for part in (it for it in crates.PARTS if os.path.isdir(f"{tree.folder(crate)}/{it}")):
-            shutil.copytree(f"{tree.folder(crate)}/{part}", f"{folder}/crates/{crate}/{part}", symlinks=True)
+        tree.lay(crate, f"{folder}/crates/{crate}")
     pathlib.Path(folder, "crates.txt").write_text("".join(f"{it}: {' '.join(tree.uses[it])}\n" for it in names))
     return crates.Tree(folder, tree.kit)

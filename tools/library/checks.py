@@ -6,25 +6,26 @@ import pathlib
 import shutil
 import subprocess
 import sys
-from typing import Iterator, List, Optional, Sequence, Tuple
+from typing import Iterator, List, NamedTuple, Optional, Sequence
 
 from clients import conversation, replay
 from gate import commands
-from gate.checks import TOP, Check, Failed
+from gate.checks import TOP, Check, Failed, rebalances, why_fails
 
 AT_ONCE = 4
 SECONDS, BUILD_SECONDS = 300, 1_500
 SCRIPTS, REFUSED_SCRIPTS, WATCHED_SCRIPTS = 2_000, 100, 4
 WATCH = ("valgrind", "-q", "--error-exitcode=99", "--leak-check=full", "--errors-for-leak-kinds=all")
 TOPIC = "t:11111111-1111-1111-1111-111111111111:2"
+REBALANCE = TOP / "examples/reply/rebalance"
 COMPILE = ("cc", "-std=c11", "-O2", "-Wall", "-Wextra", "-Werror")
 
 
-class Library:
-    """The library, and the programs over it."""
+class Library(NamedTuple):
+    """The library, and the folder for programs over it."""
 
-    def __init__(self, folder: pathlib.Path, archive: pathlib.Path) -> None:
-        self.folder, self.archive = folder, archive
+    folder: pathlib.Path
+    archive: pathlib.Path
 
     def compiled(self, source: str, *words: str) -> pathlib.Path:
         """The program of a source."""
@@ -33,6 +34,12 @@ class Library:
         if ran:
             raise Failed(ran)
         return made
+
+    def script(self, name: str, command: str) -> str:
+        made = self.folder / name
+        made.write_text(f"#!/bin/sh\nexec {command}\n")
+        made.chmod(0o755)
+        return str(made)
 
 
 def run(words: Sequence[str], folder: Optional[pathlib.Path] = None, given: bytes = b"", limit: float = SECONDS) -> str:
@@ -68,11 +75,11 @@ def of_c(library: Library) -> Iterator[Check]:
     yield from conversations([str(reply)])
     yield from cases(reply)
     yield from random_scripts([str(reply)], SCRIPTS)
-    refusing = library.folder / "refusing"
-    refusing.write_text(f'#!/bin/sh\nexec "{reply}" --refuse 2>/dev/null\n')
-    refusing.chmod(0o755)
-    yield "allocations are refused", refusals(reply)
-    yield from random_scripts([str(refusing)], REFUSED_SCRIPTS)
+    refusing = library.script("refusing", f'"{reply}" --refuse 2>/dev/null')
+    ran = commands.run([str(reply), "--refuse"], given=REBALANCE.with_suffix(".txt").read_bytes(), merged=False)
+    is_right = ran.status == 0 and ran.output == REBALANCE.with_suffix(".out").read_bytes() and int(ran.errors.split()[0]) > 0
+    yield "allocations are refused", "" if is_right else f"status {ran.status}, {ran.errors.decode()}, or the output differs"
+    yield from random_scripts([refusing], REFUSED_SCRIPTS)
     yield from watched(library, edges, reply)
 
 
@@ -103,27 +110,14 @@ def random_scripts(command: List[str], count: int) -> Iterator[Check]:
         yield f"{count // AT_ONCE} scripts of seed {number} through {os.path.basename(command[0])}", why
 
 
-def refusals(reply: pathlib.Path) -> str:
-    """A rebalance in which allocations were refused."""
-    ran = commands.run([str(reply), "--refuse"], given=(TOP / "examples/reply/rebalance.txt").read_bytes(), merged=False)
-    wanted = (TOP / "examples/reply/rebalance.out").read_bytes()
-    if ran.status or ran.output != wanted:
-        return f"status {ran.status}, and the output differs: {ran.errors.decode()}"
-    return "" if int(ran.errors.split()[0]) > 0 else "no allocation was refused"
-
-
 def watched(library: Library, edges: pathlib.Path, reply: pathlib.Path) -> Iterator[Check]:
     """The same under valgrind: no bad access, and all memory is freed."""
     if shutil.which(WATCH[0]) is None:
         yield "no leak and no bad access", f"{commands.NOT_RUN}there is no valgrind"
         return
     yield "edges under valgrind", run([*WATCH, str(edges)])
-    script = library.folder / "watched"
-    script.write_text(f'#!/bin/sh\nexec {" ".join(WATCH)} "{reply}"\n')
-    script.chmod(0o755)
-    yield from random_scripts([str(script)], WATCHED_SCRIPTS)
-    lines = (TOP / "examples/reply/rebalance.txt").read_bytes()
-    yield "refusals under valgrind", run([*WATCH, str(reply), "--refuse"], given=lines)
+    yield from random_scripts([library.script("watched", f'{" ".join(WATCH)} "{reply}"')], WATCHED_SCRIPTS)
+    yield "refusals under valgrind", run([*WATCH, str(reply), "--refuse"], given=REBALANCE.with_suffix(".txt").read_bytes())
 
 
 # ---- the examples
@@ -146,15 +140,11 @@ def of_examples(library: Library) -> Iterator[Check]:
     yield "examples/embed/rust", run(["cargo", "test", "--offline"], library.folder / "rust")
 
 
-def serves(program: pathlib.Path) -> str:
+def serves(program: pathlib.Path) -> Optional[str]:
     """The server takes the two members of examples/client.py through a rebalance."""
     process = subprocess.Popen([program, "0", TOPIC], stdout=subprocess.PIPE, text=True)
     try:
-        assert process.stdout is not None
-        port = process.stdout.readline().split()[1]
-        ran = commands.run([sys.executable, str(TOP / "examples/client.py"), f"127.0.0.1:{port}"], limit=SECONDS)
+        return why_fails(lambda: rebalances(process.stdout.readline().split()[1]))
     finally:
         process.kill()
-        process.wait()
-    is_right = ran.status == 0 and ran.lines()[-1].startswith("first leaves")
-    return "" if is_right else "\n".join(ran.lines())
+        process.communicate()

@@ -40,23 +40,18 @@ static void fail(int status, const char *why) {
 }
 
 /* Refusals: how many allocations are given before one is refused, and how many were before the last refusal of this call. */
-
 static int refuses;
 static long left = NEVER, given, refusals;
 
 void *__real_malloc(size_t size);
 void *__real_realloc(void *at, size_t size);
 
-static int is_refused(void) {
-    return left != NEVER && left-- == 0;
-}
-
 void *__wrap_malloc(size_t size) {
-    return is_refused() ? NULL : __real_malloc(size);
+    return left != NEVER && left-- == 0 ? NULL : __real_malloc(size);
 }
 
 void *__wrap_realloc(void *at, size_t size) {
-    return is_refused() ? NULL : __real_realloc(at, size);
+    return left != NEVER && left-- == 0 ? NULL : __real_realloc(at, size);
 }
 
 /* Before the first try of a call. */
@@ -82,6 +77,9 @@ static void took_none(void) {
     left = NEVER;
 }
 
+/* Makes a call until none of its allocations is refused. */
+#define UNTIL_DONE(code, call) do { begin(); do code = (call); while (again(code)); } while (0)
+
 /* The next word of the line, or NULL. */
 static char *word(char **line) {
     return *line ? strsep(line, " ") : NULL;
@@ -95,25 +93,21 @@ static uint64_t number(const char *text) {
     return it;
 }
 
-static int digit(char c) {
-    const char *digits = "0123456789abcdef0123456789ABCDEF", *at = strchr(digits, c);
-    return c && at ? (int)(at - digits) % 16 : -1;
-}
-
 /* The bytes of a text of hexadecimal digits, without what stands round those of an id. The length is how many they are. */
 static uint8_t *bytes(const char *text, size_t *length) {
-    const char *urn = "urn:uuid:";
+    const char *urn = "urn:uuid:", *digits = "0123456789abcdef0123456789ABCDEF", *digit;
     if (text == NULL) fail(2, "bytes are missing");
     if (!strncmp(text, urn, strlen(urn))) text += strlen(urn);
-    uint8_t *made = malloc(strlen(text) / 2 + 1);
-    int high = -1;
-    for (*length = 0; *text; text++) {
+    uint8_t *made = calloc(strlen(text) / 2 + 1, 1);
+    size_t count = 0;
+    for (; *text; text++) {
         if (strchr("-{}", *text)) continue;
-        if (digit(*text) < 0) fail(2, "a digit is bad");
-        if (high < 0) high = digit(*text);
-        else made[(*length)++] = (uint8_t)(high << 4 | digit(*text)), high = -1;
+        if ((digit = strchr(digits, *text)) == NULL) fail(2, "a digit is bad");
+        made[count / 2] = (uint8_t)(made[count / 2] << 4 | (digit - digits) % 16);
+        count++;
     }
-    if (high >= 0) fail(2, "half of a byte is missing");
+    if (count % 2) fail(2, "half of a byte is missing");
+    *length = count / 2;
     return made;
 }
 
@@ -123,14 +117,12 @@ static void image(char *line) {
         uint8_t *id = bytes(word(&line), &length);
         if (length != UUID) fail(2, "an id is bad");
         int32_t partitions = (int32_t)number(word(&line)), code;
-        begin();
-        do code = migwelun_add_topic(&slot, (uint8_t *)name, strlen(name), id, partitions); while (again(code));
+        UNTIL_DONE(code, migwelun_add_topic(&slot, (uint8_t *)name, strlen(name), id, partitions));
         if (code) fail(1, "a topic is refused");
         free(id);
     }
     int32_t code;
-    begin();
-    do code = migwelun_set_topics(&slot); while (again(code));
+    UNTIL_DONE(code, migwelun_set_topics(&slot));
     if (code) fail(1, "the topics are refused");
 }
 
@@ -164,8 +156,7 @@ static int32_t answer(const uint8_t *it, size_t length) {
     uint32_t size = (uint32_t)it[0] << 24 | (uint32_t)it[1] << 16 | (uint32_t)it[2] << 8 | it[3];
     if (size != length - SIZE) return MIGWELUN_CLOSES;
     int32_t code;
-    begin();
-    do code = migwelun_answer(&slot, it + SIZE, size, connection, frame, now); while (again(code));
+    UNTIL_DONE(code, migwelun_answer(&slot, it + SIZE, size, connection, frame, now));
     return code;
 }
 
@@ -238,8 +229,7 @@ int main(int count, char **words) {
     if (count > 1 && !refuses && !timed) fail(2, "usage: reply [--refuse | --time COUNT]");
     replies = malloc(room);
     beats = calloc(timed + 1, sizeof *beats);
-    begin();
-    do code = migwelun_make(&slot, 0, keys); while (again(code));
+    UNTIL_DONE(code, migwelun_make(&slot, 0, keys));
     if (code) fail(1, "no coordinator was made");
     for (ssize_t length; (length = getline(&line, &size, stdin)) > 0;) {
         if (line[length - 1] == '\n') line[length - 1] = 0;

@@ -2,7 +2,7 @@
 
 import pathlib
 import re
-from typing import Dict, Iterator, List, Set, Tuple
+from typing import Dict, Iterator, List, Set
 
 from model.definitions import WORD, Definition, Key, names_in
 

@@ -3,8 +3,9 @@
 import gzip
 import hashlib
 import io
+import pathlib
 import tarfile
-from typing import Dict, List, NamedTuple
+from typing import Dict, NamedTuple
 
 
 class Entry(NamedTuple):
@@ -22,7 +23,8 @@ def tar(files: Files, seconds: int, top: str = "./") -> bytes:
     """A tar of the files and of the folders above them, all root's and of this time."""
     made = io.BytesIO()
     with tarfile.open(fileobj=made, mode="w", format=tarfile.GNU_FORMAT) as archive:
-        for path in sorted({*files, *(folder for it in files for folder in folders(it))}):
+        folders = {str(folder) for it in files for folder in pathlib.PurePosixPath(it).parents} - {"."}
+        for path in sorted({*files} | folders):
             about = tarfile.TarInfo(f"{top}{path}")
             about.mtime, about.uname, about.gname = seconds, "root", "root"
             entry = files.get(path, Entry(mode=0o755))
@@ -30,11 +32,6 @@ def tar(files: Files, seconds: int, top: str = "./") -> bytes:
             about.type = tarfile.SYMTYPE if entry.link else tarfile.REGTYPE if path in files else tarfile.DIRTYPE
             archive.addfile(about, io.BytesIO(entry.content))
     return made.getvalue()
-
-
-def folders(path: str) -> List[str]:
-    parts = path.split("/")
-    return ["/".join(parts[:at]) for at in range(1, len(parts))]
 
 
 def zipped(content: bytes) -> bytes:

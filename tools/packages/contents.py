@@ -1,5 +1,6 @@
 """The files of a package. Below share/migwelun is what this repository has, so that its Python programs find each other there as here."""
 
+import itertools
 import os
 import pathlib
 import re
@@ -19,7 +20,12 @@ VERSION = ANSWERS["--version",].split()[1]
 SUBCOMMANDS = ("reply", "frame", "run", "serve")
 # The programs in Python, with the document that their man pages have, and its sections where that isn't all. They are commands migwelun-NAME of the
 # package, and so are the tools that need only Python. Some of these have their parts in the folder `stories`.
-PROGRAMS = {"broker": ("broker/README.md", ("The command line", "A record of the frames", "What a broker does for a consumer")), "conformance": ("conformance/README.md", ())}
+PROGRAMS = {
+    "broker": ("broker/README.md", ("The command line", "A record of the frames", "What a broker does for a consumer")),
+    "conformance": ("conformance/README.md", ()),
+}
+# The folders of theirs that only a repository needs.
+NOT_SHARED = {"tests", "trials", "failover"}
 TOOLS = ("tell-run", "draw-run", "write-run", "tell-capture", "run-lines", "reply-lines")
 EXAMPLES = ("*.md", "*.py", "run/*", "reply/*", "frame/*", "stories/*", "capture/*", "embed/*.c", "embed/python/*.py", "embed/rust/*.*", "embed/rust/*/*.rs")
 # The newest C library that may be needed: Debian 11's.
@@ -76,10 +82,11 @@ def files_of(program: pathlib.Path, library: pathlib.Path, version: str, seconds
     }
     shared = [it for each in EXAMPLES for it in (TOP / "examples").glob(each)]
     shared += (TOP / "stories").glob("*.py")
-    for name in programs():
+    for name in PROGRAMS:
         files[f"bin/migwelun-{name}"] = Entry((FILES / "python-program").read_bytes(), 0o755)
-        shared += [it for ending in ("py", "html", "md", "txt") for it in (TOP / name).glob(f"**/*.{ending}") if "tests" not in it.parts]
-    for name in filter(lambda it: (TOP / "tools" / it).is_file(), TOOLS):
+        found = [it for ending in ("py", "html", "md", "txt") for it in (TOP / name).glob(f"**/*.{ending}")]
+        shared += [it for it in found if not NOT_SHARED & {*it.relative_to(TOP).parts}]
+    for name in TOOLS:
         shared.append(TOP / "tools" / name)
         files[f"bin/migwelun-{name}"] = Entry(link=f"../share/migwelun/tools/{name}")
     files.update({f"share/migwelun/{it.relative_to(TOP)}": taken(it) for it in shared if it.is_file()})
@@ -94,47 +101,40 @@ def taken(path: pathlib.Path) -> Entry:
 
 def of_options(version: str, seconds: int) -> Files:
     """Man pages and completions."""
-    coord = [options.read("coord", ANSWERS["--help",]), *(options.read(f"coord {it}", ANSWERS[it, "--help"]) for it in SUBCOMMANDS)]
     document = as_installed((TOP / "docs/COMMANDS.md").read_text())
-    parts = {"coord": "\n\n".join(document.split("\n\n")[1:3]) + "\n" + "".join(f"### {it}\n{manual.section(document, it)}" for it in ("Lines", "Reasons"))}
-    parts.update({f"coord {it}": manual.section(document, f"`coord {it}`") for it in SUBCOMMANDS})
-    others = []
-    for name in programs():
-        command, (path, titles) = f"migwelun-{name}", PROGRAMS[name]
+    more = "".join(f"### {it}\n{manual.section(document, it)}" for it in ("Lines", "Reasons"))
+    # Each command's help, and the text of its page.
+    found = [(options.read("coord", ANSWERS["--help",]), "\n\n".join(document.split("\n\n")[1:3]) + "\n" + more)]
+    found += [(options.read(f"coord {it}", ANSWERS[it, "--help"]), manual.section(document, f"`coord {it}`")) for it in SUBCOMMANDS]
+    for name, (path, titles) in PROGRAMS.items():
+        command = f"migwelun-{name}"
         words = {**os.environ, "COLUMNS": "1000", "BROKER_NAME": command}
         ran = subprocess.run([sys.executable, "-B", "-m", name, "--help"], cwd=TOP, env=words, stdout=subprocess.PIPE, text=True, check=True)
-        others.append(options.read(command, ran.stdout.replace(f"python3 -m {name}", command)))
         text = as_installed((TOP / path).read_text())
-        parts[command] = "".join(manual.section(text, it) for it in titles) or text.partition("\n")[2]
-    pages = [it.command.replace(" ", "-") for it in (*coord, *others)]
+        part = "".join(manual.section(text, it) for it in titles) or text.partition("\n")[2]
+        found.append((options.read(command, ran.stdout.replace(f"python3 -m {name}", command)), part))
+    pages = {it.command.replace(" ", "-"): (it, part) for it, part in found}
     files: Files = {}
-    for it, own in zip((*coord, *others), pages):
-        text = manual.page(it, version, seconds, parts[it.command], [name for name in pages if name != own])
+    for own, (it, part) in pages.items():
+        text = manual.page(it, version, seconds, part, [name for name in pages if name != own])
         files[f"share/man/man1/{own}.1.gz"] = Entry(zipped(text.encode()))
-    return {**files, **completions_of(["coord", *(it.command for it in others)])}
+    return {**files, **completions_of(["coord", *(f"migwelun-{it}" for it in PROGRAMS)])}
 
 
 def as_installed(text: str) -> str:
     """A document with the commands of the package in place of those of the repository."""
-    for here, there in (("./coord", "coord"), *((f"python3 -m {it} ", f"migwelun-{it} ") for it in PROGRAMS), *((f"tools/{it}", f"migwelun-{it}") for it in TOOLS)):
+    names = {"./coord": "coord", **{f"python3 -m {it} ": f"migwelun-{it} " for it in PROGRAMS}, **{f"tools/{it}": f"migwelun-{it}" for it in TOOLS}}
+    for here, there in names.items():
         text = text.replace(here, there)
     return text
 
 
-def programs() -> List[str]:
-    return [it for it in PROGRAMS if (TOP / it).is_dir()]
-
-
 def completions_of(commands: List[str]) -> Files:
+    places = {"bash": "bash-completion/completions/{}", "zsh": "zsh/vendor-completions/_{}", "fish": "fish/vendor_completions.d/{}.fish"}
     found: Files = {}
-    for name in commands:
-        for shell, path in (
-            ("bash", f"share/bash-completion/completions/{name}"),
-            ("zsh", f"share/zsh/vendor-completions/_{name}"),
-            ("fish", f"share/fish/vendor_completions.d/{name}.fish"),
-        ):
-            text = (FILES / f"completion.{shell}").read_text().replace("COMMAND", name).replace("FUNCTION", name.replace("-", "_"))
-            found[path] = Entry(text.encode())
+    for name, (shell, place) in itertools.product(commands, places.items()):
+        text = (FILES / f"completion.{shell}").read_text().replace("COMMAND", name).replace("FUNCTION", name.replace("-", "_"))
+        found[f"share/{place.format(name)}"] = Entry(text.encode())
     return found
 
 

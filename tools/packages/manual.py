@@ -67,19 +67,13 @@ def rows_of(table: str) -> Iterator[str]:
 def inline(text: str) -> str:
     """A line of Markdown as roff, with code and what stands out in bold."""
     text = re.sub(r"\[([^\]]*)\]\([^)]*\)", r"\1", text)
-    parts = re.split(r"`([^`]*)`|\*\*([^*]*)\*\*", text)
-    return guarded("".join(plain + (f"\\fB{literal(code or bold or '')}\\fR" if code or bold else "") for plain, code, bold in triples(parts)))
+    plain = text.replace("\\", "\\e")
+    return guarded(re.sub(r"`([^`]+)`|\*\*([^*]+)\*\*", lambda it: "\\fB" + (it[1] or it[2]).replace("-", "\\-") + "\\fR", plain))
 
 
-def triples(parts: List[str]) -> Iterator["tuple[str, str, str]"]:
-    for at in range(0, len(parts), 3):
-        yield (literal(parts[at], "-"), *(parts[at + 1 : at + 3] or ("", "")))
-
-
-def literal(text: str, kept: str = "") -> str:
+def literal(text: str) -> str:
     """Text in which roff reads no command."""
-    text = text.replace("\\", "\\e")
-    return text if kept else text.replace("-", "\\-")
+    return text.replace("\\", "\\e").replace("-", "\\-")
 
 
 def guarded(line: str) -> str:

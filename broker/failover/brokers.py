@@ -15,12 +15,11 @@ from clients.relay import read_frame
 from clients.stand import HOST, Ports, Programs, Topic
 from conformance.connection import Address
 from conformance.messages import FIND_COORDINATOR, find_coordinator_fields, framed, header, read_find_coordinator_reply, reply_fields
-from failover.etcds import Etcds
+from broker.failover.etcds import Etcds
 
 # How many brokers there are, how many there may be where one is added, and into how many parts the groups are divided.
 BROKERS, SLOTS, PARTS = 3, 4, 6
 FIND_VERSION, FIND_SECONDS, PAGE_SECONDS = 2, 0.5, 30
-NO_ROOM = "no room"
 
 
 class Gone(Exception):
@@ -116,6 +115,12 @@ class Brokers(Programs):
         words += ["--lease", str(self.lease), "--rate", "5", "--port", str(self.fronts[slot]), "--status", str(self.pages[slot])]
         await asyncio.to_thread(self.start, str(slot), "listening", [*words, "--library", self.library, self.topic.word()], self.top)
 
+    async def add_one(self) -> int:
+        """Starts one more, in a slot that is free."""
+        new = min({*range(SLOTS)} - {*self.slots()})
+        await self.start_one(new)
+        return new
+
     def slots(self) -> List[int]:
         return sorted(int(name) for name in self.running if name.isdigit())
 
@@ -137,10 +142,6 @@ class Brokers(Programs):
     def page(self, slot: int) -> str:
         with urllib.request.urlopen(f"http://{HOST}:{self.pages[slot]}/groups", timeout=PAGE_SECONDS) as page:
             return page.read().decode()
-
-    def says_full(self, slot: int) -> bool:
-        """Whether a broker says that etcd has no room, in a line and on its page."""
-        return NO_ROOM in self.page(slot) and NO_ROOM in (self.folder / f"{slot}.txt").read_text(encoding="utf-8")
 
     def stopped(self) -> List[str]:
         """The parts that have stopped in a broker, and why."""

@@ -37,16 +37,11 @@ def text(data: bytes) -> str:
     return base64.b64encode(data).decode()
 
 
-def opened(port: int, path: str, seconds: float, body: Dict[str, Any]) -> Any:
-    """What an etcd answers, as a file. No read of it takes longer than these seconds."""
-    asked = urllib.request.Request(f"http://{HOST}:{port}/v3/{path}", json.dumps(body).encode(), {"Content-Type": "application/json"})
-    return urllib.request.urlopen(asked, timeout=seconds)
-
-
 def call(port: int, path: str, seconds: float = ANSWER_SECONDS, **body: Any) -> Dict[str, Any]:
     """What an etcd answers. Raises OSError where it doesn't, or refuses."""
+    asked = urllib.request.Request(f"http://{HOST}:{port}/v3/{path}", json.dumps(body).encode(), {"Content-Type": "application/json"})
     try:
-        with opened(port, path, seconds, body) as answer:
+        with urllib.request.urlopen(asked, timeout=seconds) as answer:
             found: Dict[str, Any] = json.load(answer)
             return found
     except (ValueError, http.client.HTTPException) as why:

@@ -4,6 +4,8 @@ import collections
 from typing import Dict, Iterable, List, NamedTuple, Set, Tuple
 
 FOREVER = float("inf")
+# What changes who owns what.
+CHANGES = ("ASSIGN", "REVOKE", "LOST")
 
 
 class Print(NamedTuple):
@@ -29,8 +31,8 @@ def print_of(line: str) -> Print:
     return Print(float(moment), name, kind, text[0] if text else "")
 
 
-def partitions_of(it: Print) -> List[str]:
-    return [] if it.text in ("", "-") else it.text.split(",")
+def partitions_of(it: Print) -> Set[str]:
+    return set() if it.text in ("", "-") else {*it.text.split(",")}
 
 
 class Owners:
@@ -54,20 +56,20 @@ class Owners:
 
     def take(self, it: Print) -> None:
         mine, named = {partition for name, partition in self.since if name == it.name}, partitions_of(it)
+        is_closing = it.name in self.closing
         if it.kind == "CLOSING":
             self.closing.add(it.name)
-        elif it.kind == "ASSIGN" and it.name in self.closing:
+        elif it.kind == "ASSIGN" and is_closing:
             self.late += len(named)
         elif it.kind == "ASSIGN":
-            self.faults += [f"{it.name} is assigned {partition}, which it has" for partition in named if partition in mine]
+            self.faults += [f"{it.name} is assigned {partition}, which it has" for partition in sorted(named & mine)]
             self.since.update({(it.name, partition): it.moment for partition in named})
         elif it.kind in ("REVOKE", "LOST", "START", "CLOSED"):
-            given_up = {*named} if it.kind in ("REVOKE", "LOST") else mine
-            unknown = [] if it.name in self.closing else sorted(given_up - mine)
-            self.faults += [f"{it.name} gives up {partition}, which it hasn't" for partition in unknown]
+            given_up = named if it.kind in CHANGES else mine
+            self.faults += [f"{it.name} gives up {partition}, which it hasn't" for partition in sorted(given_up - mine) if not is_closing]
             for partition in mine & given_up:
                 self.close(it.name, partition, it.moment)
-            self.closing -= {it.name} if it.kind in ("START", "CLOSED") else set()
+            self.closing -= set() if it.kind in CHANGES else {it.name}
 
 
 def overlaps(found: Iterable[Span]) -> List[Tuple[Span, Span]]:

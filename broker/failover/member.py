@@ -1,16 +1,16 @@
-"""A consumer that is played. It follows KIP-848, commits what it would have read, and prints what happens to it as consumer.c does."""
+"""A consumer that is played. It follows KIP-848, commits what it would have read, and prints what those of broker/trials print."""
 
 import asyncio
 import collections
 import time
 import uuid
-from typing import Awaitable, Callable, Counter, Dict, List, Optional, Set
+from typing import Awaitable, Callable, Counter, Dict, Iterable, List, Optional
 
-from clients.prints import Print
+from broker.trials.prints import Print
 from clients.stand import Topic
 from conformance.connection import Address
 from conformance.messages import OFFSET_FETCH, framed, header, offset_fetch_fields, read_offset_fetch_reply, reply_fields
-from failover.brokers import Channel, Gone
+from broker.failover.brokers import Channel, Gone
 from rules.client import FENCED, INSIDE, OUTSIDE, Client
 from rules.messages import Commit, read_commit_reply, read_heartbeat_reply
 
@@ -55,7 +55,7 @@ class Member:
     def say(self, kind: str, text: str = "") -> None:
         self.tell(Print(time.time(), self.name, kind, text))
 
-    def say_of(self, kind: str, indexes: Set[int]) -> None:
+    def say_of(self, kind: str, indexes: Iterable[int]) -> None:
         self.say(kind, ",".join(f"{self.topic.name}:{index}" for index in sorted(indexes)) or "-")
 
     async def run(self) -> None:
@@ -70,7 +70,7 @@ class Member:
 
     async def quit(self) -> None:
         self.say("CLOSING")
-        self.say_of("REVOKE", {*self.offsets})
+        self.say_of("REVOKE", self.offsets)
         self.offsets.clear()
         self.leaves = True
         await self.running
@@ -112,12 +112,12 @@ class Member:
         """Gives up what isn't assigned any more, and takes what is, from the committed offset on."""
         own, shown = ({index for _, index in them} for them in (self.client.own, self.client.shown))
         lost = set() if self.holds_on else own - shown
-        if lost & {*self.offsets}:
-            self.say_of("REVOKE", lost & {*self.offsets})
+        if lost & self.offsets.keys():
+            self.say_of("REVOKE", lost & self.offsets.keys())
         for index in lost:
             self.client.release((uuid.UUID(self.topic.id).bytes, index))
             self.offsets.pop(index, None)
-        new = own & shown - {*self.offsets}
+        new = own & shown - self.offsets.keys()
         if new and not self.leaves:
             found = {index: await committed(channel, self.client.group, self.topic.name, index) for index in sorted(new)}
             self.say_of("ASSIGN", new)

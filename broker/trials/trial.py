@@ -4,14 +4,15 @@ import collections
 import contextlib
 import dataclasses
 import pathlib
+import signal
 import threading
 import time
-from typing import Any, Callable, Counter, Dict, Iterator, List, Optional, Sequence, Set, Union
+from typing import Any, Callable, Counter, Dict, Iterator, List, Sequence, Set
 
-from clients.consumers import Consumers
-from clients.log import Beat, Committing, read_exchanges
-from clients.prints import Print, partitions_of
-from clients.roots import CLIENTS
+from broker.trials.consumers import Consumers
+from broker.trials.prints import CHANGES, Print, partitions_of
+from broker.trials.roots import CLIENTS, CONSUMER
+from clients.log import Exchange, read_exchanges
 from clients.stand import HOST, Stand, Topic
 
 ORDERS = Topic("orders", "aaaaaaaa-0000-4000-8000-000000000001", 12)
@@ -21,7 +22,6 @@ TOPICS = (ORDERS, BILLS, WIDE)
 BOTH = ("orders", "bills")
 # How many seconds without a change are quiet: a heartbeat's interval, and some.
 QUIET = 6.5
-CHANGES = ("ASSIGN", "REVOKE", "LOST")
 
 
 @dataclasses.dataclass(frozen=True)
@@ -48,36 +48,44 @@ class Crowd:
         self.last_change = time.time()
         self.consumers: List[Consumers] = []
         self.groups: Dict[str, str] = {}
+        # After how many seconds all was quiet, each time that somebody came.
+        self.took: List[float] = []
         # Moments at which a consumer's ownership ends whatever it prints, and the errors that clients may meet here.
         self.ends: Dict[str, List[float]] = collections.defaultdict(list)
         self.expected: Set[str] = set()
 
     # ---- consumers
 
-    def start(
-        self, name: str, *options: object, group: str = "g", topics: str = "orders,bills", count: int = 0, client: str = "", **settings: Any
-    ) -> Consumers:
-        """Starts a consumer. An underscore in a setting's name stands for a dot, and None for the library's own choice."""
+    def start(self, name: str, *options: object, group: str = "g", topics: str = "orders,bills", client: str = "", **settings: Any) -> Consumers:
+        """Starts a consumer, or `count` of them. An underscore in a setting's name stands for a dot, and None for the library's own choice."""
+        count = settings.pop("count", 0)
         of = CLIENTS[client or self.client]
         given = [f"{key.replace('_', '.')}={value}" for key, value in settings.items() if value is not None]
         if "group_remote_assignor" not in settings:
             given += of.settings
-        words = ["chroot", str(self.roots / of.release), *of.words, *map(str, options), *(["-n", str(count)] if count else [])]
+        words = ["chroot", str(self.roots / of.release), "python3", f"/{CONSUMER.name}", *of.words, *map(str, options), "-n", str(count)]
         words += [name, topics, f"bootstrap.servers={self.bootstrap}", f"group.id={group}", *given]
         made = Consumers(words, name, count, self.folder / f"{len(self.consumers)}-{name}.txt", self.take)
         self.groups.update(dict.fromkeys(made.names, group))
         self.consumers.append(made)
         return made
 
+    def come(self, name: str, what: str, *options: object, topics: str = "orders,bills", limit: float = 120, **settings: Any) -> Consumers:
+        """Starts a consumer, or several, and waits until all is quiet."""
+        made = self.start(name, *options, topics=topics, **settings)
+        self.took.append(self.quiet(topics.split(","), what, made.started, limit))
+        return made
+
     def kill(self, it: Consumers) -> float:
-        moment = it.kill()
+        moment = self.stop(it, signal.SIGKILL)
+        it.wait()
         for name in it.names:
-            self.ends[name].append(moment)
             self.owned.pop(name, None)
         return moment
 
-    def pause(self, it: Consumers) -> float:
-        moment = it.pause()
+    def stop(self, it: Consumers, by: signal.Signals = signal.SIGSTOP) -> float:
+        """From now on it owns nothing, whatever it prints."""
+        moment = it.signal(by)
         for name in it.names:
             self.ends[name].append(moment)
         return moment
@@ -86,14 +94,11 @@ class Crowd:
         """A consumer has printed something."""
         with self.lock:
             self.prints.append(it)
-            if it.kind == "ASSIGN":
-                self.owned[it.name] |= {*partitions_of(it)}
-            elif it.kind in ("REVOKE", "LOST"):
-                self.owned[it.name] -= {*partitions_of(it)}
-            elif it.kind == "START":
-                self.owned[it.name] = set()
-            elif it.kind == "CLOSED":
+            if it.kind == "CLOSED":
                 self.owned.pop(it.name, None)
+            elif it.kind in (*CHANGES, "START"):
+                kept = set() if it.kind == "START" else self.owned[it.name] - partitions_of(it)
+                self.owned[it.name] = kept | partitions_of(it) if it.kind == "ASSIGN" else kept
             if it.kind in (*CHANGES, "CLOSED"):
                 self.last_change = time.time()
             self.lock.notify_all()
@@ -138,50 +143,43 @@ class Crowd:
                 self.lock.wait(0.2)
         return True
 
-    def problem(self, topics: Sequence[str], names: Optional[Sequence[str]] = None) -> str:
+    def problem(self, topics: Sequence[str], names: Sequence[str] = ()) -> str:
         """Why it isn't so that each partition of these topics has exactly one owner; nothing where it is."""
         with self.lock:
             every = {f"{name}:{index}" for name in topics for index in range(self.topics[name].count)}
-            owners = collections.Counter(p for name, parts in self.owned.items() if names is None or name in names for p in parts)
+            owners = collections.Counter(p for name, parts in self.owned.items() if not names or name in names for p in parts)
         twice = sorted(p for p, count in owners.items() if count > 1)
         kinds = {"twice": twice, "missing": sorted(every - {*owners}), "of other topics": sorted({*owners} - every)}
         return "; ".join(f"{len(them)} {kind}, {them[0]} among them" for kind, them in kinds.items() if them)
 
-    def counts(self, names: Optional[Sequence[str]] = None) -> Counter:
+    def counts(self, names: Sequence[str] = ()) -> Counter:
         with self.lock:
-            return collections.Counter(len(parts) for name, parts in self.owned.items() if names is None or name in names)
+            return collections.Counter(len(parts) for name, parts in self.owned.items() if not names or name in names)
 
-    def quiet(
-        self, topics: Sequence[str], what: str, since: float, limit: float = 120, even: bool = True, names: Optional[Sequence[str]] = None
-    ) -> float:
+    def uneven(self, names: Sequence[str] = ()) -> str:
+        """How many partitions how many consumers own, where that is more or less than one apart."""
+        counts = self.counts(names)
+        return f"the counts are {dict(counts)}" if counts and max(counts) - min(counts) > 1 else ""
+
+    def quiet(self, topics: Sequence[str], what: str, since: float, limit: float = 120, even: bool = True, names: Sequence[str] = ()) -> float:
         """Waits until each partition has exactly one owner, all have as many but for one, and nothing has changed for a while.
         Gives the seconds from `since` to the last change."""
-        until = time.time() + limit
-
-        def uneven() -> str:
-            counts = self.counts(names)
-            return f"the counts are {dict(counts)}" if even and counts and max(counts) - min(counts) > 1 else ""
-
-        while time.time() < until:
-            with self.lock:
-                idle = time.time() - max(self.last_change, since)
-                if idle >= QUIET and not self.problem(topics, names) and not uneven():
-                    break
+        until, fault = time.time() + limit, lambda: self.problem(topics, names) or (self.uneven(names) if even else "")
+        while time.time() < until and (time.time() < max(self.last_change, since) + QUIET or fault()):
             time.sleep(0.1)
-        took = max((it.moment - since for it in self.changes(since)), default=0.0)
-        fault = self.problem(topics, names) or uneven()
-        self.check(not fault, f"{what}: each partition has exactly one owner, {took:.2f} s{' (' + fault + ')' if fault else ''}")
+        took, why = max((it.moment - since for it in self.changes(since)), default=0.0), fault()
+        self.check(not why, f"{what}: each partition has exactly one owner, {took:.2f} s{' (' + why + ')' if why else ''}")
         return took
 
     # ---- the end
 
     def close_all(self) -> None:
-        for it in self.consumers:
-            if it.status() is None:
-                it.go_on()
-                it.say("quit all")
-        for it in self.consumers:
-            if it.status() is None and not it.wait():
+        running = [it for it in self.consumers if it.is_running()]
+        for it in running:
+            it.signal(signal.SIGCONT)
+            it.say("quit all")
+        for it in running:
+            if not it.wait():
                 self.fail(f"{it.name} doesn't close")
 
 
@@ -199,18 +197,18 @@ class Trial(Crowd):
         """The client is librdkafka 2.8.0, or one as old."""
         return any(it.text.startswith("2.8.") for it in self.of("START"))
 
-    def exchanges(self, client: str = "", since: float = 0.0) -> List[Union[Beat, Committing]]:
+    def exchanges(self, client: str = "", since: float = 0.0) -> List[Exchange]:
         """What has come to the coordinator from this client id, and wasn't answered before a moment."""
         found = read_exchanges(str(self.folder / "frames.log"))
         return [it for it in found if client in ("", it.head.client) and it.answered >= since]
 
-    def heartbeats(self, client: str = "", since: float = 0.0) -> List[Beat]:
+    def heartbeats(self, client: str = "", since: float = 0.0) -> List[Exchange]:
         """The heartbeats that were answered."""
-        return [it for it in self.exchanges(client, since) if isinstance(it, Beat) and it.is_answered()]
+        return [it for it in self.exchanges(client, since) if not it.is_commit and it.is_answered()]
 
-    def commits(self, client: str = "", since: float = 0.0) -> List[Committing]:
+    def commits(self, client: str = "", since: float = 0.0) -> List[Exchange]:
         """The commits that were answered."""
-        return [it for it in self.exchanges(client, since) if isinstance(it, Committing) and it.is_answered()]
+        return [it for it in self.exchanges(client, since) if it.is_commit and it.is_answered()]
 
     def end(self) -> None:
         self.close_all()

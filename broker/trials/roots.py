@@ -7,10 +7,8 @@ import shutil
 import subprocess
 from typing import Dict, List, Tuple
 
-HERE = pathlib.Path(__file__).resolve().parent
-# Where the consumers stand in a root.
-PLACE = "consumers"
-COMMON = ("librdkafka-dev", "gcc", "libc6-dev", "python3", "kcat")
+CONSUMER = pathlib.Path(__file__).with_name("consumer.py")
+COMMON = ("librdkafka1", "python3", "kcat")
 RELEASES: Dict[str, Tuple[str, ...]] = {"trixie": COMMON, "sid": (*COMMON, "python3-confluent-kafka")}
 SHOWN = ("librdkafka1", "python3-confluent-kafka", "kcat")
 INSTALL_SECONDS = 1_800
@@ -18,18 +16,18 @@ INSTALL_SECONDS = 1_800
 
 @dataclasses.dataclass(frozen=True)
 class Client:
-    """A consumer's program in a release's root, and settings that it is given where a scenario names no assignor."""
+    """The release whose root has it, words for consumer.py, and settings that it is given where a scenario names no assignor."""
 
     release: str
-    words: Tuple[str, ...]
+    words: Tuple[str, ...] = ()
     settings: Tuple[str, ...] = ()
 
 
 # 2.8.0 calls its application in the classic way where it is told of no assignor.
 CLIENTS = {
-    "trixie": Client("trixie", (f"/{PLACE}/consumer",), ("group.remote.assignor=uniform",)),
-    "sid": Client("sid", (f"/{PLACE}/consumer",)),
-    "confluent": Client("sid", ("python3", f"/{PLACE}/consumer.py")),
+    "trixie": Client("trixie", (), ("group.remote.assignor=uniform",)),
+    "sid": Client("sid"),
+    "confluent": Client("sid", ("-p",)),
 }
 
 
@@ -61,26 +59,13 @@ def make(folder: pathlib.Path) -> None:
         if process.wait(INSTALL_SECONDS):
             raise NotHere(f"debootstrap of {release} ended with {process.returncode}; {folder}/{release}.log says why")
     for release in RELEASES:
-        build(folder / release)
+        shutil.copy(CONSUMER, folder / release)
 
 
 def install(folder: pathlib.Path, release: str) -> subprocess.Popen:
     words = ["debootstrap", "--variant=minbase", "--include=" + ",".join(RELEASES[release]), release, str(folder / release), mirror()]
     with open(folder / f"{release}.log", "w", encoding="utf-8") as log:
         return subprocess.Popen(words, stdin=subprocess.DEVNULL, stdout=log, stderr=log)
-
-
-def build(root: pathlib.Path) -> None:
-    place = root / PLACE
-    place.mkdir(exist_ok=True)
-    for name in ("consumer.c", "consumer.py"):
-        shutil.copy(HERE / name, place)
-    words = ["gcc", "-O1", "-Wall", "-Wextra", "-o", f"/{PLACE}/consumer.new", f"/{PLACE}/consumer.c", "-lrdkafka", "-lpthread"]
-    built = subprocess.run(["chroot", str(root), *words], capture_output=True, text=True, check=False)
-    if built.returncode:
-        raise NotHere(f"the consumer can't be built in {root}: {built.stderr.strip()}")
-    # So another run's consumers are always whole.
-    os.replace(place / "consumer.new", place / "consumer")
 
 
 def versions(folder: pathlib.Path) -> List[str]:

@@ -3,10 +3,10 @@
 import asyncio
 import signal
 import time
-from typing import Awaitable, Callable, Dict, NamedTuple
+from typing import Awaitable, Callable, Dict, NamedTuple, Sequence
 
-from clients.stand import Failed
-from failover.brokers import SLOTS, Brokers
+from clients.stand import Failed, Programs
+from broker.failover.brokers import Brokers
 
 # A time longer than a session, how long all is down, and how long a new broker may wait for a leadership.
 LONG_SECONDS, DOWN_SECONDS, SPREAD_SECONDS = 60, 120, 30
@@ -29,20 +29,18 @@ async def kill(it: Brokers, slot: int) -> None:
     await it.start_one(slot)
 
 
-async def stop(it: Brokers, slot: int) -> None:
-    it.send_signal(str(slot), signal.SIGSTOP)
-    await asyncio.sleep(2 * it.lease)
-    it.send_signal(str(slot), signal.SIGCONT)
+async def pause(programs: Programs, names: Sequence[str], seconds: float) -> None:
+    for name in names:
+        programs.send_signal(name, signal.SIGSTOP)
+    await asyncio.sleep(seconds)
+    for name in names:
+        programs.send_signal(name, signal.SIGCONT)
 
 
 async def cut(it: Brokers, slot: int, seconds: float = 0.0) -> None:
     it.cut(slot)
     await asyncio.sleep(seconds or 2 * it.lease)
     it.heal()
-
-
-async def cut_long(it: Brokers, slot: int) -> None:
-    await cut(it, slot, LONG_SECONDS)
 
 
 async def cut_brokers(it: Brokers, slot: int) -> None:
@@ -60,29 +58,16 @@ async def kill_etcd(it: Brokers, _: int) -> None:
 
 async def stop_etcd(it: Brokers, _: int) -> None:
     """(The system still accepts its connections, and nobody answers on them.)"""
-    leader = await asyncio.to_thread(it.etcds.leader)
-    it.etcds.send_signal(leader, signal.SIGSTOP)
-    await asyncio.sleep(2 * it.lease)
-    it.etcds.send_signal(leader, signal.SIGCONT)
+    await pause(it.etcds, [await asyncio.to_thread(it.etcds.leader)], 2 * it.lease)
 
 
 async def compact(it: Brokers, slot: int) -> None:
     it.cut(slot)
     await asyncio.sleep(2 * it.lease)
     await asyncio.to_thread(it.etcds.compact)
-    new = min({*range(SLOTS)} - {*it.slots()})
-    await it.start_one(new)
+    new = await it.add_one()
     it.heal()
     await asyncio.to_thread(it.send_signal, str(new), signal.SIGTERM)
-
-
-async def stop_etcds(it: Brokers, _: int) -> None:
-    two = [*it.etcds.running][:2]
-    for name in two:
-        it.etcds.send_signal(name, signal.SIGSTOP)
-    await asyncio.sleep(LONG_SECONDS)
-    for name in two:
-        it.etcds.send_signal(name, signal.SIGCONT)
 
 
 async def restart_all(it: Brokers, _: int) -> None:
@@ -96,9 +81,7 @@ async def restart_all(it: Brokers, _: int) -> None:
 
 
 async def replace(it: Brokers, slot: int) -> None:
-    new = min({*range(SLOTS)} - {*it.slots()})
-    await it.start_one(new)
-    until = time.monotonic() + SPREAD_SECONDS
+    new, until = await it.add_one(), time.monotonic() + SPREAD_SECONDS
     while not await it.leads(new):
         if time.monotonic() > until:
             raise Failed(f"no leadership comes to a new broker within {SPREAD_SECONDS} s")
@@ -109,21 +92,25 @@ async def replace(it: Brokers, slot: int) -> None:
 async def fill_etcd(it: Brokers, slot: int) -> None:
     await asyncio.to_thread(it.etcds.fill)
     await asyncio.sleep(2 * it.lease)
-    says = it.says_full(slot)
+    said = it.page(slot), (it.folder / f"{slot}.txt").read_text(encoding="utf-8")
     await asyncio.to_thread(it.etcds.empty)
-    if not says:
+    if not all("no room" in text for text in said):
         raise Failed("no line and no page says that etcd has no room")
 
 
 FAULTS: Dict[str, Fault] = {
     "kill": Fault("kill -9 of a broker, which starts again after the lease and 2 s", kill, times=20),
-    "stop": Fault("SIGSTOP of a broker for twice the lease, then SIGCONT", stop),
+    "stop": Fault("SIGSTOP of a broker for twice the lease, then SIGCONT", lambda it, slot: pause(it, [str(slot)], 2 * it.lease)),
     "cut": Fault("a broker and etcd are cut off from each other for twice the lease", cut),
-    "cut-long": Fault(f"the same for {LONG_SECONDS} s", cut_long),
+    "cut-long": Fault(f"the same for {LONG_SECONDS} s", lambda it, slot: cut(it, slot, LONG_SECONDS)),
     "cut-brokers": Fault("a broker is cut off from the other brokers: it has no connection to them that could be cut", cut_brokers),
     "kill-etcd": Fault("kill -9 of etcd's leader, which starts again after twice the lease", kill_etcd),
     "stop-etcd": Fault("SIGSTOP of etcd's leader for twice the lease: it accepts connections, and doesn't answer", stop_etcd),
-    "stop-etcds": Fault(f"SIGSTOP of two of three etcd for {LONG_SECONDS} s, then SIGCONT", stop_etcds, LONG_SECONDS + 2, LONG_SECONDS - 2),
+    "stop-etcds": Fault(
+        f"SIGSTOP of two of three etcd for {LONG_SECONDS} s, then SIGCONT",
+        lambda it, _: pause(it.etcds, [*it.etcds.running][:2], LONG_SECONDS),
+        *(LONG_SECONDS + 2, LONG_SECONDS - 2),
+    ),
     "restart-all": Fault(f"kill -9 of all, which start again after {DOWN_SECONDS} s", restart_all, DOWN_SECONDS + 15, DOWN_SECONDS - 2),
     "replace": Fault("a broker is added, and another one ended for good", replace),
     "compact": Fault("etcd's history is compacted while a broker is cut off, and another one starts behind that", compact, 4),

@@ -5,7 +5,9 @@ brokers   the brokers, a relay before them, and wires to each etcd that can be c
 member    a consumer that is played
 faults    the faults, as a table
 waits     how long programs had to wait for the machine
-planted   brokers with a planted fault, which have to be found
 logs      the logs in etcd, run through the library, beside the frames that passed
 run       consumers in groups, the faults brought to them, and what must hold
+speed     how fast brokers over etcd are
+
+planted.txt has faults that are planted in brokers, and have to be found. The modules of tools/ that it uses are there where the tool starts it.
 """

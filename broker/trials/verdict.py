@@ -1,29 +1,26 @@
 """What must hold at the end of every trial."""
 
 import collections
-from typing import Dict, List, Sequence, Tuple, Union
+from typing import Dict, List, Sequence, Tuple
 
+from broker.trials.prints import Owners, Print, overlaps, records_read
+from broker.trials.trial import Crowd, Trial
 from clients.holds import Holds
-from clients.log import Beat, Committing
-from clients.prints import Owners, Print, overlaps, records_read
-from clients.trial import Crowd, Trial
-
-Exchanges = List[Union[Beat, Committing]]
+from clients.log import Exchange
 
 
 def judge(trial: Trial) -> None:
     exchanges = trial.exchanges()
-    by_group: Dict[str, List[Print]] = collections.defaultdict(list)
-    for it in trial.prints:
-        by_group[trial.groups[it.name]].append(it)
-    judge_owners(trial, by_group)
-    judge_prints(trial)
     judge_frames(trial, exchanges)
-    for group, prints in by_group.items():
+    for group, prints in judge_prints(trial).items():
         judge_reading(trial, group, prints, exchanges)
 
 
-def judge_owners(trial: Crowd, by_group: Dict[str, List[Print]]) -> None:
+def judge_prints(trial: Crowd) -> Dict[str, List[Print]]:
+    """What consumers have printed, by their groups."""
+    by_group: Dict[str, List[Print]] = collections.defaultdict(list)
+    for it in trial.prints:
+        by_group[trial.groups[it.name]].append(it)
     groups = [Owners(prints, trial.ends) for prints in by_group.values()]
     pairs = [pair for of in groups for pair in overlaps(of.spans)]
     faults = [fault for of in groups for fault in of.faults]
@@ -34,13 +31,11 @@ def judge_owners(trial: Crowd, by_group: Dict[str, List[Print]]) -> None:
     if late:
         trial.note(f"consumers that were closing were assigned {late} partitions, which isn't counted")
     trial.check(not faults, f"each gave up what it had, and was assigned what it hadn't{told(faults)}")
-
-
-def judge_prints(trial: Crowd) -> None:
     wrong = [it for it in trial.prints if it.kind == "WRONG" or it.kind == "RECORD" and not is_right(it)]
     trial.check(not wrong, f"each record was the right one{told(wrong)}")
     errors = [it for it in trial.prints if it.kind in ("ERROR", "FATAL") and not any(word in it.text for word in trial.expected)]
     trial.check(not errors, f"no error but those that belong here{told(errors)}")
+    return by_group
 
 
 def is_right(it: Print) -> bool:
@@ -49,7 +44,7 @@ def is_right(it: Print) -> bool:
     return value == f"{topic}/{index}/{offset}"
 
 
-def judge_frames(trial: Trial, exchanges: Exchanges) -> None:
+def judge_frames(trial: Trial, exchanges: List[Exchange]) -> None:
     holds = Holds({topic.name: topic.id for topic in trial.topics.values()}).walk(exchanges, trial.restarts)
     trial.check(not holds.faults, f"by the frames: nothing granted while held, no commit taken of what isn't held{told(holds.faults)}")
     trial.note(f"heartbeat codes {dict(sorted(holds.heartbeat_codes.items()))}, commit codes {dict(sorted(holds.commit_codes.items()))}")
@@ -58,12 +53,12 @@ def judge_frames(trial: Trial, exchanges: Exchanges) -> None:
         trial.check(not closes, f"the coordinator closed no connection{told(closes)}")
 
 
-def judge_reading(trial: Trial, group: str, prints: List[Print], exchanges: Exchanges) -> None:
+def judge_reading(trial: Trial, group: str, prints: List[Print], exchanges: List[Exchange]) -> None:
     """Each record below the last offset that was committed was read by somebody of the group."""
     read = records_read(prints)
     committed: Dict[Tuple[str, int], int] = {}
     for it in exchanges:
-        if isinstance(it, Committing) and it.asked.group == group:
+        if it.is_commit and it.asked.group == group:
             parts = [(name, *part) for name, parts in it.asked.topics for part in parts]
             committed.update({(name, index): offset for (name, index, offset, *_), code in zip(parts, it.codes) if code == 0})
     if read:

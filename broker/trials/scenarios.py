@@ -3,15 +3,16 @@
 import collections
 import random
 import re
+import signal
 import subprocess
 import time
-from typing import Any, Callable, Dict, Iterable, List, NamedTuple, Sequence, Set, Tuple, Union
+from typing import Any, Callable, Dict, Iterable, NamedTuple, Sequence, Set, Tuple
 
-from clients.consumers import Consumers
-from clients.log import Beat, Committing
-from clients.roots import CLIENTS
+from broker.trials.consumers import Consumers
+from broker.trials.roots import CLIENTS
+from broker.trials.trial import BOTH, Trial
+from clients.log import Exchange
 from clients.stand import HOST
-from clients.trial import BOTH, Trial
 from rules.messages import read_commit_reply
 
 SESSION, TICK, INTERVAL = 45.0, 0.5, 5.0
@@ -36,8 +37,7 @@ def instance(name: str) -> str:
 
 def one_alone(t: Trial) -> None:
     """One consumer gets all, and leaves."""
-    c = t.start("c1", group="größe Ω", client_rack="eu-1")
-    t.quiet(BOTH, "one consumer", c.started)
+    c = t.come("c1", "one consumer", group="größe Ω", client_rack="eu-1")
     join = t.heartbeats("c1")[0]
     told = join.told.code, join.told.epoch, len(join.told.assignment or ())
     t.check(told == (0, 1, 19), "its join is answered with code 0, epoch 1 and 19 partitions")
@@ -49,18 +49,13 @@ def one_alone(t: Trial) -> None:
 
 def joins_and_leaves(t: Trial) -> None:
     """Ten consumers come, and nine of them go one by one."""
-    joins, leaves = [], []
-    consumers: List[Consumers] = []
-    for count in (1, 2, 3):
-        consumers.append(t.start(f"c{count}"))
-        joins.append(t.quiet(BOTH, f"{count} consumers", consumers[-1].started))
+    consumers = [t.come(f"c{count}", f"{count} consumers") for count in (1, 2, 3)]
     for count in range(4, 11):
-        consumers.append(t.start(f"c{count}"))
         time.sleep(1)
-    joins.append(t.quiet(BOTH, "10 consumers", consumers[-1].started))
-    for left in range(9, 0, -1):
-        leaves.append(t.quiet(BOTH, f"{left} left", consumers[left].quit()))
-    t.note(f"seconds after the last join of 1, 2, 3 and 10: {seconds(joins)}; after each leave: {seconds(leaves)}")
+        consumers.append(t.start(f"c{count}"))
+    t.took.append(t.quiet(BOTH, "10 consumers", consumers[-1].started))
+    leaves = [t.quiet(BOTH, f"{left} left", consumers[left].quit()) for left in range(9, 0, -1)]
+    t.note(f"seconds after the last join of 1, 2, 3 and 10: {seconds(t.took)}; after each leave: {seconds(leaves)}")
 
 
 def seconds(values: Iterable[float]) -> str:
@@ -70,8 +65,7 @@ def seconds(values: Iterable[float]) -> str:
 def static_restarts(t: Trial) -> None:
     """A static member comes back after 1, 12 and 30 s to what it had. One that was killed is refused until its session ends."""
     static = {name: t.start(name, group_instance_id=f"i-{name}") for name in ("s1", "s2", "s3")}
-    dynamic = t.start("d1")
-    t.quiet(BOTH, "3 static members and 1 dynamic", dynamic.started)
+    t.come("d1", "3 static members and 1 dynamic")
     for pause in (1, 12, 30):
         come_back(t, static, pause)
     t.expect(*IN_USE)
@@ -83,8 +77,7 @@ def static_restarts(t: Trial) -> None:
     again.quit()
     t.wait_for(lambda: not t.problem(BOTH, ("s1", "s2", "d1")), 70, "the others get its partitions")
     t.note(f"the others had them {time.time() - moment:.1f} s after the kill")
-    again = t.start("s3", group_instance_id="i-s3")
-    t.quiet(BOTH, "s3 is back after its session ended", again.started)
+    t.come("s3", "s3 is back after its session ended", group_instance_id="i-s3")
 
 
 def come_back(t: Trial, static: Dict[str, Consumers], pause: float) -> None:
@@ -208,14 +201,14 @@ def stopped(t: Trial) -> None:
     t.expect("UNKNOWN_MEMBER_ID", "STALE_MEMBER_EPOCH", "SESSTMOUT", *BROKEN)
     group = settled(t, ("c1", "c2", "c3"), *(["-l"] if t.client != "confluent" else []))
     late = t.commits("c2")[-1].frame
-    stop = t.pause(group["c2"])
+    stop = t.stop(group["c2"])
     group["c2"].say("commit c2")
     time.sleep(60)
     t.check(not t.problem(BOTH, ("c1", "c3")), "60 s later the others have all")
     t.note(f"they had it {max(it.moment for it in t.of('ASSIGN', since=stop)) - stop:.2f} s after the stop")
     told = read_commit_reply(t.stand.send(late)[4:])
     t.check(0 not in told, f"a commit of its comes once more, over another connection: {sorted({*told})}")
-    back = group["c2"].go_on()
+    back = group["c2"].signal(signal.SIGCONT)
     t.wait_for(lambda: t.of("ASSIGN", "c2", back), 30, "c2 is assigned partitions again")
     t.quiet(BOTH, "after c2's return", back)
     losses = [round(it.moment - back, 2) for it in t.of("LOST", "c2", back)]
@@ -236,9 +229,7 @@ def cuts(t: Trial) -> None:
     for kind in ("now", "before", "after", "after-commit"):
         cut_in_steady_state(t, kind)
     t.stand.tell_relay("cut c1 after")
-    third = t.start("c3")
-    t.quiet(BOTH, "the reply that takes partitions is lost", third.started)
-    moment = third.quit()
+    moment = t.come("c3", "the reply that takes partitions is lost").quit()
     t.stand.tell_relay("cut c2 after")
     t.quiet(BOTH, "the reply that gives partitions is lost", moment)
     lose_a_joins_reply(t)
@@ -276,8 +267,7 @@ def slow_revocation(t: Trial) -> None:
     t.expect("UNKNOWN_MEMBER_ID", "STALE_MEMBER_EPOCH", "MAX_POLL", "FENCED")
     # (2.14.2 has no such setting with this protocol.)
     session: Dict[str, Any] = {"session_timeout_ms": 10_000} if t.client == "trixie" else {}
-    slow = t.start("slow", "-b", 16_000, max_poll_interval_ms=10_000, **session)
-    t.quiet(BOTH, "slow alone", slow.started)
+    t.come("slow", "slow alone", "-b", 16_000, max_poll_interval_ms=10_000, **session)
     t.start("fast")
     t.wait_for(lambda: t.of("BLOCK", "slow"), 20, "slow begins to give up")
     start = t.of("BLOCK", "slow")[0].moment
@@ -339,8 +329,7 @@ def late_acknowledgement(t: Trial) -> None:
     t.expect("UNKNOWN_MEMBER_ID", *BROKEN)
     c1 = settled(t, ("c1",))["c1"]
     # It has nothing to give up before c3 comes.
-    c2 = t.start("c2", "-b", 4_000)
-    t.quiet(BOTH, "2 consumers", c2.started)
+    t.come("c2", "2 consumers", "-b", 4_000)
     heard = len(t.heartbeats("c2"))
     t.wait_for(lambda: len(t.heartbeats("c2")) > heard, 2 * INTERVAL, "c2 sends a heartbeat")
     time.sleep(1)
@@ -367,10 +356,10 @@ def late_request(t: Trial, kind: str) -> str:
     return outcome([it for it in t.exchanges("c1") if it.connection == former and it.sent >= moment + LATE - 1][0])
 
 
-def outcome(it: Union[Beat, Committing]) -> str:
+def outcome(it: Exchange) -> str:
     if not it.is_answered():
         return "closes" if it.closes else "no reply"
-    return f"code {it.told.code}" if isinstance(it, Beat) else f"codes {sorted({*it.codes})}"
+    return f"code {it.told.code}" if not it.is_commit else f"codes {sorted({*it.codes})}"
 
 
 def coordinator_restarts(t: Trial) -> None:
@@ -380,7 +369,7 @@ def coordinator_restarts(t: Trial) -> None:
     group = settled(t, ("c1", "c2", "c3"))
     for away in (0, 8):
         moment = time.time()
-        t.stand.kill_coordinator()
+        t.stand.send_signal("coordinator-0", signal.SIGKILL)
         time.sleep(away)
         t.stand.serve()
         back = time.time()
@@ -400,7 +389,9 @@ def coordinator_stalls(t: Trial) -> None:
     group = settled(t, ("c1", "c2", "c3"))
     for seconds in (4, 14, 30):
         moment = time.time()
-        t.stand.stop_coordinator(seconds)
+        t.stand.send_signal("coordinator-0", signal.SIGSTOP)
+        time.sleep(seconds)
+        t.stand.send_signal("coordinator-0", signal.SIGCONT)
         time.sleep(1)
         t.quiet(BOTH, f"stopped for {seconds} s", moment)
         codes = {it.told.code for it in t.heartbeats(since=moment)}
@@ -426,32 +417,29 @@ def long_run(t: Trial) -> None:
     t.quiet(BOTH, f"{made} consumers came, and {len(group)} are left", time.time())
 
 
-def start_quietly(t: Trial, name: str, count: int, topics: str, group: str = "g") -> Consumers:
-    """Consumers that print no records, commit seldom, and don't fetch all the time."""
-    return t.start(name, "-q", "-c", 2000, topics=topics, group=group, count=count, fetch_wait_max_ms=5_000)
+# What consumers are started with that print no records, commit seldom, and don't fetch all the time.
+QUIETLY = ("-q", "-c", 2000)
 
 
 def hundred(t: Trial) -> None:
     """A hundred consumers of a topic of 200 partitions, fifty at a time."""
     t.expect("TRANSPORT")
-    first = start_quietly(t, "h", 50, "wide")
-    took = [t.quiet(("wide",), "50 consumers at once", first.started, limit=LIMIT)]
-    second = start_quietly(t, "k", 50, "wide")
-    took.append(t.quiet(("wide",), "100 consumers, the second 50 at once", second.started, limit=LIMIT))
-    one = start_quietly(t, "z", 0, "wide")
-    took.append(t.quiet(("wide",), "one more", one.started, limit=LIMIT))
-    took.append(t.quiet(("wide",), "and it is gone", one.quit(), limit=LIMIT))
+    wide: Dict[str, Any] = {"topics": "wide", "fetch_wait_max_ms": 5_000, "limit": LIMIT}
+    t.come("h", "50 consumers at once", *QUIETLY, count=50, **wide)
+    second = t.come("k", "100 consumers, the second 50 at once", *QUIETLY, count=50, **wide)
+    one = t.come("z", "one more", *QUIETLY, **wide)
+    t.took.append(t.quiet(("wide",), "and it is gone", one.quit(), limit=LIMIT))
     moment = time.time()
     second.say("quit all")
     second.wait(40)
-    took.append(t.quiet(("wide",), "50 leave at once", moment, limit=LIMIT))
-    t.note("seconds to converge: " + ", ".join(f"{it:.1f}" for it in took))
+    t.took.append(t.quiet(("wide",), "50 leave at once", moment, limit=LIMIT))
+    t.note(f"seconds to converge: {seconds(t.took)}")
 
 
 def twenty_groups(t: Trial) -> None:
     """Twenty groups of three consumers over three coordinators."""
     t.expect("TRANSPORT")
-    groups = [start_quietly(t, f"g{number}x", 3, "orders,bills", f"group{number}") for number in range(20)]
+    groups = [t.start(f"g{it}x", *QUIETLY, group=f"group{it}", count=3, fetch_wait_max_ms=5_000) for it in range(20)]
     took = [t.quiet(BOTH, f"group{number}", it.started, names=it.names) for number, it in enumerate(groups)]
     homes: Dict[str, Set[int]] = collections.defaultdict(set)
     for it in t.exchanges():
@@ -468,10 +456,8 @@ def mixed(t: Trial) -> None:
     names = {"old1": "trixie", "new1": "sid", "py1": "confluent", "old2": "trixie", "new2": "sid"}
     group = []
     for name, client in names.items():
-        group.append(t.start(name, client=client, **uniform))
-        t.quiet(BOTH, f"{len(group)} consumers, the last of {client}", group[-1].started)
-    first = t.start("sa", client="trixie", group_instance_id="i", **uniform)
-    t.quiet(BOTH, "a static member of trixie joins", first.started)
+        group.append(t.come(name, f"{len(group) + 1} consumers, the last of {client}", client=client, **uniform))
+    first = t.come("sa", "a static member of trixie joins", client="trixie", group_instance_id="i", **uniform)
     before = {*t.owned["sa"]}
     moment = first.quit()
     time.sleep(3)
@@ -488,9 +474,7 @@ def metadata(t: Trial) -> None:
     t.expect("METADATA", "metadata")
     codes = {}
     for name, size in (("c1", 10), ("c2", 4096), ("c3", 4097)):
-        it = t.start(name, "-m", size)
-        t.quiet(BOTH, f"one with {size} bytes of metadata", it.started)
-        it.quit()
+        t.come(name, f"one with {size} bytes of metadata", "-m", size).quit()
         codes[size] = sorted({code for its in t.commits(name) for code in its.codes})
     t.check(codes == {10: [0], 4096: [0], 4097: [12]}, f"commit codes by size: {codes}")
 
@@ -498,8 +482,7 @@ def metadata(t: Trial) -> None:
 def automatic_commits(t: Trial) -> None:
     """The commits of the library itself."""
     settings: Dict[str, Any] = {"enable_auto_commit": "true", "auto_commit_interval_ms": 300}
-    group = [t.start("c1", "-c", 0, **settings)]
-    t.quiet(BOTH, "one", group[0].started)
+    group = [t.come("c1", "one", "-c", 0, **settings)]
     for number in range(2, 8):
         group.append(t.start(f"c{number}", "-c", 0, **settings))
         time.sleep(1.7)

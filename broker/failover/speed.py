@@ -1,17 +1,15 @@
 """How fast a broker over etcd is, beside one with a coordinator of its own."""
 
-import http.client
-import json
 import pathlib
-import subprocess
 import sys
 import time
-from typing import Dict, List, Tuple
+from typing import Dict, List
 
 from clients.stand import HOST, TOP, Failed, Ports, Programs
-from failover.brokers import PARTS
-from failover.etcds import Etcds, text
-from failover.run import TOPIC
+from broker.failover.brokers import PARTS
+from broker.failover.etcds import Etcds, text
+from broker.failover.run import TOPIC
+from gate import commands
 
 CONSUMERS, SECONDS, LEAD_SECONDS, APPENDS = (1, 20, 200), 5, 30, 300
 KINDS = {"heartbeats": [], "commits": ["--commits"]}
@@ -21,10 +19,10 @@ Told = Dict[str, str]
 
 def of_load(port: int, consumers: int, words: List[str]) -> str:
     load = [str(TOP / "tools/load"), "--connections", str(consumers), "--depth", "1", "--seconds", str(SECONDS), "--topic", TOPIC.name]
-    ran = subprocess.run([*load, *words, str(port)], capture_output=True, text=True, check=False)
-    if ran.returncode:
-        raise Failed(ran.stderr.strip())
-    rate, half, most = (float(it) for it in ran.stdout.splitlines()[-1].split()[2:5])
+    ran = commands.run([*load, *words, str(port)])
+    if ran.status:
+        raise Failed("\n".join(ran.lines()))
+    rate, half, most = (float(it) for it in ran.lines()[-1].split()[2:5])
     return f"{rate:.0f}, {half / 1000:.1f}, {most / 1000:.1f}"
 
 
@@ -47,16 +45,13 @@ def of_broker(folder: pathlib.Path, library: str, words: List[str], leads: int) 
 def over_etcd(folder: pathlib.Path, library: str, count: int) -> Told:
     folder.mkdir()
     etcds, took = Etcds(folder, count), []
-    connection = http.client.HTTPConnection(HOST, etcds.clients[0])
     for _ in range(APPENDS):
         took.append(-time.monotonic())
-        connection.request("POST", "/v3/kv/put", json.dumps({"key": text(b"speed"), "value": text(bytes(200))}))
-        connection.getresponse().read()
+        etcds.any("kv/put", key=text(b"speed"), value=text(bytes(200)))
         took[-1] += time.monotonic()
     where = ",".join(f"{HOST}:{port}" for port in etcds.clients)
-    words = ["--etcd", where, "--advertise", f"{HOST}:1", "--parts", str(PARTS)]
     found = {"one append": ", ".join(f"{1000 * sorted(took)[APPENDS * of // 100]:.1f}" for of in (50, 99))}
-    found.update(of_broker(folder, library, words, PARTS))
+    found.update(of_broker(folder, library, ["--etcd", where, "--advertise", f"{HOST}:1", "--parts", str(PARTS)], PARTS))
     etcds.end()
     return found
 

@@ -3,18 +3,18 @@
 import time
 from typing import Any, Callable, Dict, List, NamedTuple, Tuple
 
-from clients.consumers import Consumers
+from broker.trials.consumers import Consumers
+from broker.trials.trial import Trial
 from clients.stand import Topic
-from clients.trial import Trial
 
 INTERVAL = 5.0
 ORDERS = Topic("orders", "aaaaaaaa-0000-4000-8000-000000000001", 4)
 NAMES = ("orders",)
 
 
-def start(t: Trial, name: str, **settings: Any) -> Consumers:
+def come(t: Trial, name: str, what: str, **settings: Any) -> Consumers:
     """A consumer that commits where it is asked to alone."""
-    return t.start(name, "-c", 0, topics="orders", **settings)
+    return t.come(name, what, "-c", 0, topics="orders", **settings)
 
 
 def commit(t: Trial, it: Consumers) -> None:
@@ -23,25 +23,15 @@ def commit(t: Trial, it: Consumers) -> None:
     t.wait_for(lambda: t.of("COMMIT", it.name, moment) or t.of("REFUSED", it.name, moment), 20, f"{it.name} commits")
 
 
-def alone(t: Trial) -> Consumers:
-    """One consumer that has read and committed all."""
-    c1 = start(t, "c1")
-    t.quiet(NAMES, "one consumer", c1.started)
-    commit(t, c1)
-    return c1
-
-
 def two(t: Trial) -> Tuple[Consumers, Consumers]:
-    c1 = start(t, "c1")
-    t.quiet(NAMES, "one consumer", c1.started)
-    c2 = start(t, "c2")
-    t.quiet(NAMES, "two consumers", c2.started)
-    return c1, c2
+    return come(t, "c1", "one consumer"), come(t, "c2", "two consumers")
 
 
 def join(t: Trial) -> None:
     """A consumer joins, is assigned four partitions, reads five records of each, and commits."""
-    t.kill(alone(t))
+    c1 = come(t, "c1", "one consumer")
+    commit(t, c1)
+    t.kill(c1)
 
 
 def rebalance(t: Trial) -> None:
@@ -62,20 +52,18 @@ def leave(t: Trial) -> None:
 
 def static_restart(t: Trial) -> None:
     """Of two static members one goes away with epoch -2, and comes back under another id to what it had."""
-    c1, c2 = (start(t, name, group_instance_id=f"i-{name}") for name in ("c1", "c2"))
+    c1, c2 = (t.start(name, "-c", 0, topics="orders", group_instance_id=f"i-{name}") for name in ("c1", "c2"))
     t.quiet(NAMES, "two static members", c2.started)
     c1.quit()
     time.sleep(INTERVAL)
-    c1 = start(t, "c1", group_instance_id="i-c1")
-    t.quiet(NAMES, "c1 is back", c1.started)
+    c1 = come(t, "c1", "c1 is back", group_instance_id="i-c1")
     for it in (c1, c2):
         t.kill(it)
 
 
 def late_heartbeat(t: Trial) -> None:
     """A heartbeat comes late, over a connection that its member has left for another one. The coordinator closes it."""
-    c1 = start(t, "c1", socket_timeout_ms=2_000)
-    t.quiet(NAMES, "one consumer", c1.started)
+    c1 = come(t, "c1", "one consumer", socket_timeout_ms=2_000)
     t.stand.tell_relay("hold c1 heartbeat 9")
     time.sleep(9 + 2 * INTERVAL)
     commit(t, c1)
@@ -98,12 +86,11 @@ def stale_commit(t: Trial) -> None:
 
 def fenced_commit(t: Trial) -> None:
     """A member doesn't hear that it is to give up, and is removed when its 2 s for this are over. Its commit is answered with 25."""
-    c1 = start(t, "c1", max_poll_interval_ms=2_000)
-    t.quiet(NAMES, "one consumer", c1.started)
+    c1 = come(t, "c1", "one consumer", max_poll_interval_ms=2_000)
     wait_for_heartbeat(t)
     # So no heartbeat of c2 comes while c1's time to give up runs out.
     time.sleep(INTERVAL - 1)
-    c2 = start(t, "c2")
+    c2 = t.start("c2", "-c", 0, topics="orders")
     t.wait_for(lambda: t.heartbeats("c2"), INTERVAL, "c2 joins")
     t.stand.tell_relay("hold-reply c1 heartbeat 4.5")
     wait_for_heartbeat(t)

@@ -8,16 +8,16 @@ import pathlib
 import time
 from typing import Awaitable, Callable, Dict, Iterable, List, Sequence, Tuple, Union
 
-from clients import verdict
-from clients.prints import Print
+from broker.trials import verdict
+from broker.trials.prints import Print
+from broker.trials.trial import Crowd
 from clients.stand import TOP, Failed, Topic
-from clients.trial import Crowd
-from failover import waits
-from failover.brokers import Brokers, Channel, Gone
-from failover.etcds import Etcds
-from failover.faults import FAULTS, Fault
-from failover.logs import Logs
-from failover.member import ANSWER_SECONDS, Member, committed
+from broker.failover import waits
+from broker.failover.brokers import Brokers, Channel, Gone
+from broker.failover.etcds import Etcds
+from broker.failover.faults import FAULTS, Fault
+from broker.failover.logs import Logs
+from broker.failover.member import ANSWER_SECONDS, Member, committed
 from rules.client import FENCED
 
 TOPIC = Topic("orders", "aaaaaaaa-0000-4000-8000-000000000001", 12)
@@ -48,7 +48,6 @@ class Run(Crowd):
     async def begin(self) -> None:
         self.timer, self.began = waits.Timer(), time.monotonic()
         await self.brokers.begin()
-        self.logs = await asyncio.to_thread(Logs, self.etcds, self.brokers.library)
         for at, group in enumerate(GROUPS):
             for number, name in enumerate(self.names_of(group)):
                 # (The first of each group is our own, which sees when the group is answered.)
@@ -101,9 +100,6 @@ class Run(Crowd):
             even = collections.Counter({TOPIC.count // len(names): len(names)})
             await self.until(lambda: not self.problem([TOPIC.name], names) and self.counts(names) == even, f"{group} settles")
 
-    async def all_lead(self) -> bool:
-        return all([await self.brokers.leads(slot) for slot in self.brokers.slots()])
-
     async def disturb(self, group: str, kind: str) -> None:
         """The last member leaves, and another one joins once the others have what it had. So each of these is to give something up, and one of ours
         holds on to it."""
@@ -126,8 +122,9 @@ class Run(Crowd):
         number, faults, began = len(self.results), len(self.faults), time.monotonic()
         said = f"{name} {number + 1}"
         try:
-            await self.until(self.all_lead, "each broker leads a part")
             slots = self.brokers.slots()
+            for slot in slots:
+                await self.until(functools.partial(self.brokers.leads, slot), "each broker leads a part")
             slot = slots[number % len(slots)]
             led = [group for group in GROUPS if await self.brokers.leader_of(group) == slot] or GROUPS
             group, kind = led[number // len(slots) % len(led)], self.kinds[number % len(self.kinds)]
@@ -145,7 +142,8 @@ class Run(Crowd):
     async def watch(self, fault: Fault, slot: int, group: str) -> str:
         """What was seen, in words."""
         steady = [it for it in GROUPS if it != group]
-        before = {it.name: (it.client.id, it.client.epoch) for it in self.own_of(steady)}
+        epochs = lambda: {it.name: (it.client.id, it.client.epoch) for it in self.own_of(steady)}
+        before = epochs()
         began, waited, late = time.time(), self.waited(), self.timer.late
         asyncio.get_running_loop().call_later(HOLD_SECONDS, self.let_go)
         await fault.act(self.brokers, slot)
@@ -155,14 +153,17 @@ class Run(Crowd):
         took = max((it.moment - began for it in self.changes(began)), default=0.0)
         gaps = {it: self.gap(it, began) for it in GROUPS}
         slack = self.timer.late - late + sum(waits.most(some, more) for some, more in zip(waited, self.waited()))
-        self.judge_gaps(gaps, fault, slack)
+        # (Where programs have to wait for the machine, it may take so much longer.)
+        most = self.brokers.lease + fault.most + slack
+        for it, gap in gaps.items():
+            self.want(fault.least <= gap <= most, f"{it} had no answer for {gap:.1f} s, where {fault.least:g} to {most:.1f} may be")
         self.judge_changes(steady, began)
         stopped = await asyncio.to_thread(self.brokers.stopped)
         self.want(not stopped, f"a broker can't apply a log any further{verdict.told(stopped)}")
-        after = {it.name: (it.client.id, it.client.epoch) for it in self.own_of(steady)}
-        self.want(before == after, f"groups without a rebalance have other epochs: {before}, then {after}")
+        self.want(before == epochs(), f"groups without a rebalance have other epochs: {before}, then {epochs()}")
         await self.judge_commits()
-        return f": unanswered for {max(gaps.values()):.1f} s at most, the last move after {took:.1f} s (programs waited {slack:.1f} s for the machine)"
+        seen = f": unanswered for {max(gaps.values()):.1f} s at most, the last move after {took:.1f} s"
+        return f"{seen} (programs waited {slack:.1f} s for the machine)"
 
     def want(self, holds: object, text: str) -> None:
         if not holds:
@@ -179,15 +180,10 @@ class Run(Crowd):
         kinds = brokers, [it.pid for it in self.etcds.running.values()], [self.brokers.running["relay"].pid]
         return [waits.of_processors(numbers) for numbers in kinds]
 
-    def judge_gaps(self, gaps: Dict[str, float], fault: Fault, slack: float) -> None:
-        """Where programs have to wait for the machine, it may take so much longer."""
-        most = self.brokers.lease + fault.most + slack
-        for group, gap in gaps.items():
-            self.want(fault.least <= gap <= most, f"{group} had no answer for {gap:.1f} s, where {fault.least:g} to {most:.1f} may be")
-
     def judge_changes(self, steady: Sequence[str], began: float) -> None:
         for it in self.changes(began):
-            self.want(self.groups[it.name] not in steady and it.kind != "LOST", f"{it.name} {it.kind} {it.text} {it.moment - began:.1f} s after the fault")
+            is_right = self.groups[it.name] not in steady and it.kind != "LOST"
+            self.want(is_right, f"{it.name} {it.kind} {it.text} {it.moment - began:.1f} s after the fault")
         for member in self.played.values():
             told = [code for code in FENCED if member.codes.pop(code, 0)]
             self.want(not told, f"{member.name} is told {told}")
@@ -218,15 +214,11 @@ class Run(Crowd):
     async def judge_all(self) -> None:
         """What was printed and what passed, from the beginning to the end. It ends all but etcd, and prints the last line."""
         await self.end_consumers()
-        by_group: Dict[str, List[Print]] = collections.defaultdict(list)
-        for it in self.prints:
-            by_group[self.groups[it.name]].append(it)
-        verdict.judge_owners(self, by_group)
         verdict.judge_prints(self)
-        await asyncio.to_thread(self.logs.catch_up)
-        count, faults = self.logs.judge(self.folder / "frames.log")
+        logs = await asyncio.to_thread(Logs, self.etcds, self.brokers.library)
+        count, faults = logs.judge(self.folder / "frames.log")
         self.check(not faults, f"each of the {count} replies that passed is one of the logs' run{verdict.told(faults)}")
-        codes = self.logs.codes()
+        codes = logs.codes()
         self.check(not {*FENCED} & {*codes}, f"nobody is told 25 or 110 by the logs' run: codes {dict(sorted(codes.items()))}")
         results = self.results + ["FAILED" not in line for line in self.lines]
         used, hours = self.etcds.used() / 1e6, (time.monotonic() - self.began) / 3600
