@@ -15,6 +15,7 @@ from gate.checks import TOP, Check, Failed
 AT_ONCE = 4
 SECONDS, BUILD_SECONDS = 300, 1_500
 SCRIPTS, REFUSED_SCRIPTS, WATCHED_SCRIPTS = 2_000, 100, 4
+RESTORED_SCRIPTS, CHANGED = 100, 2_000
 WATCH = ("valgrind", "-q", "--error-exitcode=99", "--leak-check=full", "--errors-for-leak-kinds=all")
 TOPIC = "t:11111111-1111-1111-1111-111111111111:2"
 COMPILE = ("cc", "-std=c11", "-O2", "-Wall", "-Wextra", "-Werror")
@@ -135,6 +136,8 @@ def of_examples(library: Library) -> Iterator[Check]:
     python = [sys.executable, "-B", "-m", "unittest"]
     os.environ["MIGWELUN_LIBRARY"] = os.environ["BROKER_TEST_LIBRARY"] = str(library.archive.with_suffix(".so"))
     os.environ["MIGWELUN_JOURNAL"] = str(library.compiled("examples/embed/journal.c", "-D_GNU_SOURCE"))
+    words = ["library.snapshots", os.environ["MIGWELUN_LIBRARY"], str(RESTORED_SCRIPTS), str(CHANGED)]
+    yield f"{RESTORED_SCRIPTS} scripts through replicas that are restored", run([sys.executable, "-B", "-m", *words], TOP / "tools")
     yield "examples/embed/journal.c, killed", run([*python, "test_journal"], embed / "python")
     yield "examples/embed/python", run([*python, "test_migwelun"], embed / "python")
     yield "broker --embedded", run([*python, "broker.tests.test_program.Program.test_two_members_of_another_hand_embedded"], TOP)

@@ -1,6 +1,6 @@
 /*
  * Sees that the C library does what include/migwelun.h says at the edges: empty and full slots, bodies of every short length, short
- * buffers, names that are no text, each fault of topics, and what may be read. Prints what it finds otherwise; the last line is
+ * buffers, names that are no text, each fault of topics, what may be read, and snapshots. Prints what it finds otherwise; the last line is
  * `N passed, M failed`, and the status is 0 where none failed.
  */
 #include <stdio.h>
@@ -8,7 +8,7 @@
 #include <string.h>
 #include "migwelun.h"
 
-enum { LONGEST_BODY = 40, MARK = 0xa5 };
+enum { LONGEST_BODY = 40, MARK = 0xa5, ROOM = 4096 };
 
 static int passed, failed;
 
@@ -161,12 +161,97 @@ static void reads(void) {
     migwelun_drop(&slot);
 }
 
+/* ---- snapshots */
+
+static int32_t snapshot(migwelun_slot *slot, uint64_t place, size_t from, size_t *next) {
+    return migwelun_snapshot(slot, place, from, 1, next);
+}
+
+static int32_t restore(migwelun_slot *slot, const uint8_t *bytes, size_t length, size_t *at) {
+    uint8_t *copy = malloc(length ? length : 1);
+    memcpy(copy, bytes, length);
+    int32_t code = migwelun_restore(slot, copy, length, KEYS, at);
+    free(copy);
+    return code;
+}
+
+/* Applies the entry that waits, behind those that were applied. */
+static int32_t apply(migwelun_slot *slot, uint64_t place) {
+    uint8_t entry[ROOM];
+    uint32_t leadership, connection;
+    uint64_t frame;
+    size_t size;
+    if (migwelun_take_entry(slot, entry, sizeof entry, &size)) return MIGWELUN_SHORT;
+    return migwelun_apply(slot, place, entry, size, &leadership, &connection, &frame);
+}
+
+/* All parts, the one behind the other, each of one section: their length. */
+static size_t all_parts(migwelun_slot *slot, uint64_t place, uint8_t *to, size_t *parts) {
+    size_t next = 0, length = 0, size = 1;
+    for (*parts = 0; size; length += size) {
+        if (snapshot(slot, place, next, &next) || migwelun_take_entry(slot, to + length, ROOM - length, &size)) return 0;
+        *parts += size > 0;
+    }
+    return length;
+}
+
+/* Where there is no replica, or one whose place is another. */
+static void no_snapshots(void) {
+    migwelun_slot slot = {0};
+    uint8_t none[1];
+    size_t next = 77, at = 78;
+    SEE(snapshot(&slot, 0, 0, &next) == MIGWELUN_EMPTY && next == 77);
+    SEE(restore(&slot, ID, 0, &at) == MIGWELUN_BAD_SNAPSHOT_FIELD && at == 0 && !slot.full);
+    SEE(migwelun_make(&slot, 0, KEYS) == MIGWELUN_DONE);
+    SEE(snapshot(&slot, 0, 0, &next) == MIGWELUN_EMPTY && next == 77);
+    at = 78;
+    SEE(restore(&slot, ID, 0, &at) == MIGWELUN_FULL && at == 78 && remembers(&slot, "g", FIRST_ID) == MIGWELUN_NO);
+    migwelun_drop(&slot);
+    SEE(migwelun_make_replica(&slot, 0, KEYS) == MIGWELUN_DONE);
+    SEE(snapshot(&slot, 1, 0, &next) == MIGWELUN_OUT_OF_PLACE && next == 77);
+    SEE(restore(&slot, ID, 0, &at) == MIGWELUN_FULL);
+    SEE(migwelun_lead(&slot) == MIGWELUN_DONE && apply(&slot, 1) == MIGWELUN_DONE);
+    SEE(snapshot(&slot, 0, 0, &next) == MIGWELUN_OUT_OF_PLACE && next == 77);
+    /* behind the end a part has no byte, and takes the place of an entry that waits */
+    SEE(migwelun_lead(&slot) == MIGWELUN_DONE && snapshot(&slot, 1, 9, &next) == MIGWELUN_DONE && next == 9);
+    SEE(migwelun_take_entry(&slot, none, 0, &at) == MIGWELUN_DONE && at == 0);
+    migwelun_drop(&slot);
+}
+
+/* What is written is restored, and nothing else is: not where it is cut, anywhere, and not with a byte more. */
+static void snapshots(void) {
+    migwelun_slot slot = {0}, other = {0};
+    uint8_t bytes[ROOM], again[ROOM];
+    size_t parts, at = 0, size;
+    uint64_t applied, moment;
+    uint32_t leadership;
+    SEE(migwelun_make_replica(&slot, 5, KEYS) == MIGWELUN_DONE && migwelun_lead(&slot) == MIGWELUN_DONE && apply(&slot, 1) == MIGWELUN_DONE);
+    SEE(migwelun_begin(&slot, 0) == MIGWELUN_DONE);
+    SEE(migwelun_propose(&slot, JOIN, sizeof JOIN, 1, 1, 3) == MIGWELUN_DONE && apply(&slot, 2) == MIGWELUN_DONE);
+    size_t length = all_parts(&slot, 2, bytes, &parts);
+    SEE(length > 0 && parts == 2);
+    for (size_t cut = 0; cut < length; cut++) SEE(restore(&other, bytes, cut, &at) == MIGWELUN_BAD_SNAPSHOT_FIELD && at <= cut && !other.full);
+    bytes[length] = 0;
+    SEE(restore(&other, bytes, length + 1, &at) == MIGWELUN_RESPELLED && at == length && !other.full);
+    at = 78;
+    SEE(restore(&other, bytes, length, &at) == MIGWELUN_DONE && at == 78 && other.full);
+    SEE(all_parts(&other, 2, again, &parts) == length && !memcmp(bytes, again, length));
+    SEE(migwelun_place(&other, &applied, &leadership, &moment) == MIGWELUN_DONE && applied == 2 && leadership == 1 && moment == 3);
+    /* it doesn't lead, and no reply waits */
+    SEE(migwelun_propose_tick(&other, 0) == MIGWELUN_NOT_LEADING && migwelun_take(&other, again, ROOM, &size) == MIGWELUN_DONE && size == 0);
+    SEE(migwelun_propose_tick(&slot, 9) == MIGWELUN_DONE && apply(&slot, 3) == MIGWELUN_DONE);
+    migwelun_drop(&slot);
+    migwelun_drop(&other);
+}
+
 int main(void) {
     empty_slots();
     short_bodies();
     short_buffers();
     topics();
     reads();
+    no_snapshots();
+    snapshots();
     printf("%d passed, %d failed\n", passed, failed);
     return failed != 0;
 }
