@@ -136,8 +136,8 @@ def of_examples(library: Library) -> Iterator[Check]:
     python = [sys.executable, "-B", "-m", "unittest"]
     os.environ["MIGWELUN_LIBRARY"] = os.environ["BROKER_TEST_LIBRARY"] = str(library.archive.with_suffix(".so"))
     os.environ["MIGWELUN_JOURNAL"] = str(library.compiled("examples/embed/journal.c", "-D_GNU_SOURCE"))
-    words = ["library.snapshots", os.environ["MIGWELUN_LIBRARY"], str(RESTORED_SCRIPTS), str(CHANGED)]
-    yield f"{RESTORED_SCRIPTS} scripts through replicas that are restored", run([sys.executable, "-B", "-m", *words], TOP / "tools")
+    words = ["env", f"PYTHONPATH={embed / 'python'}", sys.executable, "-B", "-m", "library.snapshots", os.environ["MIGWELUN_LIBRARY"]]
+    yield "replicas that are restored", run([*words, str(RESTORED_SCRIPTS), str(CHANGED)], TOP / "tools")
     yield "examples/embed/journal.c, killed", run([*python, "test_journal"], embed / "python")
     yield "examples/embed/python", run([*python, "test_migwelun"], embed / "python")
     yield "broker --embedded", run([*python, "broker.tests.test_program.Program.test_two_members_of_another_hand_embedded"], TOP)
