@@ -17,7 +17,7 @@ from typing import Any, Awaitable, Callable, Optional
 
 from broker import batches
 from broker.etcd import Message, Txn, delete_range, put
-from broker.following import Deposed, Follower
+from broker.following import Deposed, Follower, Stopped
 from broker.measures import Measures
 from broker.snapshots import LAST, NONE, PIECE_BYTES, PIECES, BadSnapshot, Snapshot, decoded, folder, last_of, piece_key
 from broker.trouble import Trouble
@@ -40,12 +40,13 @@ class Writer:
         self._unwritten = Trouble(f"part {self._number} has no further snapshot, and its log grows", f"part {self._number} has snapshots again")
 
     async def begin(self) -> None:
-        """Learns of the last snapshot, and deletes what a leader before this one left. Raises Deposed."""
+        """Learns of the last snapshot, and deletes what a leader before this one left. Raises Deposed; and Stopped where there is one that this
+        broker can't read, since it can't tell what else belongs to that."""
         found = await self._ask(lambda: last_of(self._etcd, self._number))
         try:
             self._last, self._revision = (decoded(found.value), found.modified) if found else (NONE, 0)
         except BadSnapshot as why:
-            self._unwritten.is_there(str(why))
+            raise Stopped(f"the snapshot is refused: {why}") from None
         self._tried = self._last.logged
         self._beside = asyncio.ensure_future(_until_deposed(self._tidy()))
 

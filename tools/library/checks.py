@@ -135,7 +135,7 @@ def of_examples(library: Library) -> Iterator[Check]:
     yield "examples/embed/broker.c", serves(library.compiled("examples/embed/broker.c", "-D_GNU_SOURCE"))
     python = [sys.executable, "-B", "-m", "unittest"]
     os.environ["MIGWELUN_LIBRARY"] = os.environ["BROKER_TEST_LIBRARY"] = str(library.archive.with_suffix(".so"))
-    os.environ["MIGWELUN_JOURNAL"] = str(library.compiled("examples/embed/journal.c", "-D_GNU_SOURCE"))
+    os.environ["MIGWELUN_JOURNAL"] = str(library.compiled("examples/embed/journal.c", "-D_GNU_SOURCE", "-DMOST_LOG=2000"))
     words = ["env", f"PYTHONPATH={embed / 'python'}", sys.executable, "-B", "-m", "library.snapshots", os.environ["MIGWELUN_LIBRARY"]]
     yield "replicas that are restored", run([*words, str(RESTORED_SCRIPTS), str(CHANGED)], TOP / "tools")
     yield "examples/embed/journal.c, killed", run([*python, "test_journal"], embed / "python")
