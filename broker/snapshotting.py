@@ -29,7 +29,8 @@ Ask = Callable[[Callable[[], Awaitable[Any]]], Awaitable[Any]]
 
 
 class Writer:
-    """Of one leadership: `is_led` holds as long as that lasts. There is a snapshot to so many bytes of the log."""
+    """Of one leadership: `is_led` holds as long as that lasts. There is a snapshot to so many bytes of the log, or to as many as the last one
+    has, so that no more is written of snapshots than of the log."""
 
     def __init__(self, follower: Follower, is_led: Message, log_bytes: int, measures: Measures, ask: Ask) -> None:
         self._follower, self._is_led, self._log_bytes, self._measures, self._ask = follower, is_led, log_bytes, measures, ask
@@ -52,7 +53,7 @@ class Writer:
 
     async def look(self) -> None:
         """Writes one where it is time, and returns once the replica may go on."""
-        is_due = self._follower.logged - self._tried >= self._log_bytes
+        is_due = self._follower.logged - self._tried >= max(self._log_bytes, self._last.size)
         if not is_due or self._beside and not self._beside.done():
             return
         self._tried, began = self._follower.logged, time.monotonic()

@@ -51,7 +51,7 @@ class Snapshots(unittest.IsolatedAsyncioTestCase):
             await it.lead()
             await until(other.part.follower.has_read_up.is_set)
             await ask_all(it, 30)
-            await until(lambda: last(played).place > 20 and is_tidy(played))
+            await until(lambda: last(played).place > 15 and is_tidy(played))
             found = last(played)
             self.assertTrue(0 < found.before < found.place <= 32 and found.pieces > 1, found)
             self.assertTrue(played.compacted and max(played.compacted) < played.revision)
