@@ -110,24 +110,18 @@ def is_taken(replica: Any, snapshot: bytes) -> bool:
     return True
 
 
-def is_applied(replica: Any, snapshot: bytes, place: int, entry: bytes) -> bool:
-    """Whether an entry is applied behind a snapshot. Else nothing has changed."""
-    replica.restore(snapshot)
-    try:
-        replica.apply(place, entry)
-    except (migwelun.BadEntry, MemoryError):
-        same("a replica that refused an entry", written(replica), snapshot)
-        return False
-    return is_taken(replica, written(replica))
-
-
 def mutations(replica: Any, logs: Sequence[Played], count: int, dice: random.Random) -> Iterator[bool]:
-    """Whether each of so many changed snapshots and entries is taken."""
+    """Whether each of so many changed snapshots and entries is taken. An entry that isn't has changed nothing."""
     for _ in range(count):
-        log, other = dice.choice(logs), dice.choice(logs)
+        log, other, is_applied = dice.choice(logs), dice.choice(logs), False
         at = dice.randrange(1, len(log.entries))
         yield is_taken(replica, changed(log.snapshots[at], dice.choice(other.snapshots), dice))
-        yield is_applied(replica, log.snapshots[at - 1], at + 1, changed(log.entries[at], dice.choice(other.entries), dice))
+        replica.restore(log.snapshots[at - 1])
+        with contextlib.suppress(migwelun.BadEntry, MemoryError):
+            replica.apply(at + 1, changed(log.entries[at], dice.choice(other.entries), dice))
+            is_applied = True
+        same("whether an entry changed something", written(replica) != log.snapshots[at - 1], is_applied)
+        yield is_taken(replica, written(replica)) and is_applied
 
 
 def main(library: str, scripts: int, count: int) -> None:
