@@ -15,6 +15,7 @@ Message = Dict[str, Any]
 # What becomes of a request: it is done and answered, or done alone, or neither; or an error is answered.
 DONE, DONE_ALONE, LOST = "done", "done alone", "lost"
 NO_SPACE = {"error": "mvcc: database space exceeded", "message": "etcdserver: mvcc: database space exceeded", "code": 8}
+COMPACTED = {"error": "required revision has been compacted", "message": "etcdserver: mvcc: required revision has been compacted", "code": 11}
 TOO_LONG = {"error": "context deadline exceeded", "message": "context deadline exceeded", "code": 4}
 
 

@@ -10,7 +10,7 @@ from unittest import mock
 
 from broker import batches, snapshots
 from broker.output import STANDARD_ERROR
-from broker.tests.played_etcd import DONE, LOST, PlayedEtcd, played_etcd, text_of
+from broker.tests.played_etcd import COMPACTED, DONE, LOST, PlayedEtcd, played_etcd, text_of
 from broker.tests.support import until
 from broker.tests.test_part import Running, in_log, parts
 
@@ -65,7 +65,9 @@ class Snapshots(unittest.IsolatedAsyncioTestCase):
         self.assertEqual(said, [])
 
     async def test_all_is_there_after_everything_was_killed(self) -> None:
-        async with parts(1, LOG_BYTES) as (played, _, it):
+        """And etcd has forgotten more already than it is asked to."""
+        async with parts(1, LOG_BYTES) as (played, said, it):
+            played.fate = lambda path, request: COMPACTED if path == "kv/compaction" else DONE
             await it.lead()
             await ask_all(it, 30)
             await until(lambda: is_tidy(played))
@@ -80,6 +82,7 @@ class Snapshots(unittest.IsolatedAsyncioTestCase):
             await until(lambda: last(played).place > cut.place and is_tidy(played))
             self.assertGreaterEqual(last(played).before, cut.place)
             await again.end()
+        self.assertEqual(said, [])
 
     async def test_a_leader_that_ends_in_the_middle_hurts_nobody(self) -> None:
         """All but the key that names it is written; then another one leads."""
