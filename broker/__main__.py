@@ -133,7 +133,7 @@ async def over_etcd(
 ) -> Tuple[Cluster, Watch, List[Work]]:
     """One of the brokers of a cluster over etcd, and what has to run for it. Waits until etcd is there, and has no clients until then."""
     etcd = Etcd(shared.etcd)
-    coordinator = Replicated(etcd, shared.lease)
+    coordinator = Replicated(etcd, shared.lease, shared.snapshot_bytes)
     stack.push_async_callback(coordinator.end)
     beginning = asyncio.ensure_future(begun(etcd, shared, options))
     await until_one_ends([beginning, refuse(listener)])

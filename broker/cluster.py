@@ -8,7 +8,7 @@ that the group's state lies in. So each group lives in one coordinator whole.
 from __future__ import annotations
 
 import dataclasses
-from typing import Any, Dict, Iterable, List, Optional
+from typing import Any, Dict, Iterable, List, Optional, Tuple
 
 from broker.link import Coordinator
 from broker.log import Log
@@ -67,6 +67,10 @@ class Cluster:
     def committed(self, group: str, topic: str, partition: int) -> Optional[Committed]:
         of_topic = self.offsets.of_group(group).get(topic)
         return of_topic and of_topic.entries.get(partition)
+
+    def may_have_committed(self, group: str) -> Iterable[Tuple[str, Iterable[int]]]:
+        """The topics and partitions in which a group can have committed, in their order."""
+        return ((topic, sorted(stored.entries)) for topic, stored in sorted(self.offsets.of_group(group).items()))
 
     def leader_of(self, partition: int) -> Node:
         """The partitions' leaders go round the nodes. (Every node has the records of all.)"""

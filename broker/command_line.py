@@ -10,6 +10,7 @@ import pathlib
 import re
 from typing import Callable, List, NoReturn, Optional, Sequence, Tuple, Union
 
+from broker import snapshots
 from broker.topics import Topic, Topics, read
 
 TOP = pathlib.Path(__file__).resolve().parents[1]
@@ -17,6 +18,7 @@ LAUNCHER, LIBRARY = TOP / "coord", TOP / "out/libmigwelun.so"
 MOST_RECORDS_A_SECOND = 10_000
 # etcd gives no lease of less than 2 s, as it is set up by default.
 PARTS, LEASE_SECONDS = range(1, 1_001), range(2, 61)
+SNAPSHOT_BYTES = range(64 << 10, (1 << 29) + 1)
 START, EMBEDDED = None, "embedded"
 Address = Tuple[str, int]
 # A coordinator's host and port, or one that is to be started, or one in this process.
@@ -25,13 +27,14 @@ Place = Union[None, str, Address]
 
 @dataclasses.dataclass(frozen=True)
 class Shared:
-    """A cluster over etcd: where etcd listens, what clients are told of this broker, into how many parts all groups are divided, and for how
-    many seconds a lease is."""
+    """A cluster over etcd: where etcd listens, what clients are told of this broker, into how many parts all groups are divided, for how
+    many seconds a lease is, and to how many bytes of a part's log there is a snapshot."""
 
     etcd: Sequence[Address]
     advertise: Address
     parts: int
     lease: int
+    snapshot_bytes: int
 
 
 @dataclasses.dataclass(frozen=True)
@@ -113,6 +116,10 @@ def _add_those_of_etcd(parser: Parser) -> None:
     parser.add_argument(
         "--lease", type=_number_of(LEASE_SECONDS), default=3, metavar="SECONDS", help="with --etcd: after how long a broker that is gone leads nothing (%(default)d)"
     )
+    parser.add_argument(
+        "--snapshot-bytes", type=_number_of(SNAPSHOT_BYTES), default=snapshots.BYTES, metavar="N",
+        help="with --etcd: after so much of a part's log there is a snapshot, and the log before the last but one is deleted (%(default)d)"
+    )
 
 
 def _shared(parser: Parser, given: argparse.Namespace) -> Optional[Shared]:
@@ -125,7 +132,7 @@ def _shared(parser: Parser, given: argparse.Namespace) -> Optional[Shared]:
         parser.error("wants --coordinator HOST:PORT, --start, --embedded or --etcd HOST:PORT")
     if not given.advertise or not given.parts:
         parser.error("--etcd wants --advertise HOST:PORT and --parts N")
-    return Shared(given.etcd, given.advertise, given.parts, given.lease)
+    return Shared(given.etcd, given.advertise, given.parts, given.lease, given.snapshot_bytes)
 
 
 def _place(word: str) -> Address:

@@ -22,8 +22,8 @@ LIMIT = 1 << 20
 # Codes of gRPC: canceled, deadline exceeded, unavailable. A node that answers so has no leader, or lost it on the way: nobody knows what
 # became of the request.
 NO_ANSWERS = (1, 4, 14)
-# A lease isn't there, for one; and the quota is reached, for one.
-NOT_FOUND, RESOURCE_EXHAUSTED = 5, 8
+# A lease isn't there, for one; the quota is reached, for one; and a revision is compacted already.
+NOT_FOUND, RESOURCE_EXHAUSTED, OUT_OF_RANGE = 5, 8, 11
 Message = Dict[str, Any]
 Address = Tuple[str, int]
 
@@ -88,6 +88,10 @@ def get(key: str) -> Message:
 
 def delete(key: str) -> Message:
     return {"request_delete_range": {"key": text(key)}}
+
+
+def delete_range(key: str, end: str) -> Message:
+    return {"request_delete_range": {"key": text(key), "range_end": text(end)}}
 
 
 def created_at(key: str, revision: int) -> Message:
@@ -158,6 +162,15 @@ class Etcd:
         responses = answer.get("responses") or [{}]
         pairs = [pair_of(each) for each in responses[-1].get("response_range", {}).get("kvs", [])]
         return Txn(bool(answer.get("succeeded")), int(answer["header"]["revision"]), pairs)
+
+    async def compact(self, revision: int) -> None:
+        """Has etcd forget what keys were before a revision."""
+        try:
+            await self.call("kv/compaction", {"revision": str(revision)})
+        except Refused as why:
+            # (It has forgotten more already.)
+            if why.code != OUT_OF_RANGE:
+                raise
 
     @contextlib.asynccontextmanager
     async def watch(self, key: str, end: str, revision: int) -> AsyncIterator[_Stream]:

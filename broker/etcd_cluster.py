@@ -5,7 +5,7 @@ from __future__ import annotations
 import asyncio
 import contextlib
 import functools
-from typing import Any, Callable, Dict, Iterable, List, Optional, Set
+from typing import Any, Callable, Dict, Iterable, List, Optional, Set, Tuple
 
 from broker.acceptor import Work
 from broker.cluster import Cluster, Node, group_number
@@ -69,11 +69,18 @@ class EtcdCluster(Cluster):
         yield from gauge("broker_part_behind", "Entries of a part's log that are known here and aren't applied yet.", behind)
         stopped = [((label,), int(part.fault is not None)) for part, label in rows]
         yield from gauge("broker_part_stopped", "Whether a part's log can't be applied here any further.", stopped)
+        entries = [((label,), part.snapshot.place) for part, label in rows]
+        yield from gauge("broker_part_snapshot_entry", "The entry up to which a part's last snapshot has the log.", entries)
+        yield from gauge("broker_part_snapshot_bytes", "Bytes of a part's last snapshot.", [((label,), part.snapshot.size) for part, label in rows])
         yield from gauge("broker_brokers", "Brokers of the cluster that are there.", [((), len(self.nodes))])
 
     def committed(self, group: str, topic: str, partition: int) -> Optional[Committed]:
         found = self.part_of(group).replica.committed(group, topic, partition)
         return found and Committed(found.offset, found.leader_epoch, found.metadata or "")
+
+    def may_have_committed(self, group: str) -> Iterable[Tuple[str, Iterable[int]]]:
+        # (Of what a snapshot brought nothing was told. Nobody commits for other topics than these.)
+        return sorted((topic.name, range(topic.count)) for topic in self.topics)
 
     def have_changed(self) -> None:
         """Takes over who is there. (Where nobody is known to be, clients hear of this one alone.)"""
@@ -88,8 +95,9 @@ class Replicated(Coordinator):
     """The parts of this process, as a coordinator: connections to it are numbered in the order in which they are opened, which is that of
     the clients'."""
 
-    def __init__(self, etcd: Etcd, lease_seconds: int) -> None:
+    def __init__(self, etcd: Etcd, lease_seconds: int, snapshot_bytes: int) -> None:
         super().__init__("etcd", 0)
+        self._snapshot_bytes = snapshot_bytes
         self.etcd, self.lease, self.measures = etcd, Lease(etcd, lease_seconds), Measures()
         self.parts: List[Part] = []
         self.members: Optional[Members] = None
@@ -103,7 +111,8 @@ class Replicated(Coordinator):
         for number in range(settings.parts):
             replica = replica_of(library, (settings.salt + number) % SALTS)
             feed = Feed(cluster.offsets, watch, cluster.turns, functools.partial(_is_gone, replica, number, settings.parts))
-            self.parts.append(Part(number, cluster.own.id, replica, cluster.topics, self.lease, feed, self.measures, tell))
+            own, topics, lease, measures = cluster.own.id, cluster.topics, self.lease, self.measures
+            self.parts.append(Part(number, own, replica, topics, lease, feed, measures, tell, self._snapshot_bytes))
         cluster.parts = self.parts
         cluster.members = self.members = Members(self.lease, settings, cluster.own, self.parts, self.measures, cluster.have_changed)
         return self.members

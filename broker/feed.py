@@ -18,6 +18,8 @@ from broker.watch import Watch
 # Where a frame's body begins in its entry: behind version, kind, leadership, connection, number and moment.
 BODY = 2 + 2 + 4 + 4 + 8 + 8
 # How a heartbeat begins, of the version that the coordinator speaks.
+# What came of a snapshot.
+RESTORED = object()
 HEARTBEAT = int16(CONSUMER_GROUP_HEARTBEAT) + int16(0)
 # How much may wait. And after how many in a row everything else has its turn.
 MOST, TURN = 2_000, 50
@@ -45,6 +47,10 @@ class Feed:
         self._waiting.append(passed)
         self._changed.set()
 
+    def restored(self) -> None:
+        """The replica goes on with a snapshot: what was told until then may be no more."""
+        self.put(Passed(b"", RESTORED, None, False))
+
     async def has_room(self) -> None:
         """Waits until not too much waits. Everything else has its turn in any case."""
         await asyncio.sleep(0)
@@ -67,7 +73,9 @@ class Feed:
 
     async def _tell(self, passed: Passed) -> None:
         applied, reply = passed.applied, None
-        if applied is not None and applied.kind == "frame" and applied.reply is not None:
+        if applied is RESTORED:
+            self._watch.removed(self._is_gone, False)
+        elif applied is not None and applied.kind == "frame" and applied.reply is not None:
             reply = applied.reply[SIZE:]
             await self._told(passed.entry[BODY:], reply, passed.is_led)
         elif applied is not None and applied.kind == "tick" and applied.removed:

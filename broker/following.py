@@ -6,7 +6,7 @@ import asyncio
 import collections
 from typing import Any, Deque, Tuple
 
-from broker import batches
+from broker import batches, snapshots
 from broker.etcd import NOT_FOUND, Etcd, NoRoom, Range, Refused, Unanswered
 from broker.feed import Feed, Passed
 from broker.trouble import Trouble
@@ -21,11 +21,16 @@ class Stopped(Exception):
     """The log can't be applied any further, and why."""
 
 
+class Deposed(Exception):
+    """The leadership is over, and why."""
+
+
 class Follower:
     def __init__(self, number: int, replica: Any, etcd: Etcd, feed: Feed) -> None:
-        self.number, self.replica, self.feed, self._etcd = number, replica, feed, etcd
-        # The last place that is applied, and the last that the log is known to have; whether all that it had at the start is applied.
-        self.place = self.head = 0
+        self.number, self.replica, self.feed, self.etcd = number, replica, feed, etcd
+        # The last place that is applied, and the last that the log is known to have; how many bytes the batches up to there have; whether all
+        # that the log had at the start is applied.
+        self.place = self.head = self.logged = 0
         self.has_read_up = asyncio.Event()
         # Which kinds there have been among the applied entries.
         self.has_topics = self.has_frames = False
@@ -62,23 +67,52 @@ class Follower:
         self.has_read_up.set()
 
     async def read_up(self) -> None:
-        """Reads all that the log has, and applies it. Raises as `follow` does."""
-        while True:
-            self._is_behind = True
+        """Reads all that the log has, and applies it. Begins with the last snapshot, and again where the log is cut meanwhile. Raises as
+        `follow` does."""
+        self._is_behind = True
+        if not self.place:
+            await self._restore()
+        while self._is_behind:
             found = await self._read()
-            self._is_behind = found.has_more
             for pair in found.pairs:
                 _, place = batches.part_and_place(pair.key)
-                if place != self.place + 1:
+                if place == self.place + 1:
+                    await self._take(pair.value)
+                elif await self._restore():
+                    break
+                else:
                     raise Stopped(f"entry {self.place + 1} isn't in the log, which goes on with {place}")
-                await self._take(pair.value)
-            if not found.has_more:
-                return
+            else:
+                self._is_behind = found.has_more
+
+    async def _restore(self) -> bool:
+        """Goes on with the last snapshot of the part, if there is a later one than what is applied. Raises as `follow` does."""
+        value = None
+        while True:
+            last = await snapshots.last_of(self.etcd, self.number)
+            try:
+                it = snapshots.decoded(last.value) if last else snapshots.NONE
+                if it.place <= self.place:
+                    return False
+                whole = await snapshots.read(self.etcd, self.number, it)
+                await asyncio.to_thread(self.replica.restore, whole)
+                break
+            except ValueError as why:
+                # (Where the leader has written another one meanwhile, that is read.)
+                if last and last.value == value:
+                    raise Stopped(f"the snapshot is refused: {why}") from None
+                value = last and last.value
+            except MemoryError:
+                raise Stopped("there is no memory for the snapshot") from None
+        self.place, self.logged, self.head = it.place, it.logged, max(self.head, it.place)
+        self.has_topics = self.has_frames = True
+        self.feed.restored()
+        return True
 
     async def _read(self) -> Range:
         """The next batches: twice as many as the last time, or half as many where that took too long."""
         try:
-            found = await self._etcd.range(batches.key(self.number, self.place + 1), batches.end(self.number), self._limit)
+            found = await self.etcd.range(batches.key(self.number, self.place + 1), batches.end(self.number), self._limit)
         except Unanswered:
             self._limit = max(1, self._limit // 2)
             raise
@@ -96,6 +130,7 @@ class Follower:
             raise Stopped(f"entry {self.place + 1} begins a batch that can't be read: {why}") from None
         for entry in entries:
             self.feed.put(Passed(entry, self.apply(entry), None, False))
+        self.logged += len(value)
         await self.feed.has_room()
 
     def apply(self, entry: bytes) -> Any:

@@ -18,11 +18,12 @@ from typing import Awaitable, Callable, Deque, Iterator, List, NamedTuple, Optio
 
 from broker import batches
 from broker.clock import Clock
-from broker.etcd import Etcd, Refused, Txn, Unanswered, created_at, delete, get, put
+from broker.etcd import Refused, Txn, Unanswered, created_at, delete, get, put
 from broker.feed import Passed
-from broker.following import Follower
+from broker.following import Deposed, Follower
 from broker.link import CoordinatorClosed
 from broker.measures import Measures
+from broker.snapshotting import Writer
 from broker.topics import Topics
 
 TICK_SECONDS = 0.5
@@ -44,17 +45,14 @@ class Waiting(NamedTuple):
     since: float
 
 
-class Deposed(Exception):
-    """The leadership is over, and why."""
-
-
 class Leadership:
     """`key` is what says in etcd who leads, and was created at this revision. `numbers` are those of the batches of this process."""
 
-    def __init__(self, follower: Follower, etcd: Etcd, key: str, revision: int, numbers: Iterator[int], measures: Measures) -> None:
+    def __init__(self, follower: Follower, key: str, revision: int, numbers: Iterator[int], measures: Measures, snapshot_bytes: int) -> None:
         self.revision = revision
-        self._follower, self._replica, self._feed, self._etcd = follower, follower.replica, follower.feed, etcd
+        self._follower, self._replica, self._feed, self._etcd = follower, follower.replica, follower.feed, follower.etcd
         self._is_led = created_at(key, revision)
+        self._snapshots = Writer(follower, self._is_led, snapshot_bytes, measures, self._until_answered)
         self._key, self._numbers, self._measures, self._clock = key, numbers, measures, Clock()
         # Whether what is asked is taken, and whether this broker is to give it up; and what tells the end.
         self.serves, self._resigns = False, False
@@ -111,6 +109,7 @@ class Leadership:
         """Applies what is left of the log, which nobody else can append to any more, and begins the leadership in it. Raises Deposed, and
         Stopped."""
         await self._until_answered(self._follower.read_up)
+        await self._snapshots.begin()
         await self._append_one(self._replica.lead())
         self._replica.begin(self._clock.now())
         if not self._follower.has_topics:
@@ -122,11 +121,16 @@ class Leadership:
         while not self._resigns or self._queue or self._confirming:
             await self._wait_for_work()
             await self._append_what_waits()
+            await self._snapshots.look()
 
     async def give_up(self) -> int:
         """Deletes its key, so that another broker begins to lead: the revision of that. Raises Deposed."""
         found = await self._until_answered(lambda: self._etcd.txn([self._is_led], [delete(self._key)]))
         return found.revision
+
+    def end(self) -> None:
+        """Nothing goes on beside it any more."""
+        self._snapshots.end()
 
     async def _wait_for_work(self) -> None:
         """Waits until something has to be appended. Raises Deposed."""
@@ -209,6 +213,7 @@ class Leadership:
         found: Txn = await self._until_answered(lambda: self._etcd.txn(compare, success, failure))
         if not found.succeeded and not (entries and [pair.value for pair in found.pairs] == [value]):
             raise Deposed("etcd says that it isn't led from here any more")
+        self._follower.logged += len(value)
         self._measures.appended(len(entries), len(value), time.monotonic() - began)
 
     async def _until_answered(self, ask: Callable[[], Awaitable[Result]]) -> Result:

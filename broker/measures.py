@@ -14,6 +14,8 @@ class Measures:
         self._appends = Histogram("broker_append_seconds", "From a batch's being sent to etcd until it is known to be in the log.", APPEND_BOUNDS)
         self._entries = Counter("broker_appended_entries_total", "Entries in the batches that were appended.")
         self._bytes = Counter("broker_appended_bytes_total", "Bytes of the batches that were appended.")
+        self._writes = Histogram("broker_snapshot_write_seconds", "How long a part's leader applied nothing, to write a snapshot down.", APPEND_BOUNDS)
+        self._snapshots = Histogram("broker_snapshot_seconds", "From the beginning of a snapshot until it is in etcd.", APPEND_BOUNDS)
         self._leaderships = Counter("broker_leaderships_total", "Leaderships that began here, by part.")
         self._changes = Counter("broker_leader_changes_total", "Changes of who leads a part, as far as they were seen here, by part.")
 
@@ -29,6 +31,12 @@ class Measures:
             self._entries.add((), entries)
             self._bytes.add((), size)
 
+    def wrote_snapshot(self, seconds: float) -> None:
+        self._writes.observe(seconds)
+
+    def put_snapshot(self, seconds: float) -> None:
+        self._snapshots.observe(seconds)
+
     def lines(self) -> Iterable[str]:
-        for each in (self._appends, self._entries, self._bytes, self._leaderships, self._changes):
+        for each in (self._appends, self._entries, self._bytes, self._writes, self._snapshots, self._leaderships, self._changes):
             yield from each.lines()

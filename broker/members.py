@@ -15,11 +15,13 @@ from broker.lease import Lease
 from broker.measures import Measures
 from broker.part import LEADERS, Leader, Part
 from broker.settings import KEY, Settings, decoded
+from broker.snapshots import LAST
 from broker.starter import Ended
 from broker.streams import within
 from broker.trouble import Trouble
 
-ALL, ALL_END = "migwelun/", "migwelun0"
+# What is watched: CLUSTER, and behind it the logs.
+ALL, ALL_END = "migwelun/cluster/", "migwelun/log0"
 CLUSTER, CLUSTER_END = "migwelun/cluster/", "migwelun/cluster0"
 BROKERS, NUMBERS = "migwelun/cluster/brokers/", "migwelun/cluster/numbers/"
 AGAIN_SECONDS = 0.3
@@ -159,6 +161,8 @@ class Members:
         for part in self._parts:
             pair = by_key.get(f"{LEADERS}{part.number}")
             self._see_leader(part, pair and _leader(pair), revision)
+            if f"{LAST}{part.number}" in by_key:
+                part.has_snapshot(by_key[f"{LAST}{part.number}"].value)
         self._have_moved()
 
     def _see(self, event: Event) -> None:
@@ -166,6 +170,8 @@ class Members:
         if key.startswith(batches.LOGS) and not event.is_deleted:
             number, place = batches.part_and_place(key)
             self._parts[number].arrived(place, pair.value)
+        elif key.startswith(LAST) and not event.is_deleted:
+            self._parts[int(key[len(LAST) :])].has_snapshot(pair.value)
         elif key.startswith(LEADERS):
             part = self._parts[int(key[len(LEADERS) :])]
             self._see_leader(part, None if event.is_deleted else _leader(pair), pair.modified)

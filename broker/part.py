@@ -9,12 +9,13 @@ from typing import Any, Callable, Dict, NamedTuple, Optional, Set
 
 from broker.etcd import Refused, Unanswered, created_at, delete, get, put
 from broker.feed import Feed
-from broker.following import Follower, Stopped
-from broker.leading import AGAIN_SECONDS, Deposed, Leadership
+from broker.following import Deposed, Follower, Stopped
+from broker.leading import AGAIN_SECONDS, Leadership
 from broker.lease import Lease
 from broker.link import CoordinatorClosed
 from broker.measures import Measures
 from broker.output import say
+from broker.snapshots import BYTES, NONE, BadSnapshot, decoded
 from broker.topics import Topics
 
 LEADERS = "migwelun/cluster/leaders/"
@@ -29,15 +30,26 @@ class Leader(NamedTuple):
 
 
 class Part:
-    """`broker` is this broker's number."""
+    """`broker` is this broker's number. There is a snapshot to each `snapshot_bytes` of the log."""
 
     def __init__(
-        self, number: int, broker: int, replica: Any, topics: Topics, lease: Lease, feed: Feed, measures: Measures, tell: Callable[[str], None]
+        self,
+        number: int,
+        broker: int,
+        replica: Any,
+        topics: Topics,
+        lease: Lease,
+        feed: Feed,
+        measures: Measures,
+        tell: Callable[[str], None],
+        snapshot_bytes: int = BYTES,
     ) -> None:
         self.number, self.replica, self.feed, self.measures = number, replica, feed, measures
         self.follower = Follower(number, replica, lease.etcd, feed)
         self._broker, self._topics, self._lease, self._tell = broker, topics, lease, tell
-        self._key = f"{LEADERS}{number}"
+        self._key, self._snapshot_bytes = f"{LEADERS}{number}", snapshot_bytes
+        # The last snapshot by etcd's word.
+        self.snapshot = NONE
         # Who leads by etcd's word, and up to which of its revisions that is known.
         self.leader: Optional[Leader] = None
         self._known = 0
@@ -91,6 +103,11 @@ class Part:
         if (leader is None or leader.revision != own) and revision > own:
             self.lose("another one leads it" if leader else "its key in etcd is gone")
         self._wake.set()
+
+    def has_snapshot(self, value: bytes) -> None:
+        """This names the last snapshot."""
+        with contextlib.suppress(BadSnapshot):
+            self.snapshot = decoded(value)
 
     def look_again(self) -> None:
         """There may be entries that the watch didn't tell of."""
@@ -166,7 +183,7 @@ class Part:
 
     async def _lead(self, revision: int) -> None:
         """Leads until that is over."""
-        leadership = self._leadership = Leadership(self.follower, self._lease.etcd, self._key, revision, self._batches, self.measures)
+        leadership = self._leadership = Leadership(self.follower, self._key, revision, self._batches, self.measures, self._snapshot_bytes)
         try:
             await leadership.begin(self._topics)
             self.measures.began(self.number)
@@ -180,6 +197,7 @@ class Part:
             self._end_links()
             raise
         finally:
+            leadership.end()
             self._leadership = None
             self.follower.look_again()
             if self.leader is None or self.leader.revision == revision:
@@ -210,6 +228,7 @@ class Part:
             "is_led_here": self.serves,
             "entry": self.follower.place,
             "behind": max(0, self.follower.head - self.follower.place),
+            "snapshot": {"entry": self.snapshot.place, "bytes": self.snapshot.size, "seconds": self.snapshot.seconds},
             "fault": self.fault,
         }
 

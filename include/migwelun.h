@@ -52,6 +52,13 @@ enum {
     MIGWELUN_LEFT_OVER = 16,  /* bytes are left behind the last field */
     MIGWELUN_BAD_TOPICS = 20, /* and one of the four of migwelun_set_topics: 21 to 24 */
 
+    /* why bytes are no snapshot */
+    MIGWELUN_BAD_SNAPSHOT_FIELD = 31, /* a field is cut, or no value of its type */
+    MIGWELUN_BAD_VALUE = 32,          /* a field has a value that can't stand there */
+    MIGWELUN_UNSOUND = 33,            /* it is no state to which a log can come */
+    MIGWELUN_RESPELLED = 34,          /* a state is spelled otherwise, or bytes are left behind it */
+    MIGWELUN_TOO_LONG = 35,           /* migwelun_snapshot: there is more of something than its field can say */
+
     MIGWELUN_EMPTY = -1,     /* the slot has nothing that the function is for */
     MIGWELUN_NO_MEMORY = -2, /* malloc or realloc gave none */
     MIGWELUN_FULL = -3,      /* the slot has a coordinator or a replica already */
@@ -175,6 +182,29 @@ int32_t migwelun_committed(migwelun_slot *slot, const uint8_t *group, size_t gro
 int32_t migwelun_make_replica(migwelun_slot *slot, uint64_t salt, const uint8_t keys[16]);
 
 /*
+ * Makes a replica in an empty slot of a snapshot, `length` bytes, all parts of migwelun_snapshot one behind the other: it has applied
+ * just what the replica had that was written, and doesn't lead. Apply the log from the place behind it on. The keys are as in
+ * migwelun_make. Whatever the bytes are, the replica is sound, or there is none; but take snapshots from where you put them: a few
+ * bytes of somebody else can ask for much memory.
+ *
+ * Returns DONE; FULL, and the slot is as it was; 31 to 34, and the number of the byte that is wrong is in `at`; or NO_MEMORY. Unless it is
+ * DONE or FULL, the slot is empty. migwelun_drop frees it.
+ */
+int32_t migwelun_restore(migwelun_slot *slot, const uint8_t *snapshot, size_t length, const uint8_t keys[16], size_t *at);
+
+/*
+ * Writes a part of the replica's snapshot: sections, of which number 0 is the first and each further one a group, from number `from` on,
+ * until there are `size` bytes of them or none is left. It waits for migwelun_take_entry, in place of an entry that was not taken.
+ * Writes to `next` the number of the section that is to be written next. Begin with 0, go on with `next`, and end when the part has no
+ * byte: so a snapshot needs no more memory than its largest part. `place` is that of migwelun_place when it was begun: between its parts
+ * the replica applies nothing.
+ *
+ * Returns DONE; OUT_OF_PLACE where the replica has applied an entry meanwhile: begin anew; TOO_LONG; NO_MEMORY; or EMPTY. Unless it is
+ * DONE, `next` is as it was.
+ */
+int32_t migwelun_snapshot(migwelun_slot *slot, uint64_t place, size_t from, size_t size, size_t *next);
+
+/*
  * Writes how many entries were applied, the number of the last leadership that began, and the greatest moment of an entry. Changes
  * nothing else, and takes no memory.
  *
@@ -223,7 +253,8 @@ int32_t migwelun_propose_tick(migwelun_slot *slot, uint64_t clock);
 int32_t migwelun_propose_topics(migwelun_slot *slot);
 
 /*
- * Moves the entry that was proposed last into a buffer of `room` bytes, and writes to `size` how many it has: none where none waits.
+ * Moves the entry that was proposed last, or the part of a snapshot that was written since, into a buffer of `room` bytes, and writes to
+ * `size` how many it has: none where none waits.
  *
  * Returns DONE; SHORT, and the entry waits on: take it again with room for `size` bytes; or EMPTY, and `size` is as it was.
  */

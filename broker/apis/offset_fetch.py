@@ -69,11 +69,19 @@ async def _group_reply(call: Call, group: AskedGroup) -> List[bytes]:
     refusal = await _refusal(call, group)
     if refusal != codes.NONE:
         return [compact_string(group.name) + compact_array([]) + int16(refusal) + NO_TAGS]
-    topics = group.topics
-    if topics is None:
-        topics = [AskedTopic(topic, sorted(stored.entries)) for topic, stored in sorted(call.cluster.offsets.of_group(group.name).items())]
+    topics = await all_of(call, group.name) if group.topics is None else group.topics
     pieces = [await _topic_reply(call, group.name, topic) for topic in topics]
     return [compact_string(group.name) + unsigned_varint(len(topics) + 1), *pieces, int16(codes.NONE) + NO_TAGS]
+
+
+async def all_of(call: Call, group: str) -> List[AskedTopic]:
+    """All that the group has committed."""
+    topics = []
+    for topic, partitions in call.cluster.may_have_committed(group):
+        found = await call.request.pace.all((index, call.cluster.committed(group, topic, index)) for index in partitions)
+        indices = [index for index, committed in found if committed]
+        topics += [AskedTopic(topic, indices)] * bool(indices)
+    return topics
 
 
 async def _refusal(call: Call, group: AskedGroup) -> int:

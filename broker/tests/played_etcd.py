@@ -15,6 +15,7 @@ Message = Dict[str, Any]
 # What becomes of a request: it is done and answered, or done alone, or neither; or an error is answered.
 DONE, DONE_ALONE, LOST = "done", "done alone", "lost"
 NO_SPACE = {"error": "mvcc: database space exceeded", "message": "etcdserver: mvcc: database space exceeded", "code": 8}
+COMPACTED = {"error": "required revision has been compacted", "message": "etcdserver: mvcc: required revision has been compacted", "code": 11}
 TOO_LONG = {"error": "context deadline exceeded", "message": "context deadline exceeded", "code": 4}
 
 
@@ -37,6 +38,8 @@ class PlayedEtcd:
         self.seconds: Dict[str, str] = {}
         self.pairs: Dict[str, Message] = {}
         self.history: List[Message] = []
+        # The revisions up to which it was to forget.
+        self.compacted: List[int] = []
         self.changed = asyncio.Condition()
         # What becomes of a request, by its path and its fields.
         self.fate: Callable[[str, Message], Any] = lambda path, request: DONE
@@ -74,6 +77,9 @@ class PlayedEtcd:
             return {"header": header, "ID": str(self.leases), "TTL": request["TTL"]}
         if path == "lease/keepalive":
             return {"result": {"header": header, "ID": request["ID"], "TTL": self.seconds[request["ID"]]}}
+        if path == "kv/compaction":
+            self.compacted.append(int(request["revision"]))
+            return {"header": header}
         self.end_lease(request["ID"])
         return {"header": header}
 
@@ -102,7 +108,8 @@ class PlayedEtcd:
         if kind == "request_put":
             self.put(fields["key"], fields["value"], fields["lease"])
         if kind == "request_delete_range":
-            self.delete(fields["key"])
+            for pair in self.range(fields)["kvs"]:
+                self.delete(pair["key"])
         return {"response_range": self.range(fields)} if kind == "request_range" else {}
 
     # ---- over HTTP

@@ -11,11 +11,15 @@ from typing import Any, AsyncIterator, List, Optional
 from unittest import mock
 
 from broker.__main__ import run
+from broker.apis.offset_fetch import all_of
 from broker.command_line import parse
+from broker.etcd_cluster import EtcdCluster
+from broker.offsets import Committed
 from broker.output import STANDARD_ERROR
 from broker.tests.played_etcd import DONE, LOST, played_etcd, text_of, unpacked
 from broker.tests.support import HOST, TOPIC, Client, close_all, until
-from broker.tests.test_part import PlayedReplica
+from broker.tests.test_part import TOPICS, PlayedReplica
+from broker.turns import Pace, Turns
 
 # FindCoordinator for the group `g`, and what another broker has in etcd that leads all.
 FIND = "000a 0001 00000001 ffff 0001 'g' 00"
@@ -118,3 +122,14 @@ class Serving(unittest.IsolatedAsyncioTestCase):
             found.append(await it.named())
         self.assertEqual(found, [None, 0, "10.0.0.5"])
         self.assertIn(f"broker: no other broker at {HOST}:{it.port} is in the cluster any more", said)
+
+
+class Fetching(unittest.IsolatedAsyncioTestCase):
+    async def test_all_that_a_group_has_committed_is_read_from_the_replica(self) -> None:
+        """Of what a snapshot brought nothing else was told."""
+        cluster, call = EtcdCluster(mock.Mock(), mock.Mock(), TOPICS, mock.Mock(), mock.Mock()), mock.Mock()
+        cluster.parts = [mock.Mock()]
+        cluster.parts[0].replica.committed = lambda group, _, index: Committed(7, -1, "") if (group, index) == ("g", 1) else None
+        call.cluster, call.request.pace = cluster, Pace(Turns())
+        name = next(iter(TOPICS)).name
+        self.assertEqual([await all_of(call, group) for group in ("g", "h")], [[(name, [1])], []])

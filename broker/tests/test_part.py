@@ -5,9 +5,10 @@ from __future__ import annotations
 import asyncio
 import contextlib
 import dataclasses
+import json
 import struct
 import unittest
-from typing import Any, AsyncIterator, Callable, List, Optional
+from typing import Any, AsyncIterator, Callable, Iterator, List, Optional
 from unittest import mock
 
 from broker import batches
@@ -20,6 +21,7 @@ from broker.measures import Measures
 from broker.offsets import Offsets
 from broker.output import STANDARD_ERROR
 from broker.part import Leader, Part
+from broker.snapshots import BYTES
 from broker.tests.played_etcd import DONE, DONE_ALONE, LOST, NO_SPACE, TOO_LONG, PlayedEtcd, played_etcd, text_of
 from broker.tests.support import SECONDS, TOPIC, until
 from broker.topics import Topics, read
@@ -77,6 +79,12 @@ class PlayedReplica:
     def propose(self, body: bytes, *_: int) -> bytes:
         return b"frame " + body
 
+    def snapshot(self) -> Iterator[bytes]:
+        yield json.dumps(self.applied).encode()
+
+    def restore(self, snapshot: bytes) -> None:
+        self.applied = json.loads(snapshot)
+
     def apply(self, _: int, entry: bytes) -> Applied:
         kind, _, body = entry.decode().partition(" ")
         if kind == "bad":
@@ -88,11 +96,11 @@ class PlayedReplica:
 class Running:
     """A part that runs in a broker of a number, under a lease."""
 
-    def __init__(self, etcd: Etcd, number: int) -> None:
+    def __init__(self, etcd: Etcd, number: int, snapshot_bytes: int = BYTES) -> None:
         self.lines: List[str] = []
         self.lease, self.replica = Lease(etcd, 30), PlayedReplica()
         feed = Feed(Offsets(), Watch(TOPICS, lambda _: None), Turns(), lambda *_: False)
-        self.part = Part(0, number, self.replica, TOPICS, self.lease, feed, Measures(), self.lines.append)
+        self.part = Part(0, number, self.replica, TOPICS, self.lease, feed, Measures(), self.lines.append, snapshot_bytes)
         self.tasks = [asyncio.ensure_future(self.part.run()), asyncio.ensure_future(feed.run())]
 
     async def lead(self) -> None:
@@ -101,6 +109,11 @@ class Running:
                 await self.lease.grant()
         self.part.want(True)
         await until(lambda: self.part.serves)
+
+    async def end(self) -> None:
+        for task in self.tasks:
+            task.cancel()
+        await asyncio.gather(*self.tasks, return_exceptions=True)
 
     async def ask(self, body: str) -> Optional[str]:
         """The reply, or None where the connection is closed."""
@@ -111,18 +124,17 @@ class Running:
 
 
 @contextlib.asynccontextmanager
-async def parts(count: int = 1) -> AsyncIterator[Any]:
+async def parts(count: int = 1, snapshot_bytes: int = BYTES) -> AsyncIterator[Any]:
     """A played etcd, brokers, and what is said on standard error."""
     said: List[str] = []
     async with played_etcd() as (played, etcd):
         with mock.patch.object(STANDARD_ERROR, "line", said.append), mock.patch("broker.leading.TICK_SECONDS", 60):
-            running = [Running(etcd, number) for number in range(count)]
+            running = [Running(etcd, number, snapshot_bytes) for number in range(count)]
             try:
                 yield (played, said, *running)
             finally:
-                for task in (task for each in running for task in each.tasks):
-                    task.cancel()
-                await asyncio.gather(*(task for each in running for task in each.tasks), return_exceptions=True)
+                for each in running:
+                    await each.end()
 
 
 def in_log(played: PlayedEtcd) -> List[str]:
@@ -266,8 +278,10 @@ class Following(unittest.IsolatedAsyncioTestCase):
             asked: List[int] = []
 
             def fate(_: str, request: Any) -> Any:
-                asked.append(int(request["limit"]))
-                return DONE if asked[-1] <= most else TOO_LONG
+                # (Without a limit it asks for the last snapshot.)
+                limit = int(request["limit"])
+                asked.extend([limit] * (limit > 0))
+                return DONE if limit <= most else TOO_LONG
 
             with mock.patch("broker.following.FIRST_LIMIT", limits[0]), mock.patch("broker.following.READ_BYTES", of_bytes):
                 async with parts() as (played, _, it):

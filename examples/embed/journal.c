@@ -7,10 +7,15 @@
  *
  * Frames come on standard input, as on a connection, and the replies go to standard output. Each frame becomes an entry, which is appended
  * to FILE and synced to the disk before it is applied and answered. At the start the entries of FILE are applied; what a crash left of a
- * last one is cut off. So a reply that went out is never forgotten, whenever the program is killed. It ends with its input.
+ * last one is cut off. So a reply that went out is never forgotten, whenever the program is killed. Once FILE has grown, a new one takes its
+ * place that has a snapshot instead of the entries. It ends with its input.
+ *
+ * FILE has the salt, the snapshot behind its size, and the entries that came behind that, each behind its size.
  */
 #include <errno.h>
 #include <fcntl.h>
+#include <libgen.h>
+#include <limits.h>
 #include <poll.h>
 #include <stdio.h>
 #include <stdlib.h>
@@ -22,10 +27,17 @@
 #include <unistd.h>
 #include "migwelun.h"
 
-enum { SIZE = 4, SALT = 8, LARGEST_BODY = 8388608, LARGEST_ENTRY = 1 << 29, TICK_MS = 500 };
+enum { SIZE = 4, SALT = 8, HEAD = SALT + SIZE, LARGEST_BODY = 8388608, LARGEST_ENTRY = 1 << 29, PART = 1 << 20, TICK_MS = 500 };
+
+/* How many bytes of entries there may be behind a snapshot. */
+#ifndef MOST_LOG
+#define MOST_LOG (16 << 20)
+#endif
 
 static migwelun_slot replica;
+static const char *name;
 static int journal;
+static uint64_t salt, logged;
 static uint64_t frames; /* this leadership's: all came on its connection 1 */
 
 static void die(const char *why) {
@@ -79,6 +91,10 @@ static size_t number_at(const uint8_t *bytes) {
     return (size_t)bytes[0] << 24 | (size_t)bytes[1] << 16 | (size_t)bytes[2] << 8 | bytes[3];
 }
 
+static void put_number(uint8_t *to, size_t number) {
+    for (int i = 0; i < SIZE; i++) to[i] = (uint8_t)(number >> (24 - 8 * i));
+}
+
 /* ---- entries */
 
 /* The reply that waits, or no byte. */
@@ -113,17 +129,17 @@ static int append(int proposed) {
     if (proposed != MIGWELUN_DONE) die(proposed == MIGWELUN_NO_MEMORY ? "out of memory" : "an entry is refused");
     make_room(&entry, 4096);
     while (migwelun_take_entry(&replica, entry.bytes + SIZE, entry.room - SIZE, &length) == MIGWELUN_SHORT) make_room(&entry, SIZE + length);
-    for (int i = 0; i < SIZE; i++) entry.bytes[i] = (uint8_t)(length >> (24 - 8 * i));
+    put_number(entry.bytes, length);
     write_all(journal, entry.bytes, SIZE + length);
     if (fdatasync(journal)) die("a sync failed");
+    logged += SIZE + length;
     return apply(entry.bytes + SIZE, length);
 }
 
-/* Applies what the journal has, and cuts off what is no whole entry. */
-static void apply_journal(void) {
+/* Applies the entries that the journal has from a place on, and cuts off what is no whole one. */
+static void apply_journal(off_t whole) {
     static buffer entry;
     uint8_t size[SIZE];
-    off_t whole = SALT;
     make_room(&entry, 4096);
     while (read_up_to(journal, size, SIZE) == SIZE) {
         size_t length = number_at(size);
@@ -133,22 +149,65 @@ static void apply_journal(void) {
         apply(entry.bytes, length);
         take_reply(); /* it went out when the entry was new */
         whole += (off_t)(SIZE + length);
+        logged += SIZE + length;
     }
     if (ftruncate(journal, whole) || lseek(journal, whole, SEEK_SET) != whole || fdatasync(journal)) die("the journal can't be cut");
 }
 
-/* Opens the journal for this program alone. Its first bytes are the salt, the same at each start. */
-static void open_journal(const char *name) {
-    uint8_t keys[16];
-    uint64_t salt;
-    if ((journal = open(name, O_RDWR | O_CREAT | O_CLOEXEC, 0644)) < 0 || flock(journal, LOCK_EX | LOCK_NB)) die(name);
-    if (read_up_to(journal, (uint8_t *)&salt, SALT) < SALT) {
-        if (getrandom(&salt, SALT, 0) < SALT || ftruncate(journal, 0) || lseek(journal, 0, SEEK_SET)) die(name);
-        write_all(journal, (const uint8_t *)&salt, SALT);
-        if (fsync(journal)) die("a sync failed");
+/* Opens a journal for this program alone, unless another one has just exchanged it. */
+static int open_locked(const char *path, int flags) {
+    struct stat opened, there;
+    int file = open(path, O_RDWR | O_CREAT | O_CLOEXEC | flags, 0644);
+    if (file < 0 || flock(file, LOCK_EX | LOCK_NB) || fstat(file, &opened) || stat(path, &there)) die(path);
+    if (opened.st_ino != there.st_ino) die("the journal is another program's");
+    return file;
+}
+
+/* A journal that has what the replica has come to takes the place of the present one. */
+static void write_snapshot(void) {
+    static buffer it;
+    char path[PATH_MAX];
+    uint64_t applied, moment;
+    uint32_t leadership;
+    size_t next = 0, part = HEAD;
+    migwelun_place(&replica, &applied, &leadership, &moment);
+    it.length = 0;
+    make_room(&it, HEAD);
+    memcpy(it.bytes, &salt, SALT);
+    while (part > 0) {
+        it.length += part;
+        if (migwelun_snapshot(&replica, applied, next, PART, &next)) die("no snapshot is written");
+        while (migwelun_take_entry(&replica, it.bytes + it.length, it.room - it.length, &part) == MIGWELUN_SHORT) make_room(&it, part);
     }
+    put_number(it.bytes + SALT, it.length - HEAD);
+    snprintf(path, sizeof path, "%s.new", name);
+    int file = open_locked(path, O_TRUNC);
+    write_all(file, it.bytes, it.length);
+    if (fdatasync(file) || rename(path, name)) die(path);
+    int folder = open(dirname(path), O_RDONLY | O_CLOEXEC);
+    if (folder < 0 || fsync(folder) || close(folder) || close(journal)) die(name);
+    journal = file;
+    logged = 0;
+}
+
+/* Makes the replica of the journal. What is shorter than its head is new, and gets a salt, the same at each start. */
+static void read_journal(void) {
+    uint8_t keys[16], head[HEAD];
+    size_t at;
+    journal = open_locked(name, 0);
     if (getrandom(keys, sizeof keys, 0) < (ssize_t)sizeof keys) die("no random bytes");
-    if (migwelun_make_replica(&replica, salt, keys)) die("out of memory");
+    if (read_up_to(journal, head, HEAD) < HEAD) {
+        if (getrandom(&salt, SALT, 0) < SALT || migwelun_make_replica(&replica, salt, keys)) die("out of memory");
+        write_snapshot();
+        return;
+    }
+    memcpy(&salt, head, SALT);
+    buffer snapshot = {0};
+    make_room(&snapshot, number_at(head + SALT));
+    if (read_up_to(journal, snapshot.bytes, number_at(head + SALT)) < number_at(head + SALT)) die("the journal is none");
+    if (migwelun_restore(&replica, snapshot.bytes, number_at(head + SALT), keys, &at)) die("the snapshot is refused");
+    apply_journal((off_t)(HEAD + number_at(head + SALT)));
+    free(snapshot.bytes);
 }
 
 /* ---- what comes in */
@@ -186,8 +245,8 @@ int main(int words, char **word) {
     struct pollfd input = {.fd = STDIN_FILENO, .events = POLLIN};
     buffer in = {0};
     if (words < 3) die("usage: journal FILE NAME:UUID:COUNT ..");
-    open_journal(word[1]);
-    apply_journal();
+    name = word[1];
+    read_journal();
     append(migwelun_lead(&replica));
     uint64_t ticked = clock_now();
     migwelun_begin(&replica, ticked);
@@ -195,6 +254,7 @@ int main(int words, char **word) {
     append(migwelun_propose_topics(&replica));
     for (;;) {
         poll(&input, 1, TICK_MS);
+        if (logged > MOST_LOG) write_snapshot();
         if (clock_now() - ticked >= TICK_MS) append(migwelun_propose_tick(&replica, ticked = clock_now()));
         if (!input.revents) continue;
         make_room(&in, 65536);

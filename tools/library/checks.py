@@ -15,6 +15,7 @@ from gate.checks import TOP, Check, Failed, rebalances, why_fails
 AT_ONCE = 4
 SECONDS, BUILD_SECONDS = 300, 1_500
 SCRIPTS, REFUSED_SCRIPTS, WATCHED_SCRIPTS = 2_000, 100, 4
+RESTORED_SCRIPTS, CHANGED = 100, 2_000
 WATCH = ("valgrind", "-q", "--error-exitcode=99", "--leak-check=full", "--errors-for-leak-kinds=all")
 TOPIC = "t:11111111-1111-1111-1111-111111111111:2"
 REBALANCE = TOP / "examples/reply/rebalance"
@@ -128,7 +129,9 @@ def of_examples(library: Library) -> Iterator[Check]:
     yield "examples/embed/broker.c", serves(library.compiled("examples/embed/broker.c", "-D_GNU_SOURCE"))
     python = [sys.executable, "-B", "-m", "unittest"]
     os.environ["MIGWELUN_LIBRARY"] = os.environ["BROKER_TEST_LIBRARY"] = str(library.archive.with_suffix(".so"))
-    os.environ["MIGWELUN_JOURNAL"] = str(library.compiled("examples/embed/journal.c", "-D_GNU_SOURCE"))
+    os.environ["MIGWELUN_JOURNAL"] = str(library.compiled("examples/embed/journal.c", "-D_GNU_SOURCE", "-DMOST_LOG=2000"))
+    words = ["env", f"PYTHONPATH={embed / 'python'}", sys.executable, "-B", "-m", "library.snapshots", os.environ["MIGWELUN_LIBRARY"]]
+    yield "replicas that are restored", run([*words, str(RESTORED_SCRIPTS), str(CHANGED)], TOP / "tools")
     yield "examples/embed/journal.c, killed", run([*python, "test_journal"], embed / "python")
     yield "examples/embed/python", run([*python, "test_migwelun"], embed / "python")
     yield "broker --embedded", run([*python, "broker.tests.test_program.Program.test_two_members_of_another_hand_embedded"], TOP)

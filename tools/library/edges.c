@@ -1,6 +1,6 @@
 /*
  * Sees that the C library does what include/migwelun.h says at the edges: empty and full slots, bodies of every short length, short
- * buffers, names that are no text, each fault of topics, and what may be read. Prints what it finds otherwise; the last line is
+ * buffers, names that are no text, each fault of topics, what may be read, and snapshots. Prints what it finds otherwise; the last line is
  * `N passed, M failed`, and the status is 0 where none failed.
  */
 #include <stdio.h>
@@ -8,7 +8,7 @@
 #include <string.h>
 #include "migwelun.h"
 
-enum { LONGEST_BODY = 40, MARK = 0xa5 };
+enum { LONGEST_BODY = 40, MARK = 0xa5, ROOM = 4096 };
 
 static int passed, failed;
 
@@ -43,10 +43,13 @@ static int32_t epochs(migwelun_slot *slot, const char *group, const char *member
     return migwelun_epochs(slot, (const uint8_t *)group, strlen(group), (const uint8_t *)member, strlen(member), epoch, previous);
 }
 
-/* Answers a copy of the body that ends where its block ends. */
+/* A copy of bytes that ends where its block ends. */
+static uint8_t *copy_of(const uint8_t *bytes, size_t length) {
+    return memcpy(malloc(length ? length : 1), bytes, length);
+}
+
 static int32_t answer(migwelun_slot *slot, const uint8_t *body, size_t length, uint64_t frame) {
-    uint8_t *copy = malloc(length ? length : 1);
-    memcpy(copy, body, length);
+    uint8_t *copy = copy_of(body, length);
     int32_t code = migwelun_answer(slot, copy, length, 1, frame, 0);
     free(copy);
     return code;
@@ -161,12 +164,66 @@ static void reads(void) {
     migwelun_drop(&slot);
 }
 
+/* ---- snapshots */
+
+static int32_t restore(migwelun_slot *slot, const uint8_t *bytes, size_t length, size_t *at) {
+    uint8_t *copy = copy_of(bytes, length);
+    int32_t code = migwelun_restore(slot, copy, length, KEYS, at);
+    free(copy);
+    return code;
+}
+
+/* Takes the entry that waits and applies it. */
+static int32_t apply(migwelun_slot *slot, uint64_t place) {
+    uint8_t entry[ROOM];
+    uint32_t leadership, connection;
+    uint64_t frame;
+    size_t size;
+    SEE(migwelun_take_entry(slot, entry, sizeof entry, &size) == MIGWELUN_DONE);
+    return migwelun_apply(slot, place, entry, size, &leadership, &connection, &frame);
+}
+
+/* The head and the one group, each a part, and behind them a part without a byte: the length of all. */
+static size_t two_parts(migwelun_slot *slot, uint64_t place, uint8_t *to) {
+    size_t next = 0, length = 0, size = 0;
+    for (size_t part = 0; part < 3; part++, length += size) {
+        SEE(migwelun_snapshot(slot, place, next, 1, &next) == MIGWELUN_DONE && next == (part < 2 ? part + 1 : 2));
+        SEE(migwelun_take_entry(slot, to + length, ROOM - length, &size) == MIGWELUN_DONE && (size > 0) == (part < 2));
+    }
+    return length;
+}
+
+/* What is written is restored, and nothing else: not where it is cut, anywhere, and not with a byte more. */
+static void snapshots(void) {
+    migwelun_slot slot = {0}, other = {0};
+    uint8_t bytes[ROOM], again[ROOM];
+    size_t next = 77, at = 78;
+    SEE(migwelun_snapshot(&slot, 0, 0, 1, &next) == MIGWELUN_EMPTY && migwelun_make(&slot, 0, KEYS) == MIGWELUN_DONE);
+    SEE(migwelun_snapshot(&slot, 0, 0, 1, &next) == MIGWELUN_EMPTY && restore(&slot, bytes, 0, &at) == MIGWELUN_FULL && slot.full);
+    migwelun_drop(&slot);
+    SEE(migwelun_make_replica(&slot, 5, KEYS) == MIGWELUN_DONE && migwelun_lead(&slot) == MIGWELUN_DONE && apply(&slot, 1) == MIGWELUN_DONE);
+    SEE(migwelun_begin(&slot, 0) == MIGWELUN_DONE && restore(&slot, bytes, 0, &at) == MIGWELUN_FULL && at == 78);
+    SEE(migwelun_propose(&slot, JOIN, sizeof JOIN, 1, 1, 3) == MIGWELUN_DONE && apply(&slot, 2) == MIGWELUN_DONE);
+    SEE(migwelun_snapshot(&slot, 1, 0, 1, &next) == MIGWELUN_OUT_OF_PLACE && migwelun_snapshot(&slot, 3, 0, 1, &next) == MIGWELUN_OUT_OF_PLACE);
+    SEE(next == 77 && migwelun_snapshot(&slot, 2, 9, 1, &next) == MIGWELUN_DONE && next == 9);
+    size_t length = two_parts(&slot, 2, bytes);
+    for (size_t cut = 0; cut < length; cut++) SEE(restore(&other, bytes, cut, &at) == MIGWELUN_BAD_SNAPSHOT_FIELD && at <= cut && !other.full);
+    bytes[length] = 0;
+    SEE(restore(&other, bytes, length + 1, &at) == MIGWELUN_RESPELLED && at == length && !other.full);
+    SEE(restore(&other, bytes, length, &at) == MIGWELUN_DONE && two_parts(&other, 2, again) == length && !memcmp(bytes, again, length));
+    /* it doesn't lead, and has come as far */
+    SEE(migwelun_propose_tick(&other, 9) == MIGWELUN_NOT_LEADING && migwelun_lead(&other) == MIGWELUN_DONE && apply(&other, 3) == MIGWELUN_DONE);
+    migwelun_drop(&slot);
+    migwelun_drop(&other);
+}
+
 int main(void) {
     empty_slots();
     short_bodies();
     short_buffers();
     topics();
     reads();
+    snapshots();
     printf("%d passed, %d failed\n", passed, failed);
     return failed != 0;
 }

@@ -1,5 +1,5 @@
 -- What C reads of a coordinator or a replica.
-use Rattle.std.specs.Prelude.{◌≡◌, ◌⊎◌, ◌-◌, ◌^◌, ℕ, ℤ, pos, negsuc, Bool, true, false, List, length, take, IfSome, Option, Some, None, option_map}
+use Rattle.std.specs.Prelude.{◌≡◌, ◌⊎◌, ◌+◌, ◌-◌, ◌^◌, ℕ, ℤ, pos, negsuc, Bool, true, false, List, [], length, take, IfSome, Option, Some, None, Ok, option_map}
 use Rattle.std.specs.FinMap as finite
 use Rattle.group_types.specs.declared.epoch.Epoch.{Epoch}
 use Rattle.group_types.specs.declared.epoch.Epoch.TheVariants.{At, Away}
@@ -15,8 +15,12 @@ use Rattle.coord_replica.specs.declared.fault.ReplicaFault.TheVariants as replic
 use Rattle.coord_replica.specs.Applying.{AppliesBytes}
 use Rattle.coord_replica.specs.Faults.{replica_fault_number}
 use Rattle.coord_replica.specs.Proposing.{IsUnproposed, IsUnwritten, next_leadership, under_present}
-use Rattle.coord_replica.specs.Replicas.{ReplicaState}
+use Rattle.coord_replica.specs.Replicas.{LogState, ReplicaState}
 use Rattle.replica_entries.specs.Values.{ContentValue}
+use Rattle.replica_snapshots.specs.declared.fault.SnapshotFault.{SnapshotFault}
+use Rattle.replica_snapshots.specs.declared.fault.SnapshotFault.TheVariants as snapshot
+use Rattle.replica_snapshots.specs.Faults as snapshots
+use Rattle.coord_replica.specs.Snapshots.{IsSnapshotOf, PutsPart, SnapshotValue}
 
 -- KIP-848, "Static Membership": a static member that is away has the epoch -2
 abbrev pub epoch_shown : Epoch → ℤ
@@ -122,3 +126,24 @@ IsRefused r content code = (fault : ReplicaFault) × IsUnproposed r (under_prese
 -- why an entry is not applied: its fault, or that memory is short
 abbrev pub IsUnapplied : Option ReplicaFault → ℤ → Type 0
 IsUnapplied refusal code = (code ≡ negsuc 1) ⊎ ((fault : ReplicaFault) × (refusal ≡ Some fault) × (code ≡ replica_fault_shown fault))
+
+-- ---- of snapshots
+
+-- the number of a snapshot's fault behind 30; -2 where memory is short
+abbrev pub snapshot_fault_shown : SnapshotFault → ℤ
+snapshot_fault_shown snapshot.NoMemory = negsuc 1
+snapshot_fault_shown (snapshot.Wire fault place) = pos (30 + snapshots.fault_number (snapshot.Wire fault place))
+snapshot_fault_shown (snapshot.BadValue place) = pos (30 + snapshots.fault_number (snapshot.BadValue place))
+snapshot_fault_shown (snapshot.Unsound place) = pos (30 + snapshots.fault_number (snapshot.Unsound place))
+snapshot_fault_shown (snapshot.Respelled place) = pos (30 + snapshots.fault_number (snapshot.Respelled place))
+snapshot_fault_shown snapshot.TooLong = pos (30 + snapshots.fault_number snapshot.TooLong)
+
+-- the bytes are the sections of a snapshot from one number up to the next
+pub record IsPart (s : LogState) (from size next : ℕ) (bytes : List ℕ) : Type 0 where
+  pub snapshot : SnapshotValue
+  pub of : IsSnapshotOf s snapshot
+  pub put : PutsPart (Ok next) [] bytes snapshot from size
+
+-- why no part, or no replica, was made of a snapshot
+abbrev pub IsSnapshotFault : ℤ → Type 0
+IsSnapshotFault code = (fault : SnapshotFault) × (code ≡ snapshot_fault_shown fault)

@@ -1,10 +1,13 @@
 //! What the exports return.
 
-/// It was done: a coordinator was made, a reply appended, bytes taken, topics set, an entry proposed or applied.
+/// It was done: a coordinator was made, a reply appended, bytes taken, topics set, an entry proposed or applied, a part of a snapshot written.
 pub(crate) const DONE: i32 = 0;
 
 /// Nothing is replied, and the connection is to be closed.
 pub(crate) const CLOSES: i32 = 1;
+
+/// The place is not the one that the replica has come to.
+pub(crate) const OUT_OF_PLACE: i32 = 2;
 
 /// The group doesn't have the member, and doesn't remember it.
 pub(crate) const NO: i32 = 0;

@@ -33,7 +33,8 @@ use crate::keys::Keys;
 use crate::machine::Machine;
 pub use crate::replica::{
     migwelun_apply, migwelun_begin, migwelun_lead, migwelun_make_replica, migwelun_place,
-    migwelun_propose, migwelun_propose_tick, migwelun_propose_topics, migwelun_take_entry,
+    migwelun_propose, migwelun_propose_tick, migwelun_propose_topics, migwelun_restore,
+    migwelun_snapshot, migwelun_take_entry,
 };
 pub use crate::slot::Slot;
 use coord_node::{Answered, Moment, Node, Stamp};

@@ -5,14 +5,17 @@ ghost use Rattle.replica_entries.specs.Spelling.{entry_fields};
 ghost use Rattle.replica_entries.specs.Values.{image, tick};
 ghost use Rattle.coord_replica.specs.Applying.{refusal_at};
 ghost use Rattle.coord_replica.specs.Proposing.{ProposesBytes, begun, frame_proposed, moment_proposed, next_leadership};
-ghost use Rattle.coord_replica.specs.Replicas.{replica_opening};
-ghost use Rattle.coord_c.specs.Reads.{IsApplied, IsRefused, IsUnapplied, IsUnled, TellsApplied};
+ghost use Rattle.coord_replica.specs.Replicas.{LogState, following, replica_opening};
+ghost use Rattle.coord_replica.specs.Snapshots.{SpellsLog};
+ghost use Rattle.coord_c.specs.Reads.{IsApplied, IsPart, IsRefused, IsSnapshotFault, IsUnapplied, IsUnled, TellsApplied};
+ghost use Rattle.coord_c.specs.Machines.{ForReplicas};
 ghost use Rattle.coord_c.specs.Slots.{in_slot, IsFull, Has, HasReplica, Becomes, BecomesReplica};
 
-use crate::code::{DONE, EMPTY, FULL, NO_MEMORY, SHORT};
+use crate::code::{DONE, EMPTY, FULL, NO_MEMORY, OUT_OF_PLACE, SHORT};
 use crate::fill;
 use crate::keys::Keys;
 use crate::machine::Machine;
+use crate::replicated::{place_of_fault, snapshot_code};
 use crate::slot::Slot;
 use coord_replica::Replica;
 use std::alloc::Global;
@@ -44,6 +47,67 @@ pub extern "C" fn migwelun_make_replica(
         alloc,
         Machine::Replica(Replica::new(alloc, salt, hasher)),
     )
+}
+
+/// Makes a replica in an empty slot of a snapshot's bytes: it has applied what the one had that they were written of, and doesn't lead.
+/// Writes the place of the byte that a fault is at.
+#[unsafe(no_mangle)]
+pub extern "C" fn migwelun_restore(
+    slot: &mut Slot,
+    alloc: Global,
+    snapshot: &[u8],
+    keys: &[u8; 16],
+    at: &mut usize,
+) -> i32
+    ensures full { IsFull slot.old → (result ≡ FULL) × (in_slot slot.new ≡ in_slot slot.old) }
+    ensures made { result ≡ DONE → IsFull slot.new }
+    ensures restored { result ≡ DONE → Has slot.new (λ y. ForReplicas y.machine y.machine (λ r q. SpellsLog r.log snapshot.now × (r ≡ following r.log))) }
+    ensures replica { result ≡ DONE → HasReplica slot.new }
+    ensures only { (s : LogState) → SpellsLog s snapshot.now → result ≡ DONE → Has slot.new (λ y. y.machine ≡ Machine.Replica (following s)) }
+    ensures nothing_waits { result ≡ DONE → Has slot.new (λ y. (y.replies.items ≡ []) × (y.topics.items ≡ []) × (y.entry.items ≡ [])) }
+    ensures refused { ¬ IsFull slot.old → result ≢ DONE → (in_slot slot.new ≡ None) × IsSnapshotFault result }
+    ensures at { result ≡ DONE → at.new ≡ at.old }
+{
+    if slot.is_full() {
+        return FULL;
+    }
+    let Ok(hasher) = RandomState::new(&Keys { bytes: keys }) else {
+        return NO_MEMORY;
+    };
+    match Replica::restore(alloc, hasher, snapshot) {
+        Ok(replica) => fill(slot, alloc, Machine::Replica(replica)),
+        Err(fault) => {
+            *at = place_of_fault(fault);
+            snapshot_code(fault)
+        }
+    }
+}
+
+/// Writes a part of a replica's snapshot, if it has applied so many entries: sections from one number on, until there are `size` bytes of
+/// them or none is left. It waits for [`migwelun_take_entry`]. Writes the number of the next section.
+#[unsafe(no_mangle)]
+pub extern "C" fn migwelun_snapshot(
+    slot: &mut Slot,
+    alloc: Global,
+    place: u64,
+    from: usize,
+    size: usize,
+    next: &mut usize,
+) -> i32
+    ensures empty { ¬ HasReplica slot.old → (result ≡ EMPTY) × (in_slot slot.new ≡ in_slot slot.old) × (next.new ≡ next.old) }
+    ensures full { HasReplica slot.old → HasReplica slot.new × (result ≢ EMPTY) }
+    ensures out_of_place { BecomesReplica slot.old slot.new (λ x y r q. place ≢ r.log.applied → result ≡ OUT_OF_PLACE) }
+    ensures written { BecomesReplica slot.old slot.new (λ x y r q. result ≡ DONE → IsPart r.log from size next.new y.entry.items) }
+    ensures refused { BecomesReplica slot.old slot.new (λ x y r q. place ≡ r.log.applied → result ≢ DONE → IsSnapshotFault result) }
+    ensures unchanged { result ≢ DONE → (in_slot slot.new ≡ in_slot slot.old) × (next.new ≡ next.old) }
+    ensures others { Becomes slot.old slot.new (λ x y. (y.machine ≡ x.machine) × (y.replies ≡ x.replies) × (y.topics ≡ x.topics)) }
+{
+    let Some(mut embedded) = slot.take(alloc) else {
+        return EMPTY;
+    };
+    let code = embedded.snapshot(alloc, place, from, size, next);
+    slot.put(embedded);
+    code
 }
 
 /// Writes how many entries a replica has applied, the number of the last leadership that began, and the greatest moment.

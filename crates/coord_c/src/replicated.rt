@@ -1,18 +1,18 @@
 //! The calls that are for replicas.
-ghost use Rattle.std.specs.Prelude.{◌≡◌, ◌≢◌, ◌⊎◌, ◌≤◌, ◌<◌, [], true, false, None, length, take};
+ghost use Rattle.std.specs.Prelude.{◌≡◌, ◌≢◌, ◌⊎◌, ◌≤◌, ◌<◌, [], true, false, None, IfOk, length, take};
 ghost use Rattle.topic_meta.specs.Images.{entries_of};
 ghost use Rattle.replica_entries.specs.Spelling.{entry_fields};
 ghost use Rattle.replica_entries.specs.Values.{image, tick};
 ghost use Rattle.coord_replica.specs.Applying.{refusal_at};
 ghost use Rattle.coord_replica.specs.Proposing.{IsUnproposed, IsUnwritten, ProposesBytes, begun, frame_proposed, moment_proposed, next_leadership, under_present};
 ghost use Rattle.coord_c.specs.Machines.{ForReplicas, is_replica};
-ghost use Rattle.coord_c.specs.Reads.{IsApplied, IsRefused, IsUnled, IsUnapplied, TellsApplied, applied_shown, connection_shown, frame_shown, replica_fault_shown};
+ghost use Rattle.coord_c.specs.Reads.{IsApplied, IsPart, IsRefused, IsSnapshotFault, IsUnled, IsUnapplied, TellsApplied, applied_shown, connection_shown, frame_shown, replica_fault_shown, snapshot_fault_shown};
 
-use crate::code::{CLOSES, DONE, EMPTY, NO_MEMORY, SHORT};
+use crate::code::{CLOSES, DONE, EMPTY, NO_MEMORY, OUT_OF_PLACE, SHORT};
 use crate::embedded::{Embedded, copies, take_bytes};
 use crate::machine::Machine;
 use coord_node::Answered;
-use coord_replica::{Applied, ReplicaFault};
+use coord_replica::{Applied, Replica, ReplicaFault, SnapshotFault};
 use std::alloc::Global;
 
 impl Embedded {
@@ -31,6 +31,40 @@ impl Embedded {
         *leadership = replica.leadership();
         *moment = replica.moment().millis();
         DONE
+    }
+
+    /// Writes a part of the snapshot, in place of the entry that waits.
+    pub(crate) fn snapshot(
+        &mut self,
+        alloc: Global,
+        place: u64,
+        from: usize,
+        size: usize,
+        next: &mut usize,
+    ) -> i32
+        ensures coordinator { is_replica self.old.machine ≡ false → result ≡ EMPTY }
+        ensures known { is_replica self.old.machine ≡ true → result ≢ EMPTY }
+        ensures out_of_place { ForReplicas self.old.machine self.new.machine (λ r q. place ≢ r.log.applied → result ≡ OUT_OF_PLACE) }
+        ensures written { ForReplicas self.old.machine self.new.machine (λ r q. result ≡ DONE → IsPart r.log from size next.new self.new.entry.items) }
+        ensures refused { ForReplicas self.old.machine self.new.machine (λ r q. place ≡ r.log.applied → result ≢ DONE → IsSnapshotFault result) }
+        ensures unchanged { result ≢ DONE → (self.new ≡ self.old) × (next.new ≡ next.old) }
+        ensures others { (self.new.machine ≡ self.old.machine) × (self.new.replies ≡ self.old.replies) × (self.new.topics ≡ self.old.topics) }
+    {
+        let Machine::Replica(replica) = &self.machine else {
+            return EMPTY;
+        };
+        if place != replica.place() {
+            return OUT_OF_PLACE;
+        }
+        let mut entry = Vec::new(alloc);
+        match part_of(replica, from, size, &mut entry) {
+            Ok(behind) => {
+                self.entry = entry;
+                *next = behind;
+                DONE
+            }
+            Err(fault) => snapshot_code(fault),
+        }
     }
 
     /// Proposes the next leadership.
@@ -244,4 +278,33 @@ fn fault_code(fault: ReplicaFault) -> i32
         ReplicaFault::NoMemory => NO_MEMORY,
         other => i32::from(other.number()),
     }
+}
+
+/// Appends a part of a replica's snapshot, and gives the number of the next section.
+fn part_of(
+    replica: &Replica,
+    from: usize,
+    size: usize,
+    out: &mut Vec<u8>,
+) -> Result<usize, SnapshotFault>
+    requires { out.old.items ≡ [] }
+    ensures { IfOk result (λ next. IsPart replica.now.log from size next out.new.items) }
+{
+    let snapshot = replica.snapshot()?;
+    snapshot.put(from, size, out)
+}
+
+/// The code of a snapshot's fault.
+pub(crate) fn snapshot_code(fault: SnapshotFault) -> i32
+    ensures { result ≡ snapshot_fault_shown fault }
+{
+    match fault {
+        SnapshotFault::NoMemory => NO_MEMORY,
+        other => 30 + i32::from(other.number()),
+    }
+}
+
+/// The byte that a snapshot's fault is at, 0 where it is at none.
+pub(crate) fn place_of_fault(fault: SnapshotFault) -> usize {
+    fault.place().unwrap_or(0)
 }

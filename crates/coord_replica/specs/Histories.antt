@@ -5,7 +5,7 @@ use Rattle.coord_node.specs.Coordinator.{Answer}
 use Rattle.replica_entries.specs.Values.{EntryValue}
 use Rattle.coord_replica.specs.Applying.{Applies, LogRun, moved_to}
 use Rattle.coord_replica.specs.Proposing.{Proposes, begun, next_leadership}
-use Rattle.coord_replica.specs.Replicas.{LogState, ReplicaState, log_opening, replica_opening}
+use Rattle.coord_replica.specs.Replicas.{LogState, ReplicaState, following, log_opening, replica_opening}
 
 -- an answer that a replica gave to the entry of a place
 pub record Given : Type 0 where
@@ -13,19 +13,23 @@ pub record Given : Type 0 where
   pub place : ℕ
   pub answer : Answer
 
--- Replicas by their numbers, as many as one likes; their log; what was proposed; and all answers that they gave.
+-- Replicas by their numbers, as many as one likes; their log; what was proposed; the snapshots that were saved; and all answers that the
+-- replicas gave.
 pub record Cluster : Type 0 where
   pub salt : ℕ
   pub replicas : ℕ → ReplicaState
   pub log : List EntryValue
   pub proposals : List EntryValue
+  pub snapshots : List LogState
   pub given : List Given
 
 abbrev pub cluster_opening : ℕ → Cluster
-cluster_opening salt = record { salt = salt; replicas = λ _. replica_opening salt; log = []; proposals = []; given = [] }
+cluster_opening salt =
+    record { salt = salt; replicas = λ _. replica_opening salt; log = []; proposals = []; snapshots = []; given = [] }
 
 -- What happens. A replica proposes to lead, begins to lead by its clock, or proposes an entry. A proposal comes to the end of the log; it
--- is lost where it never does. A replica applies the next entry of the log, or is lost, and begins anew.
+-- is lost where it never does. A replica applies the next entry of the log, or saves a snapshot. It is lost, and begins anew, or with a
+-- snapshot that was saved, however long ago and by whomever.
 pub data Act : Type 0 where
   Lead : ℕ → Act
   Begin : ℕ → ℕ → Act
@@ -33,6 +37,8 @@ pub data Act : Type 0 where
   Append : EntryValue → Act
   Apply : ℕ → Act
   Lose : ℕ → Act
+  Save : ℕ → Act
+  Restore : ℕ → LogState → Act
 
 -- with another state of one replica
 abbrev pub with_replica : Cluster → ℕ → ReplicaState → Cluster
@@ -63,6 +69,8 @@ ActStep c (Propose number e) new = (r : ReplicaState) × Proposes (c.replicas nu
 ActStep c (Append e) new = Contains c.proposals e × (new ≡ record c { log = c.log ++ e ∷ [] })
 ActStep c (Apply number) new = AppliesNext c number new
 ActStep c (Lose number) new = new ≡ with_replica c number (replica_opening c.salt)
+ActStep c (Save number) new = new ≡ record c { snapshots = (c.replicas number).log ∷ c.snapshots }
+ActStep c (Restore number s) new = Contains c.snapshots s × (new ≡ with_replica c number (following s))
 
 -- one act after the other
 abbrev pub History : Cluster → List Act → Cluster → Type 0

@@ -1,5 +1,5 @@
 -- What holds of every run over a log, and after every history of replicas (ours).
-use Rattle.std.specs.Prelude.{◌≡◌, ℕ, ◌<◌, ◌≤◌, ◌^◌, List, [], ◌∷◌, length, Contains, Option, None, IfSome}
+use Rattle.std.specs.Prelude.{◌≡◌, ℕ, ◌<◌, ◌≤◌, ◌^◌, List, [], ◌∷◌, ◌++◌, length, All, Contains, Option, None, IfSome}
 use Rattle.std.specs.List.Sorted.{IsNonDecreasing}
 use Rattle.coord_node.specs.Coordinator.{Answer, opening}
 use Rattle.coord_node.specs.Steps.{Run}
@@ -8,7 +8,10 @@ use Rattle.coord_replica.specs.Applying.{LogRun, answers_given, refusal_of}
 use Rattle.coord_replica.specs.Entries.{events_of, leaderships_of, moment_in, moments_of, stamp_under}
 use Rattle.coord_replica.specs.Histories.{Act, Cluster, FollowsLog, Given, History, IsAnswerAt, cluster_opening}
 use Rattle.coord_replica.specs.Proposing.{IsAboveEarlier, Proposes}
+use Rattle.replica_snapshots.specs.Nodes.{FitsSection, sections_of}
+use Rattle.replica_snapshots.specs.Places.{FitsPlace}
 use Rattle.coord_replica.specs.Replicas.{LogState, ReplicaState, log_opening}
+use Rattle.coord_replica.specs.Snapshots.{IsSnapshotOf, SnapshotValue, SpellsLog, part, sections_in}
 
 -- what the coordinator's run says of the entries that were applied
 pub record IsRunOf (salt : ℕ) (entries : List EntryValue) (answers : List (Option Answer)) (s : LogState) : Type 0 where
@@ -72,3 +75,21 @@ abbrev pub OneAnswerAPlace : Type 0
 OneAnswerAPlace =
     (salt : ℕ) (acts : List Act) (c : Cluster) → History (cluster_opening salt) acts c
     → (one other : Given) → Contains c.given one → Contains c.given other → one.place ≡ other.place → one.answer ≡ other.answer
+
+-- ---- of snapshots
+
+-- bytes are the snapshot of at most one state: so what is restored of a snapshot that was written is what it was written of
+abbrev pub OneStateASnapshot : Type 0
+OneStateASnapshot = (s t : LogState) (bytes : List ℕ) → SpellsLog s bytes → SpellsLog t bytes → s ≡ t
+
+-- all sections are the snapshot
+abbrev pub SectionsMakeASnapshot : Type 0
+SectionsMakeASnapshot =
+    (s : LogState) (v : SnapshotValue) → IsSnapshotOf s v → FitsPlace v.place → All FitsSection (sections_of v.node)
+    → SpellsLog s (part v 0 (sections_in v))
+
+-- one part behind another is a part
+abbrev pub PartsFollow : Type 0
+PartsFollow =
+    (v : SnapshotValue) (from middle next : ℕ) → from < middle → middle ≤ next → next ≤ sections_in v
+    → part v from middle ++ part v middle next ≡ part v from next

@@ -5,5 +5,6 @@ pub mod Faults
 pub mod Entries
 pub mod Applying
 pub mod Proposing
+pub mod Snapshots
 pub mod Histories
 pub mod Laws

@@ -23,3 +23,7 @@ pub record ReplicaState : Type 0 where
 
 abbrev pub replica_opening : ℕ → ReplicaState
 replica_opening salt = record { log = log_opening salt; leading = None; proposed = 0 }
+
+-- a replica that has come to a state, and doesn't lead
+abbrev pub following : LogState → ReplicaState
+following s = record { log = s; leading = None; proposed = 0 }

@@ -1,6 +1,6 @@
 //! Laws of logs and replicas, proved where nothing runs.
 ghost use Rattle.coord_replica.specs.Laws.{AnswersAreTheLogs, LogsNeverFall, OneAnswerAPlace, OneStateAPlace, ProposalsAreTaken, ReplicasAreRuns};
-ghost use Rattle.coord_replica.specs.Laws.{ReplicasFollowTheLog, SameEntriesSameReplica, StampsRise};
+ghost use Rattle.coord_replica.specs.Laws.{OneStateASnapshot, PartsFollow, ReplicasFollowTheLog, SameEntriesSameReplica, SectionsMakeASnapshot, StampsRise};
 
 use coord_node::one_answer;
 
@@ -57,3 +57,18 @@ pub fn one_answer_a_place()
 {
     one_answer();
 }
+
+/// Bytes are the snapshot of at most one state: so what is restored of a snapshot that was written is what it was written of.
+pub fn one_state_a_snapshot()
+    ensures { OneStateASnapshot }
+{}
+
+/// All sections of a replica, one behind the other, are its snapshot.
+pub fn sections_make_a_snapshot()
+    ensures { SectionsMakeASnapshot }
+{}
+
+/// One part of a snapshot behind another is a part.
+pub fn parts_follow()
+    ensures { PartsFollow }
+{}

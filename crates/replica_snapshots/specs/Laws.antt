@@ -1,7 +1,11 @@
 -- The laws between runs of bytes and states: bytes begin with at most one, and what is behind it is then settled.
+use Rattle.std.specs.Prelude.{◌≡◌, ℕ, List, ◌++◌, All}
+use Rattle.std.specs.List.{flat_map}
 use Rattle.flex_wire.specs.Laws.{BeginsNoOther}
+use Rattle.coord_node.specs.Coordinator.{Coordinator}
 use Rattle.replica_snapshots.specs.Groups.{named_fields, FitsNamed}
-use Rattle.replica_snapshots.specs.Nodes.{head_fields, FitsHead, node_fields, FitsNode}
+use Rattle.replica_snapshots.specs.Nodes.{head_fields, FitsHead, NodeValue, node_fields, FitsNode, SpellsNode, section_fields, FitsSection, sections_of}
+use Rattle.replica_snapshots.specs.Places.{place_fields, FitsPlace}
 
 -- Bytes begin with at most one group under its name.
 abbrev pub OneGroupARun : Type 0
@@ -14,3 +18,17 @@ OneHeadARun = BeginsNoOther FitsHead head_fields
 -- Bytes begin with at most one node.
 abbrev pub OneNodeARun : Type 0
 OneNodeARun = BeginsNoOther FitsNode node_fields
+
+-- Bytes begin with a node of at most one coordinator, and what is behind it is then settled.
+abbrev pub OneCoordinatorARun : Type 0
+OneCoordinatorARun =
+    (c d : Coordinator) (v w x y : List ℕ) → SpellsNode c v → SpellsNode d w → v ++ x ≡ w ++ y → (c ≡ d) × (x ≡ y)
+
+-- Bytes begin with at most one place of a log.
+abbrev pub OnePlaceARun : Type 0
+OnePlaceARun = BeginsNoOther FitsPlace place_fields
+
+-- The sections of a node, one behind the other, are the node, and where each of them fits, it fits.
+abbrev pub SectionsMakeTheNode : Type 0
+SectionsMakeTheNode =
+    (n : NodeValue) → (flat_map section_fields (sections_of n) ≡ node_fields n) × (All FitsSection (sections_of n) → FitsNode n)

@@ -2,6 +2,7 @@ pub mod Spelling
 pub mod Parts
 pub mod Groups
 pub mod Nodes
+pub mod Places
 pub mod Views
 pub mod Faults
 pub mod Writing

@@ -1,11 +1,14 @@
 -- A node's spelling: its head, and then its groups under their names, in the order of their making (ours).
-use Rattle.std.specs.Prelude.{ℕ, ℤ, pos, List, [], ◌∷◌, ◌++◌, length, All}
+use Rattle.std.specs.Prelude.{◌≡◌, ℕ, ℤ, ◌-◌, pos, List, [], ◌∷◌, ◌++◌, length, map, take, drop, All}
 use Rattle.std.specs.List.{flat_map}
 use Rattle.std.specs.FinMap as finite
 use Rattle.flex_wire.specs.Spelling.{int16, array_count, FitsCount}
 use Rattle.flex_wire.specs.Composed.{array, FitsArray}
 use Rattle.kip_msgs.specs.Spelling.{fields}
+use Rattle.group_types.specs.Text.{Text}
 use Rattle.group_types.specs.Topics.{Topics}
+use Rattle.group_types.specs.Group.{Group}
+use Rattle.coord_node.specs.Coordinator.{Coordinator}
 use Rattle.replica_snapshots.specs.Spelling.{number64, FitsNumber, topic_fields, FitsTopic}
 use Rattle.replica_snapshots.specs.Groups.{Named, named_fields, FitsNamed}
 
@@ -52,3 +55,48 @@ node_fields n = head_fields (head_of n) ++ flat_map named_fields n.groups
 pub record FitsNode (n : NodeValue) : Type 0 where
   pub head : FitsHead (head_of n)
   pub groups : All FitsNamed n.groups
+
+-- ---- what a node's bytes say of its coordinator
+
+-- a group's state under its name
+abbrev pub state_of : Named → Text × Group
+state_of g = (g.0, g.1.0)
+
+-- The coordinator that a node is: the order in which its groups were made is forgotten, and since when each partition is granted.
+abbrev pub coordinator_of : NodeValue → Coordinator
+coordinator_of n = record { salt = n.salt; groups = finite.from_entries (map state_of n.groups); image = n.image }
+
+-- A node as a coordinator: no two of its groups have one name.
+pub record IsOf (c : Coordinator) (n : NodeValue) : Type 0 where
+  pub coordinator : coordinator_of n ≡ c
+  pub once : length n.groups ≡ finite.len c.groups
+
+-- Bytes that spell a node of a coordinator.
+pub record SpellsNode (c : Coordinator) (bytes : List ℕ) : Type 0 where
+  pub node : NodeValue
+  pub fits : FitsNode node
+  pub spelled : bytes ≡ node_fields node
+  pub of : IsOf c node
+
+-- ---- the sections in which a node is written
+
+-- its head, or one of its groups
+pub data Section : Type 0 where
+  Head : HeadValue → Section
+  OneGroup : Named → Section
+
+abbrev pub section_fields : Section → List ℕ
+section_fields (Head h) = head_fields h
+section_fields (OneGroup g) = named_fields g
+
+abbrev pub FitsSection : Section → Type 0
+FitsSection (Head h) = FitsHead h
+FitsSection (OneGroup g) = FitsNamed g
+
+-- the head, and each group
+abbrev pub sections_of : NodeValue → List Section
+sections_of n = Head (head_of n) ∷ map OneGroup n.groups
+
+-- those from one number up to another
+abbrev pub between : ℕ → ℕ → List Section → List Section
+between from next sections = take (next - from) (drop from sections)

@@ -1,9 +1,14 @@
 -- What is written and read, as values.
+use Rattle.std.specs.Prelude.{List, map}
 use Rattle.group_core.specs.Group.{GroupValue}
+use Rattle.coord_node.specs.declared.restored.NamedGroup.{NamedGroup}
 use Rattle.replica_snapshots.specs.declared.group.ReadGroup.{ReadGroup}
 use Rattle.replica_snapshots.specs.declared.head.Head.{Head}
+use Rattle.replica_snapshots.specs.declared.node.Sections.{Sections}
+use Rattle.replica_snapshots.specs.declared.place.Place.{Place}
 use Rattle.replica_snapshots.specs.Groups.{HeldGroup, Named}
-use Rattle.replica_snapshots.specs.Nodes.{HeadValue}
+use Rattle.replica_snapshots.specs.Nodes.{HeadValue, NodeValue}
+use Rattle.replica_snapshots.specs.Places.{PlaceValue}
 
 -- the head of a node
 abbrev pub head_value : Head → HeadValue
@@ -16,3 +21,15 @@ held_of g = (g.state, g.holders)
 -- a group that was read, under its name
 abbrev pub named_of : ReadGroup → Named
 named_of r = (r.name.now, held_of r.group)
+
+-- a place in a log
+abbrev pub place_value : Place → PlaceValue
+place_value p = record { applied = p.applied; leadership = p.leadership; moment = p.moment }
+
+-- a group that is listed, with its holders, under its name
+abbrev pub listed_named : NamedGroup → Named
+listed_named g = (g.name.now, held_of g.group.now)
+
+-- a node whose groups are listed
+abbrev pub listed_node : Sections → NodeValue
+listed_node s = record { salt = s.salt; image = s.image.now; groups = map listed_named s.groups.items }

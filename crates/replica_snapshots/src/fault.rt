@@ -58,6 +58,23 @@ impl SnapshotFault {
             SnapshotFault::TooLong | SnapshotFault::NoMemory => None,
         }
     }
+
+    /// The same fault, where the bytes stand behind so many others.
+    pub fn behind(self, bytes: usize) -> SnapshotFault
+        ensures { fault_number result ≡ fault_number self }
+    {
+        match self {
+            SnapshotFault::Wire(fault, place) => {
+                SnapshotFault::Wire(fault, place.saturating_add(bytes))
+            }
+            SnapshotFault::BadValue(place) => SnapshotFault::BadValue(place.saturating_add(bytes)),
+            SnapshotFault::Unsound(place) => SnapshotFault::Unsound(place.saturating_add(bytes)),
+            SnapshotFault::Respelled(place) => {
+                SnapshotFault::Respelled(place.saturating_add(bytes))
+            }
+            other => other,
+        }
+    }
 }
 
 impl From<AllocError> for SnapshotFault {

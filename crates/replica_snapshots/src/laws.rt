@@ -1,6 +1,6 @@
 //! Laws of the spelling, proved where nothing runs.
 
-ghost use Rattle.replica_snapshots.specs.Laws.{OneGroupARun, OneHeadARun, OneNodeARun};
+ghost use Rattle.replica_snapshots.specs.Laws.{OneCoordinatorARun, OneGroupARun, OneHeadARun, OneNodeARun, OnePlaceARun, SectionsMakeTheNode};
 
 /// Bytes begin with at most one group under its name.
 pub fn one_group_a_run()
@@ -15,4 +15,19 @@ pub fn one_head_a_run()
 /// Bytes begin with at most one node.
 pub fn one_node_a_run()
     ensures { OneNodeARun }
+{}
+
+/// Bytes begin with a node of at most one coordinator.
+pub fn one_coordinator_a_run()
+    ensures { OneCoordinatorARun }
+{}
+
+/// Bytes begin with at most one place of a log.
+pub fn one_place_a_run()
+    ensures { OnePlaceARun }
+{}
+
+/// The sections of a node, one behind the other, are the node.
+pub fn sections_make_the_node()
+    ensures { SectionsMakeTheNode }
 {}

@@ -10,6 +10,7 @@ A Replica applies the entries of a log, so that its groups are there on each mac
     entry = replica.propose(body, connection=1, frame=1, clock=now)
     (append the entry to the log, at the place replica.place().applied + 1)
     reply = replica.apply(replica.place().applied + 1, entry).reply
+    snapshot = b"".join(replica.snapshot())
 
 include/migwelun.h says what stamps, moments and clocks are. Calls from several threads wait for one another.
 """
@@ -20,7 +21,7 @@ import ctypes
 import os
 import secrets
 import threading
-from typing import Dict, Iterable, NamedTuple, Optional, Tuple
+from typing import Dict, Iterable, Iterator, NamedTuple, Optional, Tuple
 
 CLOSES, YES = 1, 1
 NO_MEMORY, SHORT, NO_MEMBER, NO_OFFSET = -2, -4, -6, -7
@@ -43,9 +44,18 @@ ENTRY_FAULTS: Dict[int, str] = {
     16: "bytes left after the entry",
     **{20 + fault: words for fault, words in FAULTS.items()},
 }
+SNAPSHOT_FAULTS: Dict[int, str] = {
+    31: "a field of the snapshot is cut, or no value of its type",
+    32: "a field of the snapshot has a value that can't stand there",
+    33: "the snapshot is no state to which a log can come",
+    34: "the snapshot spells a state otherwise, or bytes are left behind it",
+    35: "there is more of something than a snapshot can say",
+}
 KINDS = ("frame", "tick", "topics", "leads")
 KEYS, ID = 16, 16
 FIRST_ROOM = 4096
+# How many bytes a part of a snapshot has, about.
+PART_BYTES = 256 * 1024
 NO_TEXT = ctypes.c_size_t(-1).value
 _POINTER, _BYTES, _SIZE = ctypes.c_void_p, ctypes.c_char_p, ctypes.c_size_t
 _U32, _U64, _I32, _I64 = ctypes.c_uint32, ctypes.c_uint64, ctypes.c_int32, ctypes.c_int64
@@ -62,6 +72,8 @@ _ARGUMENTS = {
     "epochs": (_POINTER, *_TEXT, *_TEXT, _POINTER, _POINTER),
     "committed": (_POINTER, *_TEXT, *_TEXT, _I32, _POINTER, _POINTER, _POINTER, _SIZE, _POINTER),
     "make_replica": (_POINTER, _U64, _BYTES),
+    "restore": (_POINTER, *_TEXT, _BYTES, _POINTER),
+    "snapshot": (_POINTER, _U64, _SIZE, _SIZE, _POINTER),
     "place": (_POINTER, _POINTER, _POINTER, _POINTER),
     "lead": (_POINTER,),
     "begin": (_POINTER, _U64),
@@ -75,6 +87,10 @@ _ARGUMENTS = {
 
 class BadEntry(ValueError):
     """An entry is not proposed or not applied, and the replica is as it was."""
+
+
+class BadSnapshot(ValueError):
+    """Bytes are no snapshot, or a snapshot can't be written. The replica is as it was."""
 
 
 class Committed(NamedTuple):
@@ -219,6 +235,26 @@ class Replica(_Embedded):
     def __enter__(self) -> Replica:
         return self
 
+    def snapshot(self, size: int = PART_BYTES) -> Iterator[bytes]:
+        """What this replica has come to, as the parts of its one spelling, which stand one behind the other. Each has so many bytes, or a
+        group's more. Between the parts it may propose, but apply nothing: raises BadEntry where it has."""
+        place, at = self.place().applied, _SIZE(0)
+        while part := self._part(place, at, size):
+            yield part
+
+    def restore(self, snapshot: bytes) -> None:
+        """This replica has come to what a snapshot says, whatever it had before, and doesn't lead. Raises BadSnapshot. Take snapshots from
+        where you put them: a few bytes of somebody else can ask for much memory."""
+        slot, at = _Slot(), _SIZE(0)
+        code = self._library.migwelun_restore(ctypes.byref(slot), snapshot, len(snapshot), secrets.token_bytes(KEYS), ctypes.byref(at))
+        if code == NO_MEMORY:
+            raise MemoryError("migwelun_restore")
+        if code:
+            raise BadSnapshot(f"{SNAPSHOT_FAULTS[code]}, at byte {at.value}")
+        with self._lock:
+            self.close()
+            self._slot = slot
+
     def place(self) -> Place:
         """How far this replica has come."""
         applied, leadership, moment = _U64(), _U32(), _U64()
@@ -266,6 +302,13 @@ class Replica(_Embedded):
         if kind == "frame":
             return Applied(kind, *numbers, frame.value, None if code == CLOSES else replies, 0)
         return Applied(kind, *numbers, 0, None, frame.value)
+
+    def _part(self, place: int, at: ctypes.c_size_t, size: int) -> bytes:
+        with self._lock:
+            code = self._call("snapshot", place, at.value, size, ctypes.byref(at))
+            if code:
+                raise BadSnapshot(SNAPSHOT_FAULTS[code]) if code in SNAPSHOT_FAULTS else BadEntry(ENTRY_FAULTS[code])
+            return self._take("take_entry")
 
     def _proposed(self, name: str, *words: object) -> bytes:
         with self._lock:

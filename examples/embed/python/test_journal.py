@@ -8,7 +8,6 @@ import pathlib
 import random
 import struct
 import subprocess
-import sys
 import tempfile
 import threading
 import unittest
@@ -19,6 +18,7 @@ import migwelun
 HEARTBEAT, COMMIT = (68, 0), (8, 9)
 GROUP, TOPIC = b"\x02g", b"\x02t"
 SALT, SIZE, AT_ONCE = 8, 4, 8
+HEAD = SALT + SIZE
 KILLS, LONGEST_LIFE = 200, 0.1
 
 
@@ -41,15 +41,19 @@ def commit(member: bytes, epoch: int, offset: int) -> bytes:
 
 
 class Journal:
-    """The file of a journal, and what a replica makes of its whole entries."""
+    """The file of a journal, what a replica makes of its snapshot and its whole entries, and how often there was another snapshot."""
 
     def __init__(self, path: pathlib.Path) -> None:
-        self.path, self.at = path, SALT
-        self.replica = migwelun.Replica(os.environ["MIGWELUN_LIBRARY"], int.from_bytes(path.read_bytes()[:SALT], sys.byteorder))
+        self.path, self.at, self.snapshot, self.snapshots = path, 0, b"", 0
+        self.replica = migwelun.Replica(os.environ["MIGWELUN_LIBRARY"], 0)
 
     def committed(self) -> int:
         """The offset that was committed last, by the entries that are there."""
         data = self.path.read_bytes()
+        snapshot = data[HEAD : HEAD + int.from_bytes(data[SALT:HEAD], "big")]
+        if snapshot != self.snapshot:
+            self.snapshot, self.at, self.snapshots = snapshot, HEAD + len(snapshot), self.snapshots + 1
+            self.replica.restore(snapshot)
         while len(data) - self.at >= SIZE:
             end = self.at + SIZE + int.from_bytes(data[self.at : self.at + SIZE], "big")
             if end > len(data):
@@ -113,10 +117,9 @@ class Killed(unittest.TestCase):
         """Every tenth kill leaves an entry that was cut."""
         with tempfile.TemporaryDirectory() as folder:
             path = pathlib.Path(folder, "log")
-            command, client, journal = [os.environ["MIGWELUN_JOURNAL"], str(path), "t:11111111-1111-1111-1111-111111111111:1"], Client(), None
+            command, client, journal = [os.environ["MIGWELUN_JOURNAL"], str(path), "t:11111111-1111-1111-1111-111111111111:1"], Client(), Journal(path)
             for kill in range(KILLS):
                 client.live(command)
-                journal = journal or Journal(path)
                 self.assertGreaterEqual(journal.committed(), client.answered, f"kill {kill}: an offset was answered that isn't in the journal")
                 if kill % 10 == 0:
                     with open(path, "r+b") as file:
@@ -124,3 +127,4 @@ class Killed(unittest.TestCase):
                         file.write(struct.pack(">I", 100) + b"cut")
                         file.truncate()
             self.assertGreater(client.answered, KILLS, "commits were answered")
+            self.assertGreater(journal.snapshots, 3, "journals were exchanged")

@@ -78,6 +78,22 @@ class Replicated(unittest.TestCase):
                 self.assertRaisesRegex(migwelun.BadEntry, why, it.apply, place, entry)
             self.assertEqual(it.place(), (0, 0, 0))
 
+    def test_a_replica_is_restored_of_its_snapshot(self) -> None:
+        with migwelun.Replica(LIBRARY, 0) as it, migwelun.Replica(LIBRARY, 5) as other:
+            for place, entry in enumerate(self.LOG[:3], 1):
+                it.apply(place, entry)
+            # The head, and the one group.
+            head, group = it.snapshot(1)
+            self.assertEqual([*it.snapshot()], [head + group])
+            other.restore(head + group)
+            self.assertEqual((other.place(), [*other.snapshot(1)], other.epochs("g", FIRST)), (it.place(), [head, group], (1, 0)))
+            for snapshot, why in ((head, "cut"), (b"", "byte 0"), (head + group + b"\0", "left"), (b"\0\1" + head[2:] + group, "value")):
+                self.assertRaisesRegex(migwelun.BadSnapshot, why, other.restore, snapshot)
+            writing = it.snapshot(1)
+            next(writing)
+            self.assertEqual((other.apply(4, self.TICK), it.apply(4, self.TICK)), (self.APPLIED[3],) * 2)
+            self.assertRaisesRegex(migwelun.BadEntry, "place", next, writing)
+
 
 if __name__ == "__main__":
     unittest.main()

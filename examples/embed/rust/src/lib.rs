@@ -7,7 +7,7 @@
 mod raw;
 mod replica;
 
-pub use replica::{Applied, Place, Replica};
+pub use replica::{Applied, Parts, Place, Replica};
 use std::fmt;
 
 /// What became of a frame.
@@ -29,12 +29,15 @@ pub enum Error {
     BadCount,
     /// A replica proposes or applies no entry, by a code of include/migwelun.h; the replica is then as it was.
     BadEntry(i32),
+    /// Bytes are no snapshot, by a code of include/migwelun.h and the number of the byte that is wrong.
+    BadSnapshot { code: i32, at: usize },
 }
 
 impl fmt::Display for Error {
     fn fmt(&self, f: &mut fmt::Formatter<'_>) -> fmt::Result {
         f.write_str(match self {
             Error::BadEntry(code) => return write!(f, "the entry is refused with {code}"),
+            Error::BadSnapshot { code, at } => return write!(f, "the snapshot is refused with {code} at byte {at}"),
             Error::NoMemory => "out of memory",
             Error::DuplicateName => "two topics have one name",
             Error::DuplicateId => "two topics have one id",

@@ -5,6 +5,8 @@ use std::ffi::c_void;
 pub const DONE: i32 = 0;
 pub const CLOSES: i32 = 1;
 pub const YES: i32 = 1;
+pub const BAD_SNAPSHOT_FIELD: i32 = 31;
+pub const RESPELLED: i32 = 34;
 pub const NO_MEMORY: i32 = -2;
 pub const SHORT: i32 = -4;
 
@@ -36,6 +38,8 @@ extern "C" {
         previous: *mut i32,
     ) -> i32;
     pub fn migwelun_make_replica(slot: *mut Slot, salt: u64, keys: *const u8) -> i32;
+    pub fn migwelun_restore(slot: *mut Slot, snapshot: *const u8, length: usize, keys: *const u8, at: *mut usize) -> i32;
+    pub fn migwelun_snapshot(slot: *mut Slot, place: u64, from: usize, size: usize, next: *mut usize) -> i32;
     pub fn migwelun_place(slot: *mut Slot, applied: *mut u64, leadership: *mut u32, moment: *mut u64) -> i32;
     pub fn migwelun_lead(slot: *mut Slot) -> i32;
     pub fn migwelun_begin(slot: *mut Slot, clock: u64) -> i32;

@@ -37,6 +37,24 @@ impl Replica {
         Ok(it)
     }
 
+    /// A replica that has come to what a snapshot says, and doesn't lead. The keys are as in [`Replica::new`]. Take snapshots from where you
+    /// put them: a few bytes of somebody else can ask for much memory.
+    pub fn restore(snapshot: &[u8], keys: &[u8; 16]) -> Result<Replica, Error> {
+        let (mut it, mut at) = (Replica { slot: raw::Slot::EMPTY }, 0);
+        let code = unsafe { raw::migwelun_restore(&mut it.slot, snapshot.as_ptr(), snapshot.len(), keys.as_ptr(), &mut at) };
+        match code {
+            raw::BAD_SNAPSHOT_FIELD..=raw::RESPELLED => Err(Error::BadSnapshot { code, at }),
+            code => done(code).map(|()| it),
+        }
+    }
+
+    /// What this replica has come to, as the parts of its one spelling, which stand one behind the other. Each has `size` bytes, or a group's
+    /// more. After an error there is no further one.
+    pub fn snapshot(&mut self, size: usize) -> Parts<'_> {
+        let place = self.place().applied;
+        Parts { replica: self, place, size, next: 0, is_over: false }
+    }
+
     pub fn place(&mut self) -> Place {
         let mut it = Place { applied: 0, leadership: 0, moment: 0 };
         unsafe { raw::migwelun_place(&mut self.slot, &mut it.applied, &mut it.leadership, &mut it.moment) };
@@ -99,6 +117,29 @@ impl Replica {
     fn proposed(&mut self, code: i32) -> Result<Vec<u8>, Error> {
         done(code)?;
         Ok(crate::take(&mut self.slot, raw::migwelun_take_entry))
+    }
+}
+
+/// The parts of a replica's snapshot. The replica applies nothing meanwhile.
+pub struct Parts<'a> {
+    replica: &'a mut Replica,
+    place: u64,
+    size: usize,
+    next: usize,
+    is_over: bool,
+}
+
+impl Iterator for Parts<'_> {
+    type Item = Result<Vec<u8>, Error>;
+
+    fn next(&mut self) -> Option<Self::Item> {
+        if self.is_over {
+            return None;
+        }
+        let code = unsafe { raw::migwelun_snapshot(&mut self.replica.slot, self.place, self.next, self.size, &mut self.next) };
+        let part = self.replica.proposed(code);
+        self.is_over = !matches!(&part, Ok(bytes) if !bytes.is_empty());
+        (part.is_err() || !self.is_over).then_some(part)
     }
 }
 

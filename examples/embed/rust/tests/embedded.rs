@@ -64,3 +64,27 @@ fn a_replica_applies_what_another_proposed() -> Result<(), Error> {
     assert_eq!((follower.place(), follower.propose_tick(0)), (leader.place(), Err(Error::BadEntry(5))));
     Ok(())
 }
+
+#[test]
+fn a_replica_is_restored_of_its_snapshot() -> Result<(), Error> {
+    let mut it = Replica::new(0, &[7; 16])?;
+    let leads = it.lead()?;
+    it.apply(1, &leads)?;
+    it.begin(5_000);
+    for place in 2..4 {
+        let entry = if place == 2 { it.propose_topics(&[T])? } else { it.propose(&JOIN, 7, 1, 5_000)? };
+        it.apply(place, &entry)?;
+    }
+    let whole = it.snapshot(1 << 20).collect::<Result<Vec<_>, _>>()?;
+    let snapshot = it.snapshot(1).collect::<Result<Vec<_>, _>>()?.concat();
+    assert_eq!((whole.len(), &whole[0]), (1, &snapshot));
+    let mut other = Replica::restore(&snapshot, &[9; 16])?;
+    assert_eq!((other.place(), other.snapshot(1).collect::<Result<Vec<_>, _>>()?.concat()), (it.place(), snapshot.clone()));
+    let tick = it.propose_tick(50_000)?;
+    assert_eq!((it.apply(4, &tick), other.apply(4, &tick)), (Ok(Applied::Tick { removed: 1 }), Ok(Applied::Tick { removed: 1 })));
+    let cut = Replica::restore(&snapshot[..snapshot.len() - 1], &[9; 16]).err();
+    assert!(matches!(cut, Some(Error::BadSnapshot { code: 31, .. })), "{cut:?}");
+    let longer = Replica::restore(&[&snapshot[..], &[0]].concat(), &[9; 16]).err();
+    assert_eq!(longer, Some(Error::BadSnapshot { code: 34, at: snapshot.len() }));
+    Ok(())
+}

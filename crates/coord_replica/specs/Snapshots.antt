@@ -1,0 +1,59 @@
+-- A replica's snapshot: the place in the log, and the node (ours).
+use Rattle.std.specs.Prelude.{◌≡◌, ℕ, ◌==◌, ◌<◌, ◌≤◌, ◌-◌, List, [], ◌++◌, length, All, Result, OnErr, IfOk, IfErr, if◌then◌else◌}
+use Rattle.std.specs.List.{flat_map}
+use Rattle.replica_snapshots.specs.declared.fault.SnapshotFault.{SnapshotFault}
+use Rattle.replica_snapshots.specs.declared.fault.SnapshotFault.TheVariants.{NoMemory}
+use Rattle.replica_snapshots.specs.Nodes.{NodeValue, IsOf, SpellsNode, section_fields, FitsSection, sections_of, between}
+use Rattle.replica_snapshots.specs.Places.{PlaceValue, place_fields, FitsPlace}
+use Rattle.replica_snapshots.specs.Views.{listed_node, place_value}
+use Rattle.coord_replica.specs.declared.snapshot.Snapshot.{Snapshot}
+use Rattle.coord_replica.specs.Replicas.{LogState}
+
+-- the place to which a log has come
+abbrev pub place_of : LogState → PlaceValue
+place_of s = record { applied = s.applied; leadership = s.leadership; moment = s.moment }
+
+-- Bytes that spell what a beginning of the log comes to: its place, and a node of its coordinator.
+pub record SpellsLog (s : LogState) (bytes : List ℕ) : Type 0 where
+  pub written : List ℕ
+  pub place : FitsPlace (place_of s)
+  pub spelled : bytes ≡ place_fields (place_of s) ++ written
+  pub node : SpellsNode s.coordinator written
+
+-- ---- written section by section
+
+-- a place, and a node whose groups are listed
+pub record SnapshotValue : Type 0 where
+  pub place : PlaceValue
+  pub node : NodeValue
+
+-- a snapshot as it is kept while it is written
+abbrev pub snapshot_value : Snapshot → SnapshotValue
+snapshot_value s = record { place = place_value s.place; node = listed_node s.sections }
+
+-- It is that of what a beginning of the log comes to.
+pub record IsSnapshotOf (s : LogState) (v : SnapshotValue) : Type 0 where
+  pub place : v.place ≡ place_of s
+  pub node : IsOf s.coordinator v.node
+
+-- what stands in front of a section: the place before the first
+abbrev pub in_front : PlaceValue → ℕ → List ℕ
+in_front place from = if from == 0 then place_fields place else []
+
+-- the sections from one number up to another; the place stands in front of the first
+abbrev pub part : SnapshotValue → ℕ → ℕ → List ℕ
+part v from next = in_front v.place from ++ flat_map section_fields (between from next (sections_of v.node))
+
+-- how many sections there are
+abbrev pub sections_in : SnapshotValue → ℕ
+sections_in v = length (sections_of v.node)
+
+-- A part is appended, up to the next section that is to be written: until there are so many bytes of sections, or none is left; at least
+-- one, where one is left. Or no byte changes. Where all fits, only the want of memory is in the way.
+pub record PutsPart (result : Result ℕ SnapshotFault) (old new : List ℕ) (v : SnapshotValue) (from size : ℕ) : Type 0 where
+  pub put : IfOk result (λ next. new ≡ old ++ part v from next)
+  pub next : IfOk result (λ next. from < sections_in v → (from < next) × (next ≤ sections_in v))
+  pub all : IfOk result (λ next. next < sections_in v → size ≤ length new - length old)
+  pub none : IfOk result (λ next. sections_in v ≤ from → next ≡ from)
+  pub err : OnErr result (new ≡ old)
+  pub fitting : FitsPlace v.place → All FitsSection (sections_of v.node) → IfErr result (λ fault. fault ≡ NoMemory)

@@ -1,0 +1,88 @@
+//! A replica's snapshot, written part by part, and the replica that is restored of one.
+
+ghost use Rattle.std.specs.Prelude.{◌≡◌, ℕ, IfOk};
+ghost use Rattle.coord_replica.specs.Replicas.{LogState, following};
+ghost use Rattle.coord_replica.specs.Snapshots.{IsSnapshotOf, PutsPart, SpellsLog, sections_in, snapshot_value};
+
+use crate::replica::Replica;
+use coord_node::Moment;
+use replica_snapshots::{Place, Sections, SnapshotFault, put_place, read_node, read_place};
+use std::alloc::{AllocError, Global};
+use std::collections::hash_map::RandomState;
+
+/// What is written of a replica, which applies nothing while that is done: its place in the log, and the sections of its node.
+#[derive(Drop)]
+pub struct Snapshot<'a> {
+    pub(crate) place: Place,
+    pub(crate) sections: Sections<'a>,
+}
+
+impl Snapshot<'_> {
+    /// How many sections there are.
+    pub fn count(&self) -> usize
+        ensures { result ≡ sections_in (snapshot_value self.now) }
+    {
+        self.sections.count()
+    }
+
+    /// Appends sections from one number on, until there are `size` bytes of them or none is left: at least one, where one is left. Gives
+    /// the number of the next one. The place stands in front of section 0. All parts, one behind the other, are the snapshot.
+    ///
+    /// Refused, with no byte changed: `TooLong` only where a text has over 32,767 bytes, or where there is more of something than
+    /// a count can say; `NoMemory`.
+    pub fn put(&self, from: usize, size: usize, out: &mut Vec<u8>) -> Result<usize, SnapshotFault>
+        ensures { PutsPart result out.old.items out.new.items (snapshot_value self.now) from size }
+    {
+        let before = out.len();
+        if from == 0 {
+            put_place(out, self.place)?;
+        }
+        let done = self.sections.put(from, size, out);
+        if done.is_err() {
+            out.truncate(before);
+        }
+        done
+    }
+}
+
+impl Replica {
+    /// The snapshot of what was applied. Fails where memory is short.
+    pub fn snapshot(&self) -> Result<Snapshot<'_>, AllocError>
+        ensures { IfOk result (λ snapshot. IsSnapshotOf self.now.log (snapshot_value snapshot)) }
+    {
+        let place = Place {
+            applied: self.applied,
+            leadership: self.leadership,
+            moment: self.moment,
+        };
+        let sections = Sections::of(self.alloc, &self.node)?;
+        Ok(Snapshot { place, sections })
+    }
+
+    /// A replica restored of a snapshot's bytes: it has applied just what the one had that it was written of, and doesn't lead. Whatever the
+    /// bytes are, it is sound, or there is a fault. That a snapshot that was written is refused only for want of memory isn't proved.
+    pub fn restore(
+        alloc: Global,
+        hasher: RandomState,
+        bytes: &[u8],
+    ) -> Result<Replica, SnapshotFault>
+        ensures found { IfOk result (λ replica. SpellsLog replica.log bytes.now × (replica ≡ following replica.log)) }
+        ensures only { (s : LogState) → SpellsLog s bytes.now → IfOk result (λ replica. replica ≡ following s) }
+    {
+        let (place, written) = read_place(alloc, bytes)?;
+        let in_front = bytes.len().saturating_sub(written.len());
+        match read_node(alloc, hasher, written) {
+            Ok((node, [])) => Ok(Replica {
+                alloc,
+                node,
+                applied: place.applied,
+                leadership: place.leadership,
+                moment: place.moment,
+                leading: None,
+                proposed: Moment::of_millis(0),
+            }),
+            Ok((_, rest)) => Err(SnapshotFault::Respelled(bytes.len().saturating_sub(rest.len()))),
+            Err(fault) => Err(fault.behind(in_front)),
+        }
+    }
+}

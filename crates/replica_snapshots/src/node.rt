@@ -1,0 +1,145 @@
+//! A node, written section by section, and read.
+
+ghost use Rattle.std.specs.Prelude.{◌≡◌, ◌++◌, ℕ, List, IfOk, length};
+ghost use Rattle.coord_node.specs.Coordinator.{Coordinator};
+ghost use Rattle.replica_snapshots.specs.Nodes.{IsOf, SpellsNode, sections_of};
+ghost use Rattle.replica_snapshots.specs.Views.{listed_node};
+ghost use Rattle.replica_snapshots.specs.Writing.{PutsSections};
+
+use crate::fault::SnapshotFault;
+use crate::group::{put_group, read_group};
+use crate::head::{put_head, read_head};
+use coord_node::{NamedGroup, Node};
+use std::alloc::{AllocError, Global};
+use std::collections::hash_map::RandomState;
+use topic_meta::Image;
+
+/// The sections of a node, which doesn't change while they are written: number 0 is its head, and each further one a group, in the
+/// order of their making.
+#[derive(Drop)]
+pub struct Sections<'a> {
+    pub(crate) alloc: Global,
+    pub(crate) salt: u64,
+    pub(crate) image: &'a Image,
+    pub(crate) groups: Vec<NamedGroup<'a>>,
+}
+
+impl<'a> Sections<'a> {
+    /// The sections of a node. Fails where memory is short.
+    pub fn of(alloc: Global, node: &'a Node) -> Result<Sections<'a>, AllocError>
+        ensures { IfOk result (λ sections. IsOf node.now (listed_node sections)) }
+    {
+        let groups = node.groups()?;
+        Ok(Sections {
+            alloc,
+            salt: node.salt(),
+            image: node.image(),
+            groups,
+        })
+    }
+
+    /// How many there are.
+    pub fn count(&self) -> usize
+        ensures { result ≡ length (sections_of (listed_node self.now)) }
+    {
+        self.groups.len() + 1
+    }
+
+    /// Appends sections from one number on, until there are `size` bytes of them or none is left: at least one, where one is left. Gives
+    /// the number of the next one. All sections, one behind the other, are the one spelling of the node.
+    ///
+    /// Refused, with no byte changed: `TooLong` only where a text has over 32,767 bytes, or where there is more of something than
+    /// a count can say; `NoMemory`.
+    pub fn put(
+        &self,
+        from: usize,
+        size: usize,
+        out: &mut Vec<u8>,
+    ) -> Result<usize, SnapshotFault>
+        ensures { PutsSections result out.old.items out.new.items (sections_of (listed_node self.now)) from size }
+    {
+        let before = out.len();
+        let done = self.put_up_to(from, size, out);
+        if done.is_err() {
+            out.truncate(before);
+        }
+        done
+    }
+
+    fn put_up_to(
+        &self,
+        from: usize,
+        size: usize,
+        out: &mut Vec<u8>,
+    ) -> Result<usize, SnapshotFault> {
+        let before = out.len();
+        let mut next = from;
+        while next < self.count() && (next == from || out.len() - before < size) {
+            self.put_section(next, out)?;
+            next += 1;
+        }
+        Ok(next)
+    }
+
+    /// Appends one section.
+    fn put_section(&self, number: usize, out: &mut Vec<u8>) -> Result<(), SnapshotFault> {
+        match number.checked_sub(1) {
+            None => put_head(self.alloc, out, self.salt, self.image, self.groups.len()),
+            Some(place) => match self.groups.get(place) {
+                Some(it) => put_group(out, it.name, it.group),
+                None => Ok(()),
+            },
+        }
+    }
+}
+
+/// Reads a node from the front of bytes, and gives the bytes behind it: the one node that they begin with, or a fault. Whatever the bytes
+/// are, the node is sound. That a node that was written is refused only for want of memory isn't proved.
+pub fn read_node(
+    alloc: Global,
+    hasher: RandomState,
+    bytes: &[u8],
+) -> Result<(Node, &[u8]), SnapshotFault>
+    ensures found { IfOk result (λ x. (written : List ℕ) × SpellsNode x.0 written × (bytes.now ≡ written ++ x.1.now)) }
+    ensures only { (c : Coordinator) (written rest : List ℕ) → SpellsNode c written → bytes.now ≡ written ++ rest
+        → IfOk result (λ x. (x.0 ≡ c) × (x.1.now ≡ rest)) }
+{
+    let (head, rest) = read_head(alloc, bytes)?;
+    let mut node = Node::new(alloc, head.salt, hasher);
+    node.set_image(head.image);
+    let rest = read_groups(alloc, hasher, &mut node, head.groups, rest, bytes.len())?;
+    Ok((node, rest))
+}
+
+/// Reads so many groups into a node from the front of bytes, which are the last of `size`, and gives the bytes behind them.
+fn read_groups<'a>(
+    alloc: Global,
+    hasher: RandomState,
+    node: &mut Node,
+    count: u32,
+    bytes: &'a [u8],
+    size: usize,
+) -> Result<&'a [u8], SnapshotFault> {
+    let mut rest = bytes;
+    for _ in 0..count {
+        rest = match add_group(alloc, hasher, node, rest) {
+            Ok(behind) => behind,
+            Err(fault) => return Err(fault.behind(size.saturating_sub(rest.len()))),
+        };
+    }
+    Ok(rest)
+}
+
+/// Reads one group into a node.
+fn add_group<'a>(
+    alloc: Global,
+    hasher: RandomState,
+    node: &mut Node,
+    bytes: &'a [u8],
+) -> Result<&'a [u8], SnapshotFault> {
+    let (read, rest) = read_group(alloc, hasher, bytes)?;
+    if !node.restore_group(read.name, read.group)? {
+        return Err(SnapshotFault::Unsound(bytes.len().saturating_sub(rest.len())));
+    }
+    Ok(rest)
+}
