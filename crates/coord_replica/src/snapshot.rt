@@ -1,8 +1,11 @@
 //! A replica's snapshot, written part by part, and the replica that is restored of one.
 
 ghost use Rattle.std.specs.Prelude.{◌≡◌, ℕ, IfOk};
+ghost use Rattle.replica_snapshots.specs.Places.{FitsPlace};
+ghost use Rattle.replica_snapshots.specs.Views.{place_value};
+ghost use Rattle.replica_snapshots.specs.Writing.{Puts};
 ghost use Rattle.coord_replica.specs.Replicas.{LogState, following};
-ghost use Rattle.coord_replica.specs.Snapshots.{IsSnapshotOf, PutsPart, SpellsLog, sections_in, snapshot_value};
+ghost use Rattle.coord_replica.specs.Snapshots.{IsSnapshotOf, PutsPart, SpellsLog, in_front, sections_in, snapshot_value};
 
 use crate::replica::Replica;
 use coord_node::Moment;
@@ -34,14 +37,25 @@ impl Snapshot<'_> {
         ensures { PutsPart result out.old.items out.new.items (snapshot_value self.now) from size }
     {
         let before = out.len();
+        self.put_front(from, out)?;
+        match self.sections.put(from, size, out) {
+            Ok(next) => Ok(next),
+            Err(fault) => {
+                out.truncate(before);
+                Err(fault)
+            }
+        }
+    }
+
+    /// Appends what stands in front of a section: the place before the first.
+    fn put_front(&self, from: usize, out: &mut Vec<u8>) -> Result<(), SnapshotFault>
+        ensures { let place = place_value self.now.place in
+            Puts result out.old.items out.new.items (from ≡ 0 → FitsPlace place) (in_front place from) }
+    {
         if from == 0 {
-            put_place(out, self.place)?;
+            return put_place(out, self.place);
         }
-        let done = self.sections.put(from, size, out);
-        if done.is_err() {
-            out.truncate(before);
-        }
-        done
+        Ok(())
     }
 }
 
