@@ -33,7 +33,7 @@ one_state s t bytes one other =
 all_between : (sections : List Section) → between 0 (length sections) sections ≡ sections
 all_between sections =
     let all : length sections ≤ length sections - 0 = omega arith in
-    take_all sections (length sections - 0) all
+    take_all (length sections - 0) sections all
 
 pub sections_make : SectionsMakeASnapshot
 sections_make s v is fits all =

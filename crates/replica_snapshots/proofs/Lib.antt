@@ -1,6 +1,7 @@
 pub mod Begins
 pub mod FieldLaws
 pub mod GroupLaws
+pub mod Listed
 pub mod NodeLaws
 pub mod PlaceLaws
 pub mod Puts

@@ -1,6 +1,6 @@
 -- A node that is read is that of its bytes, and of no others.
-use Rattle.std.proofs.Common.{◌≡◌, ℕ, ◌+◌, List, [], ◌∷◌, ◌++◌, length, length-append, map, Option, Some, None, is_some, cond, Result, Ok, Err, All, refl, sym, ap, subst, ◌∙◌, append_assoc, append-nil, arith}
-use Rattle.std.specs.Prelude.{IfOk}
+use Rattle.std.proofs.Common.{◌≡◌, ℕ, ◌+◌, Bool, true, List, [], ◌∷◌, ◌++◌, length, length-append, map, Option, Some, None, is_some, cond, Result, Ok, Err, All, refl, sym, ap, subst, ◌∙◌, append_assoc, append-nil, arith}
+use Rattle.std.specs.Prelude.{◌↔◌, IfOk, IsTrue}
 use Rattle.std.specs.FinMap as finite
 use Rattle.std.specs.FinMap.{find}
 use Rattle.std.specs.List.{flat_map}
@@ -12,7 +12,7 @@ use Rattle.group_types.specs.Topics.{Topics}
 use Rattle.group_types.specs.Group.{Group}
 use Rattle.group_types.proofs.Orders.{text_cmp_total, text_cmp-IsAntisymmetric}
 use Rattle.coord_node.specs.Coordinator.{Coordinator, Groups, opening}
-use Rattle.coord_node.specs.Restored.{CanBeKept}
+use Rattle.coord_node.specs.Restored.{CanBeKept, with_group_if}
 use Rattle.coord_node.specs.Steps.{with_group}
 use Rattle.replica_snapshots.specs.Groups.{Named, named_fields, FitsNamed}
 use Rattle.replica_snapshots.specs.Laws.{OneCoordinatorARun}
@@ -42,6 +42,19 @@ AddsEach-push : (c : Coordinator) (groups : List Named) (g : Named) (middle new 
 AddsEach-push c [] g middle new added can is =
     (subst (λ (d : Coordinator). CanBeKept d.groups g.0) added can, is ∙ ap (λ (d : Coordinator). with_group d g.0 g.1.0) added)
 AddsEach-push c (x ∷ groups) g middle new added can is = (added.0, AddsEach-push (with_group c x.0 x.1.0) groups g middle new added.1 can is)
+
+-- a group that was read was added
+pub group_read : (bytes rest : List ℕ) (old new : Coordinator) (g : Named) (is_kept : Bool) → is_kept ≡ true
+    → FitsNamed g × (bytes ≡ named_fields g ++ rest) → IsTrue is_kept ↔ CanBeKept old.groups g.0 → new ≡ with_group_if is_kept old g.0 g.1.0
+    → ReadsGroup bytes rest old new
+group_read bytes rest old new g is_kept is found can kept =
+    record {
+      group = g;
+      fits = found.0;
+      spelled = found.1;
+      can = can.0 is;
+      added = kept ∙ ap (λ b. with_group_if b old g.0 g.1.0) is;
+    }
 
 pub none_read : (bytes : List ℕ) (c : Coordinator) → ReadsGroups 0 bytes bytes c c
 none_read bytes c = record { read = []; all = refl; fits = All-from_recursion FitsNamed [] tt; spelled = refl; added = refl }
