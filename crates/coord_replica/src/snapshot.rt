@@ -1,11 +1,12 @@
 //! A replica's snapshot, written part by part, and the replica that is restored of one.
 
 ghost use Rattle.std.specs.Prelude.{◌≡◌, ℕ, IfOk};
+ghost use Rattle.replica_snapshots.specs.Nodes.{SpellsNode};
 ghost use Rattle.replica_snapshots.specs.Places.{FitsPlace};
 ghost use Rattle.replica_snapshots.specs.Views.{place_value};
 ghost use Rattle.replica_snapshots.specs.Writing.{Puts};
 ghost use Rattle.coord_replica.specs.Replicas.{LogState, following};
-ghost use Rattle.coord_replica.specs.Snapshots.{IsSnapshotOf, PutsPart, SpellsLog, in_front, sections_in, snapshot_value};
+ghost use Rattle.coord_replica.specs.Snapshots.{IsSnapshotOf, PutsPart, SpellsLog, in_front, place_of, sections_in, snapshot_value};
 
 use crate::replica::Replica;
 use coord_node::Moment;
@@ -84,19 +85,37 @@ impl Replica {
         ensures only { (s : LogState) → SpellsLog s bytes.now → IfOk result (λ replica. replica ≡ following s) }
     {
         let (place, written) = read_place(alloc, bytes)?;
-        let in_front = bytes.len().saturating_sub(written.len());
-        match read_node(alloc, hasher, written) {
-            Ok((node, [])) => Ok(Replica {
-                alloc,
-                node,
-                applied: place.applied,
-                leadership: place.leadership,
-                moment: place.moment,
-                leading: None,
-                proposed: Moment::of_millis(0),
-            }),
-            Ok((_, rest)) => Err(SnapshotFault::Respelled(bytes.len().saturating_sub(rest.len()))),
-            Err(fault) => Err(fault.behind(in_front)),
+        match Replica::at_place(alloc, hasher, place, written) {
+            Ok(replica) => Ok(replica),
+            Err(fault) => Err(fault.behind(bytes.len().saturating_sub(written.len()))),
         }
+    }
+
+    /// The replica at a place of the log, of the bytes behind the place: its node, and no more.
+    fn at_place(
+        alloc: Global,
+        hasher: RandomState,
+        place: Place,
+        written: &[u8],
+    ) -> Result<Replica, SnapshotFault>
+        requires { FitsPlace (place_value place) }
+        ensures { IfOk result (λ replica. (place_of replica.log ≡ place_value place)
+            × SpellsNode replica.log.coordinator written.now × (replica ≡ following replica.log)) }
+    {
+        let (node, rest) = read_node(alloc, hasher, written)?;
+        if !rest.is_empty() {
+            return Err(SnapshotFault::Respelled(
+                written.len().saturating_sub(rest.len()),
+            ));
+        }
+        Ok(Replica {
+            alloc,
+            node,
+            applied: place.applied,
+            leadership: place.leadership,
+            moment: place.moment,
+            leading: None,
+            proposed: Moment::of_millis(0),
+        })
     }
 }

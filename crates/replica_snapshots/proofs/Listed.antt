@@ -1,8 +1,8 @@
 -- A node whose groups are listed, and its sections by their numbers.
-use Rattle.std.proofs.Common.{◌≡◌, ℕ, zero, suc, ◌+◌, ◌<◌, List, [], ◌∷◌, length, map, Option, Some, None, option_map, refl, sym, ap, subst, ◌∙◌, arith}
+use Rattle.std.proofs.Common.{◌≡◌, ℕ, zero, suc, ◌+◌, ◌<◌, List, [], ◌∷◌, length, map, take, Option, Some, None, option_map, Result, Ok, Err, refl, sym, ap, subst, ◌∙◌, arith}
 use Rattle.std.specs.Prelude.{IfSome, slice_get}
 use Rattle.std.specs.FinMap as finite
-use Rattle.std.proofs.lemmas.List.{length-map}
+use Rattle.std.proofs.lemmas.List.{length-map, take_all}
 use Rattle.std.proofs.lemmas.Option.{slice_get-map}
 use Rattle.group_types.specs.Text.{Text}
 use Rattle.group_types.specs.Topics.{Topics}
@@ -10,10 +10,12 @@ use Rattle.group_types.specs.Group.{Group}
 use Rattle.coord_node.specs.declared.restored.NamedGroup.{NamedGroup}
 use Rattle.coord_node.specs.Coordinator.{Coordinator, Groups}
 use Rattle.coord_node.specs.Restored.{named_group}
+use Rattle.replica_snapshots.specs.declared.fault.SnapshotFault.{SnapshotFault}
 use Rattle.replica_snapshots.specs.declared.node.Sections.{Sections}
 use Rattle.replica_snapshots.specs.Groups.{Named}
 use Rattle.replica_snapshots.specs.Nodes.{NodeValue, head_with, state_of, IsOf, Section, Head, OneGroup, sections_of}
 use Rattle.replica_snapshots.specs.Views.{listed_named, listed_node}
+use Rattle.replica_snapshots.specs.Writing.{Puts, PutsUpTo}
 
 states_listed : (list : List NamedGroup) → map state_of (map listed_named list) ≡ map named_group list
 states_listed [] = refl
@@ -69,3 +71,13 @@ pub some_there : {X : Type 0} (xs : List X) (i : ℕ) → i < length xs → (x :
 some_there [] i within = absurd (omega arith)
 some_there (x ∷ xs) zero within = (x, refl)
 some_there (x ∷ xs) (suc i) within = some_there xs i (omega arith)
+
+-- a put that changes no byte where it fails
+pub up_to : {F : Type 0} {s old new : List ℕ} (r : Result (Unit {0}) SnapshotFault) → Puts r old new F s → PutsUpTo r old new F s
+up_to (Ok u) put = record { ok = put.items; fits = put.fits; err = tt; fitting = put.fitting }
+up_to {F} {s} {old} {new} (Err e) put = record {
+  ok = tt;
+  fits = tt;
+  err = ap (take (length old)) put.items ∙ take_all (length old) old (omega arith);
+  fitting = put.fitting;
+}

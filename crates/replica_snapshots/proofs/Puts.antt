@@ -4,16 +4,16 @@ use Rattle.std.specs.List.{flat_map, slice_get, AllByRecursion}
 use Rattle.std.proofs.Math.Seq.{drop-cons}
 use Rattle.std.proofs.lemmas.Bool.{cases_lt}
 use Rattle.std.proofs.lemmas.Option.{slice_get_within, get_or_from_slice_get, slice_get-get_or}
-use Rattle.std.proofs.lemmas.List.{take-take, take_all, take_at, append-nil, drop_all}
+use Rattle.std.proofs.lemmas.List.{take-take, take_at, append-nil, drop_all}
 use Rattle.std.proofs.lemmas.List.Concat.{flat_map-cons}
 use Rattle.std.proofs.lemmas.List.Elements.{All-from_recursion, recursion_from_All}
 use Rattle.flex_wire.specs.Spelling.{array_count, FitsCount}
 use Rattle.flex_wire.specs.Composed.{array, FitsArray}
 use Rattle.replica_snapshots.specs.declared.fault.SnapshotFault.{SnapshotFault}
-use Rattle.replica_snapshots.specs.Writing.{Puts, PutsUpTo}
+use Rattle.replica_snapshots.specs.Writing.{PutsUpTo}
 
 -- the old bytes are still the first ones where those in between are
-pub front_kept : (old bytes mid new : List ℕ) → mid ≡ old ++ bytes → take (length mid) new ≡ mid → take (length old) new ≡ old
+front_kept : (old bytes mid new : List ℕ) → mid ≡ old ++ bytes → take (length mid) new ≡ mid → take (length old) new ≡ old
 front_kept old bytes mid new parts kept =
     let longer : length old ≤ length mid = omega (arith, ap length parts, length-append old bytes) in
     sym (take-take (length old) (length mid) new longer) ∙ (ap (take (length old)) (kept ∙ parts) ∙ take_at old bytes (length old) refl)
@@ -47,16 +47,6 @@ refitted (Err e) put there back = record { ok = tt; fits = tt; err = put.err; fi
 -- a put behind which nothing comes
 pub last : {F : Type 0} {s old new : List ℕ} (r : Result (Unit {0}) SnapshotFault) → PutsUpTo r old new F s → PutsUpTo r old new F (s ++ [])
 last {F} {s} {old} {new} r put = subst (PutsUpTo r old new F) (sym (append-nil s)) put
-
--- a put that changes no byte where it fails
-pub up_to : {F : Type 0} {s old new : List ℕ} (r : Result (Unit {0}) SnapshotFault) → Puts r old new F s → PutsUpTo r old new F s
-up_to (Ok u) put = record { ok = put.items; fits = put.fits; err = tt; fitting = put.fitting }
-up_to {F} {s} {old} {new} (Err e) put = record {
-  ok = tt;
-  fits = tt;
-  err = ap (take (length old)) put.items ∙ take_all (length old) old (omega arith);
-  fitting = put.fitting;
-}
 
 -- ---- elements one behind the other
 

@@ -11,7 +11,7 @@ use Rattle.replica_snapshots.specs.Laws.{SectionsMakeTheNode}
 use Rattle.replica_snapshots.specs.Nodes.{head_fields, head_of, Section, OneGroup, section_fields, FitsSection, sections_of, between}
 use Rattle.replica_snapshots.specs.declared.fault.SnapshotFault.{SnapshotFault}
 use Rattle.replica_snapshots.specs.Writing.{PutsSections, PutsUpTo}
-use Rattle.replica_snapshots.proofs.Puts.{front_kept}
+use Rattle.replica_snapshots.proofs.Puts.{both}
 
 -- ---- all of them
 
@@ -119,12 +119,16 @@ fits_at (s ∷ sections) (suc n) x at fits = fits_at sections n x at fits.1
 pub stopped_put : {old now new : List ℕ} {e : SnapshotFault} (sections : List Section) (from size next : ℕ) (x : Section) → slice_get sections next ≡ Some x
     → ArePut old now sections from next → PutsUpTo (Err e) now new (FitsSection x) (section_fields x)
     → PutsSections (Err e) old (take (length old) new) sections from size
-stopped_put {old} {now} {new} {e} sections from size next x at before one = record {
-  put = tt;
-  fits = tt;
-  next = tt;
-  all = tt;
-  none = tt;
-  err = front_kept old (flat_map section_fields (between from next sections)) now new before.put one.err;
-  fitting = λ all. one.fitting (fits_at sections next x at (recursion_from_All FitsSection sections all));
-}
+stopped_put {old} {now} {new} {e} sections from size next x at before one =
+    let done = between from next sections in
+    let former : PutsUpTo (Ok tt) old now (All FitsSection done) (flat_map section_fields done) =
+    record { ok = before.put; fits = before.fits; err = tt; fitting = λ all. tt } in
+    record {
+      put = tt;
+      fits = tt;
+      next = tt;
+      all = tt;
+      none = tt;
+      err = (both (Err e) former one).err;
+      fitting = λ all. one.fitting (fits_at sections next x at (recursion_from_All FitsSection sections all));
+    }

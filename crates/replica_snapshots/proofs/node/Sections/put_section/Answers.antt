@@ -5,8 +5,7 @@ use Rattle.coord_node.specs.declared.restored.NamedGroup.{NamedGroup}
 use Rattle.replica_snapshots.specs.Nodes.{FitsSection, OneGroup, Section, section_fields, sections_of}
 use Rattle.replica_snapshots.specs.Views.{listed_named, listed_node}
 use Rattle.replica_snapshots.specs.Writing.{PutsUpTo}
-use Rattle.replica_snapshots.proofs.Listed.{group_behind, known_none, known_some, none_behind}
-use Rattle.replica_snapshots.proofs.Puts.{up_to}
+use Rattle.replica_snapshots.proofs.Listed.{group_behind, known_none, known_some, none_behind, up_to}
 use Rattle.replica_snapshots.proofs.node.Sections.put_section.Goals as goal
 
 pub returns-in-Some-get : goal.returns-in-Some-get
