@@ -1,6 +1,6 @@
 -- After every history each replica has what a beginning of the log comes to, and each answer is the log's.
-use Rattle.std.proofs.Common.{◌≡◌, ℕ, zero, suc, ◌+◌, ◌<◌, ◌⊎◌, inl, inr, Bool, true, false, cond, List, [], ◌∷◌, ◌++◌, length, length-append, Option, Some, None, refl, sym, ap, subst, ◌∙◌, append_assoc, append-nil, arith}
-use Rattle.std.specs.Prelude.{◌==◌, Contains, slice_get, slice_index_or}
+use Rattle.std.proofs.Common.{◌≡◌, ℕ, zero, suc, ◌+◌, ◌<◌, ◌⊎◌, inl, inr, true, false, cond, List, [], ◌∷◌, ◌++◌, length, length-append, Option, Some, None, refl, sym, ap, subst, ◌∙◌, append_assoc, arith}
+use Rattle.std.specs.Prelude.{◌==◌, Contains, slice_get}
 use Rattle.coord_node.specs.Coordinator.{Answer}
 use Rattle.coord_node.specs.Laws.{OneAnswer}
 use Rattle.replica_entries.specs.Values.{ContentValue, EntryValue, frame, tick, image, leads}
@@ -8,7 +8,7 @@ use Rattle.coord_replica.specs.Applying.{Applies, LogRun, moved_to}
 use Rattle.coord_replica.specs.Proposing.{begun}
 use Rattle.coord_replica.specs.Histories.{Act, Lead, Begin, Propose, Append, Apply, Lose, Save, Restore, ActStep, Cluster, FollowsLog, Given, History, IsAnswerAt, cluster_opening, with_answer, with_replica}
 use Rattle.coord_replica.specs.Replicas.{LogState, ReplicaState, following, log_opening, replica_opening}
-use Rattle.coord_replica.proofs.Runs.{LogRun-push, applied_of}
+use Rattle.coord_replica.proofs.Runs.{LogRun-push}
 use Rattle.coord_replica.proofs.Same.{same_applies, same_run}
 
 -- ---- a log that grew

@@ -7,5 +7,4 @@ pub mod Falls
 pub mod Taken
 pub mod Histories
 pub mod SnapshotLaws
-pub mod Parts
 pub mod Restored

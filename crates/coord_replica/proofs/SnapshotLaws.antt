@@ -1,19 +1,18 @@
 -- A snapshot's bytes, and its parts.
-use Rattle.std.proofs.Common.{◌≡◌, ℕ, ◌+◌, ◌-◌, ◌<◌, ◌≤◌, false, List, [], ◌++◌, length, take, drop, All, eqb, refl, sym, ap, subst, ◌∙◌, inl, inr, append_assoc, arith}
-use Rattle.std.specs.Prelude.{◌==◌, if◌then◌else◌}
+use Rattle.std.proofs.Common.{◌≡◌, ℕ, ◌+◌, ◌-◌, ◌<◌, ◌≤◌, List, [], ◌++◌, length, take, drop, refl, sym, ap, subst, ◌∙◌, inl, inr, append_assoc, arith}
+use Rattle.std.specs.Prelude.{if◌then◌else◌}
 use Rattle.std.specs.List.{flat_map}
 use Rattle.std.proofs.Math.Seq.{take-add}
 use Rattle.std.proofs.lemmas.Bool.Decides.{eqb_tells}
 use Rattle.std.proofs.lemmas.List.{drop-drop, take_all}
 use Rattle.std.proofs.lemmas.List.Concat.{flat_map-append}
-use Rattle.replica_snapshots.specs.Nodes.{Section, node_fields, section_fields, FitsSection, sections_of, between}
+use Rattle.replica_snapshots.specs.Nodes.{Section, node_fields, section_fields, sections_of, between}
 use Rattle.replica_snapshots.specs.Places.{PlaceValue, place_fields, FitsPlace}
 use Rattle.replica_snapshots.proofs.NodeLaws.{one_coordinator}
 use Rattle.replica_snapshots.proofs.PlaceLaws.{place_begins}
 use Rattle.replica_snapshots.proofs.SectionLaws.{sections_make_the_node}
 use Rattle.coord_replica.specs.Laws.{OneStateASnapshot, PartsFollow, SectionsMakeASnapshot}
-use Rattle.coord_replica.specs.Replicas.{LogState}
-use Rattle.coord_replica.specs.Snapshots.{SnapshotValue, in_front, part, place_of, sections_in}
+use Rattle.coord_replica.specs.Snapshots.{in_front, part, place_of}
 
 -- ---- one state
 

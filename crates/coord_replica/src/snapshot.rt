@@ -84,10 +84,12 @@ impl Replica {
         ensures found { IfOk result (λ replica. SpellsLog replica.log bytes.now × (replica ≡ following replica.log)) }
         ensures only { (s : LogState) → SpellsLog s bytes.now → IfOk result (λ replica. replica ≡ following s) }
     {
-        let (place, written) = read_place(alloc, bytes)?;
-        match Replica::at_place(alloc, hasher, place, written) {
-            Ok(replica) => Ok(replica),
-            Err(fault) => Err(fault.behind(bytes.len().saturating_sub(written.len()))),
+        match read_place(alloc, bytes) {
+            Ok((place, written)) => match Replica::at_place(alloc, hasher, place, written) {
+                Ok(replica) => Ok(replica),
+                Err(fault) => Err(fault.behind(bytes.len().saturating_sub(written.len()))),
+            },
+            Err(fault) => Err(fault),
         }
     }
 

@@ -8,12 +8,11 @@ use Rattle.group_types.specs.Text.{Text}
 use Rattle.group_types.specs.Topics.{Topics}
 use Rattle.group_types.specs.Group.{Group}
 use Rattle.coord_node.specs.declared.restored.NamedGroup.{NamedGroup}
-use Rattle.coord_node.specs.Coordinator.{Coordinator, Groups}
+use Rattle.coord_node.specs.Coordinator.{Coordinator}
 use Rattle.coord_node.specs.Restored.{named_group}
 use Rattle.replica_snapshots.specs.declared.fault.SnapshotFault.{SnapshotFault}
 use Rattle.replica_snapshots.specs.declared.node.Sections.{Sections}
-use Rattle.replica_snapshots.specs.Groups.{Named}
-use Rattle.replica_snapshots.specs.Nodes.{NodeValue, head_with, state_of, IsOf, Section, Head, OneGroup, sections_of}
+use Rattle.replica_snapshots.specs.Nodes.{head_with, state_of, IsOf, Head, OneGroup, sections_of}
 use Rattle.replica_snapshots.specs.Views.{listed_named, listed_node}
 use Rattle.replica_snapshots.specs.Writing.{Puts, PutsUpTo}
 
@@ -40,14 +39,14 @@ module _ (s : Sections) where
       → slice_get (sections_of (listed_node s)) number ≡ Some (Head (head_with s.salt s.image.now (length s.groups.items)))
   head_first number first =
       ap (slice_get (sections_of (listed_node s))) first
-          ∙ ap (λ n. Some (Head (head_with s.salt s.image.now n))) (length-map s.groups.items listed_named)
+      ∙ ap (λ n. Some (Head (head_with s.salt s.image.now n))) (length-map s.groups.items listed_named)
 
   at_group : (number place : ℕ) → number ≡ place + 1
       → slice_get (sections_of (listed_node s)) number ≡ option_map OneGroup (option_map listed_named (slice_get s.groups.items place))
   at_group number place behind =
       let next : number ≡ suc place = omega arith in
       ap (slice_get (sections_of (listed_node s))) next
-          ∙ (slice_get-map OneGroup (map listed_named s.groups.items) place ∙ ap (option_map OneGroup) (slice_get-map listed_named s.groups.items place))
+      ∙ (slice_get-map OneGroup (map listed_named s.groups.items) place ∙ ap (option_map OneGroup) (slice_get-map listed_named s.groups.items place))
 
   pub group_behind : (number place : ℕ) (g : NamedGroup) → number ≡ place + 1 → slice_get s.groups.items place ≡ Some g
       → slice_get (sections_of (listed_node s)) number ≡ Some (OneGroup (listed_named g))

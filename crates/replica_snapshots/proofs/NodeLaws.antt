@@ -1,5 +1,5 @@
 -- A node that is read is that of its bytes, and of no others.
-use Rattle.std.proofs.Common.{◌≡◌, ℕ, ◌+◌, Bool, true, List, [], ◌∷◌, ◌++◌, length, length-append, map, Option, Some, None, is_some, cond, Result, Ok, Err, All, refl, sym, ap, subst, ◌∙◌, append_assoc, append-nil, arith}
+use Rattle.std.proofs.Common.{◌≡◌, ℕ, ◌+◌, Bool, true, List, [], ◌∷◌, ◌++◌, length, length-append, map, Option, None, is_some, cond, Result, Ok, Err, refl, sym, ap, subst, ◌∙◌, append_assoc, append-nil, arith}
 use Rattle.std.specs.Prelude.{◌↔◌, IfOk, IsTrue}
 use Rattle.std.specs.FinMap as finite
 use Rattle.std.specs.FinMap.{find}
@@ -128,8 +128,7 @@ pub node_read : (h : HeadValue) (bytes middle rest : List ℕ) (new : Coordinato
 node_read h bytes middle rest new fits is groups =
     let n : NodeValue = record { salt = h.salt; image = h.image; groups = groups.read } in
     let head : head_of n ≡ h = λ i. record { salt = h.salt; image = h.image; groups = groups.all i } in
-    let behind = flat_map named_fields groups.read in
-    (
+    let behind = flat_map named_fields groups.read in (
       node_fields n,
       record {
         node = n;

@@ -48,7 +48,7 @@ between_more sections from next x behind at =
     let here : get_or (drop from sections) (next - from) x ≡ x =
     get_or-drop from sections (next - from) x ∙ (ap (λ n. get_or sections n x) back ∙ get_or_from_slice_get sections next x x at) in
     ap (λ n. take n (drop from sections)) one_more
-        ∙ (take_more (drop from sections) (next - from) x left ∙ ap (λ y. between from next sections ++ y ∷ []) here)
+    ∙ (take_more (drop from sections) (next - from) x left ∙ ap (λ y. between from next sections ++ y ∷ []) here)
 
 -- the sections from one number up to the next are put behind the old bytes
 pub record ArePut (old now : List ℕ) (sections : List Section) (from next : ℕ) : Type 0 where

@@ -51,12 +51,7 @@ impl<'a> Sections<'a> {
     ///
     /// Refused, with no byte changed: `TooLong` only where a text has over 32,767 bytes, or where there is more of something than
     /// a count can say; `NoMemory`.
-    pub fn put(
-        &self,
-        from: usize,
-        size: usize,
-        out: &mut Vec<u8>,
-    ) -> Result<usize, SnapshotFault>
+    pub fn put(&self, from: usize, size: usize, out: &mut Vec<u8>) -> Result<usize, SnapshotFault>
         ensures { PutsSections result out.old.items out.new.items (sections_of (listed_node self.now)) from size }
     {
         let before = out.len();
