@@ -6,6 +6,10 @@ use Rattle.replica_snapshots.specs.Places.{PlaceValue, place_fields, FitsPlace}
 use Rattle.coord_replica.specs.Replicas.{LogState}
 use Rattle.coord_replica.specs.Snapshots.{SpellsLog, place_of}
 
+-- what a place and a coordinator are
+abbrev pub log_at : PlaceValue → Coordinator → LogState
+log_at p c = record { coordinator = c; applied = p.applied; leadership = p.leadership; moment = p.moment }
+
 -- a node's bytes, with nothing left
 pub spells_all : (c : Coordinator) (written rest : List ℕ) → (node : List ℕ) × SpellsNode c node × (written ≡ node ++ rest) → rest ≡ [] → SpellsNode c written
 spells_all c written rest node none =

@@ -56,7 +56,7 @@ between_follow sections from middle next less most =
     let behind : drop (middle - from) (drop from sections) ≡ drop middle sections =
     drop-drop (middle - from) from sections ∙ ap (λ n. drop n sections) there in
     ap (λ (l : List Section). between from middle sections ++ take (next - middle) l) (sym behind)
-        ∙ (sym (take-add (middle - from) (next - middle) (drop from sections)) ∙ ap (λ n. take n (drop from sections)) sizes)
+    ∙ (sym (take-add (middle - from) (next - middle) (drop from sections)) ∙ ap (λ n. take n (drop from sections)) sizes)
 
 -- nothing stands in front of a section but the first
 none_in_front : (place : PlaceValue) (from : ℕ) → 0 < from → in_front place from ≡ []
@@ -74,6 +74,6 @@ parts_follow v from middle next less most within =
     let other = flat_map section_fields (between middle next sections) in
     let above : 0 < middle = omega arith in
     ap (λ (l : List ℕ). (front ++ one) ++ (l ++ other)) (none_in_front v.place middle above)
-        ∙ (append_assoc front one other
-        ∙ ap (λ (l : List ℕ). front ++ l) (sym (flat_map-append section_fields (between from middle sections) (between middle next sections))
-        ∙ ap (flat_map section_fields) (between_follow sections from middle next less most)))
+    ∙ (append_assoc front one other
+    ∙ ap (λ (l : List ℕ). front ++ l) (sym (flat_map-append section_fields (between from middle sections) (between middle next sections))
+    ∙ ap (flat_map section_fields) (between_follow sections from middle next less most)))

@@ -106,9 +106,7 @@ impl Replica {
     {
         let (node, rest) = read_node(alloc, hasher, written)?;
         if !rest.is_empty() {
-            return Err(SnapshotFault::Respelled(
-                written.len().saturating_sub(rest.len()),
-            ));
+            return Err(SnapshotFault::Respelled(written.len().saturating_sub(rest.len())));
         }
         Ok(Replica {
             alloc,
