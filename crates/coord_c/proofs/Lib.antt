@@ -1,1 +1,2 @@
 mod Pointers
+mod Parts

@@ -1,14 +1,14 @@
 -- After every history each replica has what a beginning of the log comes to, and each answer is the log's.
-use Rattle.std.proofs.Common.{◌≡◌, ℕ, zero, suc, ◌+◌, ◌<◌, ◌⊎◌, inl, inr, Bool, true, false, cond, List, [], ◌∷◌, ◌++◌, length, length-append, Option, Some, None, refl, sym, ap, subst, ◌∙◌, append_assoc, append-nil, arith}
-use Rattle.std.specs.Prelude.{◌==◌, Contains, slice_get, slice_index_or}
+use Rattle.std.proofs.Common.{◌≡◌, ℕ, zero, suc, ◌+◌, ◌<◌, ◌⊎◌, inl, inr, true, false, cond, List, [], ◌∷◌, ◌++◌, length, length-append, Option, Some, None, refl, sym, ap, subst, ◌∙◌, append_assoc, arith}
+use Rattle.std.specs.Prelude.{◌==◌, Contains, slice_get}
 use Rattle.coord_node.specs.Coordinator.{Answer}
 use Rattle.coord_node.specs.Laws.{OneAnswer}
 use Rattle.replica_entries.specs.Values.{ContentValue, EntryValue, frame, tick, image, leads}
 use Rattle.coord_replica.specs.Applying.{Applies, LogRun, moved_to}
 use Rattle.coord_replica.specs.Proposing.{begun}
-use Rattle.coord_replica.specs.Histories.{Act, Lead, Begin, Propose, Append, Apply, Lose, ActStep, Cluster, FollowsLog, Given, History, IsAnswerAt, cluster_opening, with_answer, with_replica}
-use Rattle.coord_replica.specs.Replicas.{LogState, ReplicaState, log_opening, replica_opening}
-use Rattle.coord_replica.proofs.Runs.{LogRun-push, applied_of}
+use Rattle.coord_replica.specs.Histories.{Act, Lead, Begin, Propose, Append, Apply, Lose, Save, Restore, ActStep, Cluster, FollowsLog, Given, History, IsAnswerAt, cluster_opening, with_answer, with_replica}
+use Rattle.coord_replica.specs.Replicas.{LogState, ReplicaState, following, log_opening, replica_opening}
+use Rattle.coord_replica.proofs.Runs.{LogRun-push}
 use Rattle.coord_replica.proofs.Same.{same_applies, same_run}
 
 -- ---- a log that grew
@@ -95,6 +95,7 @@ IsAnswerAt-next start s t log e answer it is step =
 record Holds (salt : ℕ) (c : Cluster) : Type 0 where
   same_salt : c.salt ≡ salt
   replicas : (number : ℕ) → FollowsLog (log_opening salt) c.log (c.replicas number).log
+  snapshots : (s : LogState) → Contains c.snapshots s → FollowsLog (log_opening salt) c.log s
   answers : (given : Given) → Contains c.given given → IsAnswerAt (log_opening salt) c.log given.place given.answer
 
 log-moved_to : (r : ReplicaState) (content : ContentValue) (log : LogState) → (moved_to r content log).log ≡ log
@@ -119,11 +120,12 @@ Holds-with_replica salt c number r holds it =
     record {
       same_salt = holds.same_salt;
       replicas = one_other (log_opening salt) c.log c.replicas number r holds.replicas it;
+      snapshots = holds.snapshots;
       answers = holds.answers;
     }
 
 -- the first, or one of the others
-Contains-case : (x : Given) (xs : List Given) (y : Given) → Contains (x ∷ xs) y → (x ≡ y) ⊎ Contains xs y
+Contains-case : {X : Type 0} (x : X) (xs : List X) (y : X) → Contains (x ∷ xs) y → (x ≡ y) ⊎ Contains xs y
 Contains-case x xs y (zero, within, is) = inl is
 Contains-case x xs y (suc k, within, is) = let further : k < length xs = omega arith in inr (k, further, is)
 
@@ -134,6 +136,7 @@ Holds-with_answer salt c number place (Some answer) holds it =
     record {
       same_salt = holds.same_salt;
       replicas = holds.replicas;
+      snapshots = holds.snapshots;
       answers = λ given in'. elim (Contains-case (record { replica = number; place = place; answer = answer }) c.given given in') [
         | inl is ↦ subst (λ (g : Given). IsAnswerAt (log_opening salt) c.log g.place g.answer) is (it answer refl)
         | inr others ↦ holds.answers given others
@@ -142,19 +145,20 @@ Holds-with_answer salt c number place (Some answer) holds it =
 
 Holds-act : (salt : ℕ) (c new : Cluster) (act : Act) → Holds salt c → ActStep c act new → Holds salt new
 Holds-act salt c new (Lead number) holds step =
-    subst (λ (x : Cluster). Holds salt x) (sym step) (record { same_salt = holds.same_salt; replicas = holds.replicas; answers = holds.answers })
+    subst (λ (x : Cluster). Holds salt x) (sym step) (record { same_salt = holds.same_salt; replicas = holds.replicas; snapshots = holds.snapshots; answers = holds.answers })
 Holds-act salt c new (Begin number clock) holds step =
     subst (λ (x : Cluster). Holds salt x) (sym step) (Holds-with_replica salt c number (begun (c.replicas number) clock) holds (holds.replicas number))
 Holds-act salt c new (Propose number e) holds step =
     let kept : (c.replicas number).log ≡ step.0.log = sym (ap (λ (r : ReplicaState). r.log) step.1.kept) in
     let follows : FollowsLog (log_opening salt) c.log step.0.log = subst (λ (l : LogState). FollowsLog (log_opening salt) c.log l) kept (holds.replicas number) in
     let other = Holds-with_replica salt c number step.0 holds follows in
-    subst (λ (x : Cluster). Holds salt x) (sym step.2) (record { same_salt = other.same_salt; replicas = other.replicas; answers = other.answers })
+    subst (λ (x : Cluster). Holds salt x) (sym step.2) (record { same_salt = other.same_salt; replicas = other.replicas; snapshots = other.snapshots; answers = other.answers })
 Holds-act salt c new (Append e) holds step =
     subst (λ (x : Cluster). Holds salt x) (sym step.1)
     (record {
       same_salt = holds.same_salt;
       replicas = λ number. FollowsLog-append (log_opening salt) (c.replicas number).log c.log (e ∷ []) (holds.replicas number);
+      snapshots = λ s in'. FollowsLog-append (log_opening salt) s c.log (e ∷ []) (holds.snapshots s in');
       answers = λ given in'. IsAnswerAt-append (log_opening salt) c.log (e ∷ []) given.place given.answer (holds.answers given in');
     })
 Holds-act salt c new (Apply number) holds step =
@@ -172,19 +176,38 @@ Holds-act salt c new (Lose number) holds step =
     let opens : FollowsLog (log_opening salt) c.log (log_opening c.salt) =
     subst (λ (n : ℕ). FollowsLog (log_opening salt) c.log (log_opening n)) (sym holds.same_salt) (opening_follows salt c.log) in
     subst (λ (x : Cluster). Holds salt x) (sym step) (Holds-with_replica salt c number (replica_opening c.salt) holds opens)
+Holds-act salt c new (Save number) holds step =
+    let saved : LogState = (c.replicas number).log in
+    subst (λ (x : Cluster). Holds salt x) (sym step)
+    (record {
+      same_salt = holds.same_salt;
+      replicas = holds.replicas;
+      snapshots = λ s in'. elim (Contains-case saved c.snapshots s in') [
+        | inl is ↦ subst (λ (t : LogState). FollowsLog (log_opening salt) c.log t) is (holds.replicas number)
+        | inr others ↦ holds.snapshots s others
+      ];
+      answers = holds.answers;
+    })
+Holds-act salt c new (Restore number s) holds step =
+    subst (λ (x : Cluster). Holds salt x) (sym step.1) (Holds-with_replica salt c number (following s) holds (holds.snapshots s step.0))
 
 Holds-history : (salt : ℕ) (acts : List Act) (c new : Cluster) → Holds salt c → History c acts new → Holds salt new
 Holds-history salt [] c new holds history = subst (λ (x : Cluster). Holds salt x) (sym history) holds
 Holds-history salt (act ∷ acts) c new holds history =
     Holds-history salt acts history.0 new (Holds-act salt c history.0 act holds history.1) history.2
 
-none_given : (given : Given) → Contains [] given → ⊥
-none_given given (k, within, is) = omega arith
+none_there : {X : Type 0} (x : X) → Contains [] x → ⊥
+none_there x (k, within, is) = omega arith
 
 holds_after : (salt : ℕ) (acts : List Act) (c : Cluster) → History (cluster_opening salt) acts c → Holds salt c
 holds_after salt acts c history =
     Holds-history salt acts (cluster_opening salt) c
-    (record { same_salt = refl; replicas = λ number. opening_follows salt []; answers = λ given in'. absurd (none_given given in') }) history
+    (record {
+      same_salt = refl;
+      replicas = λ number. opening_follows salt [];
+      snapshots = λ s in'. absurd (none_there s in');
+      answers = λ given in'. absurd (none_there given in');
+    }) history
 
 pub replicas_follow : (salt : ℕ) (acts : List Act) (c : Cluster) → History (cluster_opening salt) acts c
     → (number : ℕ) → FollowsLog (log_opening salt) c.log (c.replicas number).log

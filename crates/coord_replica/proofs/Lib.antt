@@ -6,3 +6,5 @@ pub mod Stamps
 pub mod Falls
 pub mod Taken
 pub mod Histories
+pub mod SnapshotLaws
+pub mod Restored

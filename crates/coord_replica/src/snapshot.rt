@@ -1,8 +1,12 @@
 //! A replica's snapshot, written part by part, and the replica that is restored of one.
 
 ghost use Rattle.std.specs.Prelude.{◌≡◌, ℕ, IfOk};
+ghost use Rattle.replica_snapshots.specs.Nodes.{SpellsNode};
+ghost use Rattle.replica_snapshots.specs.Places.{FitsPlace};
+ghost use Rattle.replica_snapshots.specs.Views.{place_value};
+ghost use Rattle.replica_snapshots.specs.Writing.{Puts};
 ghost use Rattle.coord_replica.specs.Replicas.{LogState, following};
-ghost use Rattle.coord_replica.specs.Snapshots.{IsSnapshotOf, PutsPart, SpellsLog, sections_in, snapshot_value};
+ghost use Rattle.coord_replica.specs.Snapshots.{IsSnapshotOf, PutsPart, SpellsLog, in_front, place_of, sections_in, snapshot_value};
 
 use crate::replica::Replica;
 use coord_node::Moment;
@@ -34,14 +38,25 @@ impl Snapshot<'_> {
         ensures { PutsPart result out.old.items out.new.items (snapshot_value self.now) from size }
     {
         let before = out.len();
+        self.put_front(from, out)?;
+        match self.sections.put(from, size, out) {
+            Ok(next) => Ok(next),
+            Err(fault) => {
+                out.truncate(before);
+                Err(fault)
+            }
+        }
+    }
+
+    /// Appends what stands in front of a section: the place before the first.
+    fn put_front(&self, from: usize, out: &mut Vec<u8>) -> Result<(), SnapshotFault>
+        ensures { let place = place_value self.now.place in
+            Puts result out.old.items out.new.items (from ≡ 0 → FitsPlace place) (in_front place from) }
+    {
         if from == 0 {
-            put_place(out, self.place)?;
+            return put_place(out, self.place);
         }
-        let done = self.sections.put(from, size, out);
-        if done.is_err() {
-            out.truncate(before);
-        }
-        done
+        Ok(())
     }
 }
 
@@ -69,20 +84,38 @@ impl Replica {
         ensures found { IfOk result (λ replica. SpellsLog replica.log bytes.now × (replica ≡ following replica.log)) }
         ensures only { (s : LogState) → SpellsLog s bytes.now → IfOk result (λ replica. replica ≡ following s) }
     {
-        let (place, written) = read_place(alloc, bytes)?;
-        let in_front = bytes.len().saturating_sub(written.len());
-        match read_node(alloc, hasher, written) {
-            Ok((node, [])) => Ok(Replica {
-                alloc,
-                node,
-                applied: place.applied,
-                leadership: place.leadership,
-                moment: place.moment,
-                leading: None,
-                proposed: Moment::of_millis(0),
-            }),
-            Ok((_, rest)) => Err(SnapshotFault::Respelled(bytes.len().saturating_sub(rest.len()))),
-            Err(fault) => Err(fault.behind(in_front)),
+        match read_place(alloc, bytes) {
+            Ok((place, written)) => match Replica::at_place(alloc, hasher, place, written) {
+                Ok(replica) => Ok(replica),
+                Err(fault) => Err(fault.behind(bytes.len().saturating_sub(written.len()))),
+            },
+            Err(fault) => Err(fault),
         }
+    }
+
+    /// The replica at a place of the log, of the bytes behind the place: its node, and no more.
+    fn at_place(
+        alloc: Global,
+        hasher: RandomState,
+        place: Place,
+        written: &[u8],
+    ) -> Result<Replica, SnapshotFault>
+        requires { FitsPlace (place_value place) }
+        ensures { IfOk result (λ replica. (place_of replica.log ≡ place_value place)
+            × SpellsNode replica.log.coordinator written.now × (replica ≡ following replica.log)) }
+    {
+        let (node, rest) = read_node(alloc, hasher, written)?;
+        if !rest.is_empty() {
+            return Err(SnapshotFault::Respelled(written.len().saturating_sub(rest.len())));
+        }
+        Ok(Replica {
+            alloc,
+            node,
+            applied: place.applied,
+            leadership: place.leadership,
+            moment: place.moment,
+            leading: None,
+            proposed: Moment::of_millis(0),
+        })
     }
 }

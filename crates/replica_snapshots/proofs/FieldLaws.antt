@@ -53,7 +53,7 @@ uuid_begins = of_field uuid_is_field
 pub text_begins : Begins FitsText compact_string
 text_begins = of_field compact_string_is_field
 
-same_pos : (m n : ℕ) → pos m ≡ pos n → m ≡ n
+pub same_pos : (m n : ℕ) → pos m ≡ pos n → m ≡ n
 same_pos m n e = cc
 
 epoch_fits : (n : ℕ) → FitsEpoch n → FitsSigned w32 (pos n)

@@ -1,5 +1,9 @@
 pub mod Begins
 pub mod FieldLaws
 pub mod GroupLaws
+pub mod Listed
+pub mod NodeLaws
+pub mod PlaceLaws
 pub mod Puts
+pub mod SectionLaws
 pub mod Told

@@ -1,10 +1,11 @@
 //! A node, written section by section, and read.
 
-ghost use Rattle.std.specs.Prelude.{◌≡◌, ◌++◌, ℕ, List, IfOk, length};
+ghost use Rattle.std.specs.Prelude.{◌≡◌, ◌++◌, ℕ, List, IfOk, IfSome, length, slice_get};
 ghost use Rattle.coord_node.specs.Coordinator.{Coordinator};
-ghost use Rattle.replica_snapshots.specs.Nodes.{IsOf, SpellsNode, sections_of};
+ghost use Rattle.replica_snapshots.specs.Nodes.{FitsSection, IsOf, SpellsNode, section_fields, sections_of};
+ghost use Rattle.replica_snapshots.specs.Restoring.{ReadsGroup, ReadsGroups};
 ghost use Rattle.replica_snapshots.specs.Views.{listed_node};
-ghost use Rattle.replica_snapshots.specs.Writing.{PutsSections};
+ghost use Rattle.replica_snapshots.specs.Writing.{PutsSections, PutsUpTo};
 
 use crate::fault::SnapshotFault;
 use crate::group::{put_group, read_group};
@@ -50,39 +51,28 @@ impl<'a> Sections<'a> {
     ///
     /// Refused, with no byte changed: `TooLong` only where a text has over 32,767 bytes, or where there is more of something than
     /// a count can say; `NoMemory`.
-    pub fn put(
-        &self,
-        from: usize,
-        size: usize,
-        out: &mut Vec<u8>,
-    ) -> Result<usize, SnapshotFault>
+    pub fn put(&self, from: usize, size: usize, out: &mut Vec<u8>) -> Result<usize, SnapshotFault>
         ensures { PutsSections result out.old.items out.new.items (sections_of (listed_node self.now)) from size }
     {
         let before = out.len();
-        let done = self.put_up_to(from, size, out);
-        if done.is_err() {
-            out.truncate(before);
+        let count = self.count();
+        for next in from..count {
+            if from < next && size <= out.len() - before {
+                return Ok(next);
+            }
+            if let Err(fault) = self.put_section(next, out) {
+                out.truncate(before);
+                return Err(fault);
+            }
         }
-        done
-    }
-
-    fn put_up_to(
-        &self,
-        from: usize,
-        size: usize,
-        out: &mut Vec<u8>,
-    ) -> Result<usize, SnapshotFault> {
-        let before = out.len();
-        let mut next = from;
-        while next < self.count() && (next == from || out.len() - before < size) {
-            self.put_section(next, out)?;
-            next += 1;
-        }
-        Ok(next)
+        Ok(from.max(count))
     }
 
     /// Appends one section.
-    fn put_section(&self, number: usize, out: &mut Vec<u8>) -> Result<(), SnapshotFault> {
+    fn put_section(&self, number: usize, out: &mut Vec<u8>) -> Result<(), SnapshotFault>
+        ensures { IfSome (slice_get (sections_of (listed_node self.now)) number) (λ section.
+            PutsUpTo result out.old.items out.new.items (FitsSection section) (section_fields section)) }
+    {
         match number.checked_sub(1) {
             None => put_head(self.alloc, out, self.salt, self.image, self.groups.len()),
             Some(place) => match self.groups.get(place) {
@@ -119,7 +109,9 @@ fn read_groups<'a>(
     count: u32,
     bytes: &'a [u8],
     size: usize,
-) -> Result<&'a [u8], SnapshotFault> {
+) -> Result<&'a [u8], SnapshotFault>
+    ensures { IfOk result (λ rest. ReadsGroups count bytes.now rest.now node.old node.new) }
+{
     let mut rest = bytes;
     for _ in 0..count {
         rest = match add_group(alloc, hasher, node, rest) {
@@ -136,7 +128,9 @@ fn add_group<'a>(
     hasher: RandomState,
     node: &mut Node,
     bytes: &'a [u8],
-) -> Result<&'a [u8], SnapshotFault> {
+) -> Result<&'a [u8], SnapshotFault>
+    ensures { IfOk result (λ rest. ReadsGroup bytes.now rest.now node.old node.new) }
+{
     let (read, rest) = read_group(alloc, hasher, bytes)?;
     if !node.restore_group(read.name, read.group)? {
         return Err(SnapshotFault::Unsound(bytes.len().saturating_sub(rest.len())));

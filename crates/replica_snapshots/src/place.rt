@@ -96,12 +96,20 @@ fn read_again(alloc: Global, bytes: &[u8]) -> Result<(Place, &[u8]), SnapshotFau
 {
     let mut cursor = Cursor::new(alloc, bytes);
     let place = place_of(&mut cursor)?;
-    let mut again = Vec::with_capacity(alloc, cursor.place())?;
-    put_place(&mut again, place)?;
+    let again = spelled(alloc, cursor.place(), &place)?;
     match behind(bytes, &again) {
         Ok(rest) => Ok((place, rest)),
         Err(fault) => Err(fault),
     }
+}
+
+/// The spelling of a place, whose size is known.
+fn spelled(alloc: Global, size: usize, place: &Place) -> Result<Vec<u8>, SnapshotFault>
+    ensures { IfOk result (λ bytes. FitsPlace (place_value place.now) × (bytes.items ≡ place_fields (place_value place.now))) }
+{
+    let mut bytes = Vec::with_capacity(alloc, size)?;
+    put_place(&mut bytes, *place)?;
+    Ok(bytes)
 }
 
 fn place_of(cursor: &mut Cursor<'_>) -> Result<Place, SnapshotFault> {

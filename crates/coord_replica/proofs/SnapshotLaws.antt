@@ -1,0 +1,79 @@
+-- A snapshot's bytes, and its parts.
+use Rattle.std.proofs.Common.{◌≡◌, ℕ, ◌+◌, ◌-◌, ◌<◌, ◌≤◌, List, [], ◌++◌, length, take, drop, refl, sym, ap, subst, ◌∙◌, inl, inr, append_assoc, arith}
+use Rattle.std.specs.Prelude.{if◌then◌else◌}
+use Rattle.std.specs.List.{flat_map}
+use Rattle.std.proofs.Math.Seq.{take-add}
+use Rattle.std.proofs.lemmas.Bool.Decides.{eqb_tells}
+use Rattle.std.proofs.lemmas.List.{drop-drop, take_all}
+use Rattle.std.proofs.lemmas.List.Concat.{flat_map-append}
+use Rattle.replica_snapshots.specs.Nodes.{Section, node_fields, section_fields, sections_of, between}
+use Rattle.replica_snapshots.specs.Places.{PlaceValue, place_fields, FitsPlace}
+use Rattle.replica_snapshots.proofs.NodeLaws.{one_coordinator}
+use Rattle.replica_snapshots.proofs.PlaceLaws.{place_begins}
+use Rattle.replica_snapshots.proofs.SectionLaws.{sections_make_the_node}
+use Rattle.coord_replica.specs.Laws.{OneStateASnapshot, PartsFollow, SectionsMakeASnapshot}
+use Rattle.coord_replica.specs.Snapshots.{in_front, part, place_of}
+
+-- ---- one state
+
+pub one_state : OneStateASnapshot
+one_state s t bytes one other =
+    let fronts = place_begins.holds (place_of s) (place_of t) one.written other.written one.place other.place (sym one.spelled ∙ other.spelled) in
+    let nodes = one_coordinator s.coordinator t.coordinator one.written other.written [] [] one.node other.node (ap (λ (l : List ℕ). l ++ []) fronts.1) in
+    λ i. record {
+      coordinator = nodes.0 i;
+      applied = (fronts.0 i).applied;
+      leadership = (fronts.0 i).leadership;
+      moment = (fronts.0 i).moment;
+    }
+
+-- ---- all sections
+
+all_between : (sections : List Section) → between 0 (length sections) sections ≡ sections
+all_between sections =
+    let all : length sections ≤ length sections - 0 = omega arith in
+    take_all (length sections - 0) sections all
+
+pub sections_make : SectionsMakeASnapshot
+sections_make s v is fits all =
+    let made = sections_make_the_node v.node in
+    let front = place_fields v.place in
+    record {
+      written = node_fields v.node;
+      place = subst FitsPlace is.place fits;
+      spelled = ap (λ (l : List Section). front ++ flat_map section_fields l) (all_between (sections_of v.node))
+          ∙ (ap (λ (l : List ℕ). front ++ l) made.0 ∙ ap (λ (p : PlaceValue). place_fields p ++ node_fields v.node) is.place);
+      node = record { node = v.node; fits = made.1 all; spelled = refl; of = is.node };
+    }
+
+-- ---- one part behind another
+
+between_follow : (sections : List Section) (from middle next : ℕ) → from < middle → middle ≤ next
+    → between from middle sections ++ between middle next sections ≡ between from next sections
+between_follow sections from middle next less most =
+    let there : from + (middle - from) ≡ middle = omega arith in
+    let sizes : middle - from + (next - middle) ≡ next - from = omega arith in
+    let behind : drop (middle - from) (drop from sections) ≡ drop middle sections =
+    drop-drop (middle - from) from sections ∙ ap (λ n. drop n sections) there in
+    ap (λ (l : List Section). between from middle sections ++ take (next - middle) l) (sym behind)
+    ∙ (sym (take-add (middle - from) (next - middle) (drop from sections)) ∙ ap (λ n. take n (drop from sections)) sizes)
+
+-- nothing stands in front of a section but the first
+none_in_front : (place : PlaceValue) (from : ℕ) → 0 < from → in_front place from ≡ []
+none_in_front place from above =
+    elim (eqb_tells from 0) [
+      | inl zero ↦ absurd (omega (arith, zero.1))
+      | inr other ↦ ap (λ b. if b then place_fields place else []) other.0
+    ]
+
+pub parts_follow : PartsFollow
+parts_follow v from middle next less most within =
+    let sections = sections_of v.node in
+    let front = in_front v.place from in
+    let one = flat_map section_fields (between from middle sections) in
+    let other = flat_map section_fields (between middle next sections) in
+    let above : 0 < middle = omega arith in
+    ap (λ (l : List ℕ). (front ++ one) ++ (l ++ other)) (none_in_front v.place middle above)
+    ∙ (append_assoc front one other
+    ∙ ap (λ (l : List ℕ). front ++ l) (sym (flat_map-append section_fields (between from middle sections) (between middle next sections))
+    ∙ ap (flat_map section_fields) (between_follow sections from middle next less most)))
