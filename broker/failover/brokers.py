@@ -19,6 +19,8 @@ from broker.failover.etcds import Etcds
 
 # How many brokers there are, how many there may be where one is added, and into how many parts the groups are divided.
 BROKERS, SLOTS, PARTS = 3, 4, 6
+# How much of a log there is to a snapshot: the least that brokers take.
+SNAPSHOT_BYTES = 65_536
 FIND_VERSION, FIND_SECONDS, PAGE_SECONDS = 2, 0.5, 30
 
 
@@ -112,6 +114,7 @@ class Brokers(Programs):
     async def start_one(self, slot: int) -> None:
         etcds = ",".join(f"{HOST}:{wire.port}" for wire in self.wires[slot])
         words = [sys.executable, "-B", "-m", "broker", "--etcd", etcds, "--advertise", "%s:%d" % self.doors[slot], "--parts", str(PARTS)]
+        words += ["--snapshot-bytes", str(SNAPSHOT_BYTES)]
         words += ["--lease", str(self.lease), "--rate", "5", "--port", str(self.fronts[slot]), "--status", str(self.pages[slot])]
         await asyncio.to_thread(self.start, str(slot), "listening", [*words, "--library", self.library, self.topic.word()], self.top)
 

@@ -37,11 +37,16 @@ def text(data: bytes) -> str:
     return base64.b64encode(data).decode()
 
 
+def opened(port: int, path: str, seconds: float, body: Dict[str, Any]) -> Any:
+    """What an etcd answers, as a file. No read of it takes longer than these seconds."""
+    asked = urllib.request.Request(f"http://{HOST}:{port}/v3/{path}", json.dumps(body).encode(), {"Content-Type": "application/json"})
+    return urllib.request.urlopen(asked, timeout=seconds)
+
+
 def call(port: int, path: str, seconds: float = ANSWER_SECONDS, **body: Any) -> Dict[str, Any]:
     """What an etcd answers. Raises OSError where it doesn't, or refuses."""
-    asked = urllib.request.Request(f"http://{HOST}:{port}/v3/{path}", json.dumps(body).encode(), {"Content-Type": "application/json"})
     try:
-        with urllib.request.urlopen(asked, timeout=seconds) as answer:
+        with opened(port, path, seconds, body) as answer:
             found: Dict[str, Any] = json.load(answer)
             return found
     except (ValueError, http.client.HTTPException) as why:
@@ -88,6 +93,11 @@ class Etcds(Programs):
     def used(self) -> int:
         """How many bytes of data one has, without what is free among them."""
         return int(self.any("maintenance/status")["dbSizeInUse"])
+
+    def count(self, folder: str) -> int:
+        """How many keys there are below a folder's name, which ends in `/`."""
+        found = self.any("kv/range", key=text(folder.encode()), range_end=text(folder[:-1].encode() + b"0"), count_only=True)
+        return int(found.get("count", 0))
 
     def fill(self) -> None:
         """Puts in as much as there is room for."""

@@ -2,20 +2,25 @@
 
 import base64
 import collections
+import contextlib
 import json
 import pathlib
-from typing import Any, Counter, Deque, Dict, Iterator, List, Optional, Tuple
+import threading
+import time
+from typing import Any, Counter, Deque, Dict, List, Optional, Tuple
 
 from broker.batches import LOGS, decode, part_and_place
 from broker.embedded import module
 from broker.settings import KEY
 from clients.log import COMMIT, HEARTBEAT, head_of, read_events
-from broker.failover.etcds import Etcds, text
+from broker.failover.etcds import Etcds, opened, text
 from broker.failover.member import NOT_HERE
 from rules.messages import read_commit_reply, read_heartbeat_reply
 
-# Where the body of a frame's entry begins. Each part has a salt of its own. How many batches are read at a time.
-BODY, SALTS, PAGE = 28, 1 << 64, 100
+SILENT_SECONDS, CATCH_UP_SECONDS = 2, 30
+# Where the body of a frame's entry begins. Each part has a salt of its own.
+BODY, SALTS = 28, 1 << 64
+KEYS = {"key": text(LOGS.encode()), "range_end": text(LOGS[:-1].encode() + b"0")}
 # The client, the API's key and the correlation id of a request.
 Ask = Tuple[Optional[str], int, int]
 
@@ -30,29 +35,44 @@ def codes_of(key: int, reply: bytes) -> List[int]:
 
 
 class Logs:
-    """What the logs make, from their beginning to their end. (No entry is ever deleted.)"""
+    """Follows the logs from their beginning until it has caught up at the end. (What a snapshot stands for is deleted meanwhile.)"""
 
     def __init__(self, etcds: Etcds, library: str) -> None:
         self.etcds, self.library, self.module = etcds, library, module()
         self.salt = json.loads(base64.b64decode(etcds.any("kv/range", key=text(KEY.encode()))["kvs"][0]["value"]))["salt"]
         self.runs: Dict[int, Any] = {}
+        self.revision, self.ends = 0, False
         # The replies to each request, as the logs make them; and what can't be.
         self.replies: Dict[Ask, List[bytes]] = collections.defaultdict(list)
         self.faults: List[str] = []
-        for key, value in self.pairs():
-            part, place = part_and_place(key)
-            for at, entry in enumerate(decode(value).entries):
-                self.apply(part, place + at, entry)
+        threading.Thread(target=self.follow, daemon=True).start()
 
-    def pairs(self) -> Iterator[Tuple[str, bytes]]:
-        """The keys of all batches, in the order of parts and places, with their values."""
-        first, end, more = LOGS.encode(), LOGS[:-1].encode() + b"0", True
-        while more:
-            found = self.etcds.any("kv/range", key=text(first), range_end=text(end), limit=PAGE)
-            pairs = [(base64.b64decode(it["key"]), base64.b64decode(it["value"])) for it in found.get("kvs", [])]
-            yield from ((key.decode(), value) for key, value in pairs)
-            more = found.get("more", False)
-            first = pairs[-1][0] + b"\0" if pairs else end
+    def follow(self) -> None:
+        while not self.ends:
+            for port in self.etcds.clients:
+                with contextlib.suppress(OSError, ValueError):
+                    self.watch(port)
+
+    def watch(self, port: int) -> None:
+        with opened(port, "watch", SILENT_SECONDS, {"create_request": {**KEYS, "start_revision": str(self.revision + 1)}}) as lines:
+            for line in lines:
+                result = json.loads(line).get("result")
+                if result is None:
+                    raise OSError(line)
+                if result.get("canceled"):
+                    self.faults.append(f"the logs can't be followed from revision {self.revision + 1} on: {result}")
+                    self.ends = True
+                for event in result.get("events", []):
+                    self.take(event["kv"], event.get("type") == "DELETE")
+                if self.ends:
+                    return
+
+    def take(self, pair: Dict[str, str], is_deleted: bool) -> None:
+        if not is_deleted and int(pair["mod_revision"]) > self.revision:
+            part, place = part_and_place(base64.b64decode(pair["key"]).decode())
+            for at, entry in enumerate(decode(base64.b64decode(pair["value"])).entries):
+                self.apply(part, place + at, entry)
+        self.revision = max(self.revision, int(pair["mod_revision"]))
 
     def apply(self, part: int, place: int, entry: bytes) -> None:
         if part not in self.runs:
@@ -64,6 +84,15 @@ class Logs:
             return
         if applied.kind == "frame" and applied.reply is not None:
             self.replies[asked_of(bytes(4) + entry[BODY:])].append(applied.reply)
+
+    def catch_up(self) -> None:
+        last = self.etcds.any("kv/range", limit=1, keys_only=True, sort_order="DESCEND", sort_target="MOD", **KEYS)["kvs"][0]["mod_revision"]
+        until = time.monotonic() + CATCH_UP_SECONDS
+        while self.revision < int(last) and not self.ends and time.monotonic() < until:
+            time.sleep(0.1)
+        if self.revision < int(last):
+            self.faults.append(f"the logs were followed to revision {self.revision} alone, of {last}")
+        self.ends = True
 
     def judge(self, record: pathlib.Path) -> Tuple[int, List[str]]:
         """How many replies of coordinators a relay has recorded, and those that aren't of the logs."""

@@ -8,12 +8,13 @@ import pathlib
 import time
 from typing import Awaitable, Callable, Dict, Iterable, List, Sequence, Tuple, Union
 
+from broker.snapshots import LAST
 from broker.trials import verdict
 from broker.trials.prints import Print
 from broker.trials.trial import Crowd
 from clients.stand import TOP, Failed, Topic
 from broker.failover import waits
-from broker.failover.brokers import Brokers, Channel, Gone
+from broker.failover.brokers import PARTS, Brokers, Channel, Gone
 from broker.failover.etcds import Etcds
 from broker.failover.faults import FAULTS, Fault
 from broker.failover.logs import Logs
@@ -48,6 +49,7 @@ class Run(Crowd):
     async def begin(self) -> None:
         self.timer, self.began = waits.Timer(), time.monotonic()
         await self.brokers.begin()
+        self.logs = await asyncio.to_thread(Logs, self.etcds, self.brokers.library)
         for at, group in enumerate(GROUPS):
             for number, name in enumerate(self.names_of(group)):
                 # (The first of each group is our own, which sees when the group is answered.)
@@ -215,11 +217,13 @@ class Run(Crowd):
         """What was printed and what passed, from the beginning to the end. It ends all but etcd, and prints the last line."""
         await self.end_consumers()
         verdict.judge_prints(self)
-        logs = await asyncio.to_thread(Logs, self.etcds, self.brokers.library)
-        count, faults = logs.judge(self.folder / "frames.log")
+        await asyncio.to_thread(self.logs.catch_up)
+        count, faults = self.logs.judge(self.folder / "frames.log")
         self.check(not faults, f"each of the {count} replies that passed is one of the logs' run{verdict.told(faults)}")
-        codes = logs.codes()
+        codes = self.logs.codes()
         self.check(not {*FENCED} & {*codes}, f"nobody is told 25 or 110 by the logs' run: codes {dict(sorted(codes.items()))}")
+        count = await asyncio.to_thread(self.etcds.count, LAST)
+        self.check(count, f"{count} of the {PARTS} parts have a snapshot")
         results = self.results + ["FAILED" not in line for line in self.lines]
         used, hours = self.etcds.used() / 1e6, (time.monotonic() - self.began) / 3600
         self.note(f"etcd's data have {used:.1f} MB after {60 * hours:.0f} minutes, so {used / hours:.0f} MB an hour")
