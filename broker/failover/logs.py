@@ -42,6 +42,8 @@ class Logs:
         self.salt = json.loads(base64.b64decode(etcds.any("kv/range", key=text(KEY.encode()))["kvs"][0]["value"]))["salt"]
         self.runs: Dict[int, Any] = {}
         self.revision, self.ends = 0, False
+        # How many bytes the batches of each part have.
+        self.sizes: Counter[int] = collections.Counter()
         # The replies to each request, as the logs make them; and what can't be.
         self.replies: Dict[Ask, List[bytes]] = collections.defaultdict(list)
         self.faults: List[str] = []
@@ -70,7 +72,9 @@ class Logs:
     def take(self, pair: Dict[str, str], is_deleted: bool) -> None:
         if not is_deleted and int(pair["mod_revision"]) > self.revision:
             part, place = part_and_place(base64.b64decode(pair["key"]).decode())
-            for at, entry in enumerate(decode(base64.b64decode(pair["value"])).entries):
+            batch = base64.b64decode(pair["value"])
+            self.sizes[part] += len(batch)
+            for at, entry in enumerate(decode(batch).entries):
                 self.apply(part, place + at, entry)
         self.revision = max(self.revision, int(pair["mod_revision"]))
 

@@ -14,7 +14,7 @@ from broker.trials.prints import Print
 from broker.trials.trial import Crowd
 from clients.stand import TOP, Failed, Topic
 from broker.failover import waits
-from broker.failover.brokers import PARTS, Brokers, Channel, Gone
+from broker.failover.brokers import SNAPSHOT_BYTES, Brokers, Channel, Gone
 from broker.failover.etcds import Etcds
 from broker.failover.faults import FAULTS, Fault
 from broker.failover.logs import Logs
@@ -222,8 +222,8 @@ class Run(Crowd):
         self.check(not faults, f"each of the {count} replies that passed is one of the logs' run{verdict.told(faults)}")
         codes = self.logs.codes()
         self.check(not {*FENCED} & {*codes}, f"nobody is told 25 or 110 by the logs' run: codes {dict(sorted(codes.items()))}")
-        count = await asyncio.to_thread(self.etcds.count, LAST)
-        self.check(count, f"{count} of the {PARTS} parts have a snapshot")
+        count, long = await asyncio.to_thread(self.etcds.count, LAST), [it for it in self.logs.sizes.values() if it > 2 * SNAPSHOT_BYTES]
+        self.check(count >= len(long), f"{count} parts have a snapshot, where {len(long)} have logs of over {2 * SNAPSHOT_BYTES} bytes")
         results = self.results + ["FAILED" not in line for line in self.lines]
         used, hours = self.etcds.used() / 1e6, (time.monotonic() - self.began) / 3600
         self.note(f"etcd's data have {used:.1f} MB after {60 * hours:.0f} minutes, so {used / hours:.0f} MB an hour")
