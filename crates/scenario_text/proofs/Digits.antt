@@ -1,5 +1,5 @@
 -- Lines that are bytes spelled in hex, two digits each.
-use Rattle.std.proofs.Common.{All, Bool, true, false, IfOk, ◌==◌, ◌≡◌, ◌≢◌, ℕ, ◌<◌, List, [], ◌∷◌, length, Result, Ok, Err, sym, ap, ◌∙◌, subst, arith}
+use Rattle.std.proofs.Common.{All, Bool, true, false, IfOk, ◌==◌, ◌≡◌, ◌≢◌, ℕ, ◌+◌, ◌*◌, ◌%◌, ◌<◌, List, [], ◌∷◌, length, take, drop, slice_index, Result, Ok, Err, refl, sym, ap, ◌∙◌, subst, arith}
 use Rattle.std.specs.Prelude.{IsErr}
 use Rattle.std.specs.List.{AllPass, join_with_byte}
 use Rattle.std.specs.Str.{IsAscii}
@@ -9,8 +9,9 @@ use Rattle.std.proofs.lemmas.List.Elements.{All-nil, All-cons, All-head, All-tai
 use Rattle.std.proofs.lemmas.List.Splits.{slice_split_none, join_with_byte-slice_split}
 use Rattle.std.proofs.lemmas.Str.{IsUtf8-from_ascii}
 use Rattle.std.proofs.lemmas.Str.Ascii.{IsAscii-nil, IsAscii-cons}
-use Rattle.hex.proofs.HexLemmas.{decode_of-ok}
-use Rattle.hex.specs.Hex.{is_hex_digit, decode_of}
+use Rattle.hex.proofs.HexLemmas.{decode_of-even, decode_of-ok}
+use Rattle.hex.proofs.Pairs.{decode_err, prepend}
+use Rattle.hex.specs.Hex.{is_hex_digit, decode_of, decode_pairs, pair_value}
 use Rattle.scenario_text.specs.Words.{is_space, words_of}
 use Rattle.scenario_text.specs.FrameLines.{IsFrameLine, SpellsBytes}
 
@@ -30,14 +31,21 @@ no_spaces [] all = All-nil _
 no_spaces (c ∷ line) all =
     All-cons (λ x. is_space x ≡ false) c line (digit_no_space c (All-head (λ x. is_hex_digit x ≡ true) c line all)) (no_spaces line (All-tail (λ x. is_hex_digit x ≡ true) c line all))
 
+-- digits are ASCII
+pub digits_are_ascii : (line bytes : List ℕ) → decode_of line ≡ Ok bytes → IsAscii line
+digits_are_ascii line bytes spelled = IsAscii-digits line (decode_of-ok line bytes spelled).1
+
+-- and one word
+pub digits_are_alone : (line bytes : List ℕ) → decode_of line ≡ Ok bytes → words_of line ≡ line ∷ []
+digits_are_alone line bytes spelled = slice_split_none is_space line (no_spaces line (decode_of-ok line bytes spelled).1)
+
 -- digits are a line of one word
 pub digits_are_a_line : (line bytes : List ℕ) → line ≢ [] → decode_of line ≡ Ok bytes → IsFrameLine line bytes
 digits_are_a_line line bytes some spelled =
-    let digits = (decode_of-ok line bytes spelled).1 in
-    let alone : words_of line ≡ line ∷ [] = slice_split_none is_space line (no_spaces line digits) in
+    let alone = digits_are_alone line bytes spelled in
     record {
       is_line = record {
-        text = IsUtf8-from_ascii line (IsAscii-digits line digits);
+        text = IsUtf8-from_ascii line (digits_are_ascii line bytes spelled);
         words = subst (All (λ (word : List ℕ). word ≢ [])) (sym alone) (All-cons (λ (word : List ℕ). word ≢ []) line [] some (All-nil _));
       };
       word = line;
@@ -51,7 +59,7 @@ line_is_word line bytes is =
     let same : is.word ≡ line = sym (ap (join_with_byte 32) is.alone) ∙ join_with_byte-slice_split 32 line in
     subst (λ l. decode_of l ≡ Ok bytes) same is.spelled
 
-not_both_ways : {X E : Type 0} (r : Result X E) (x : X) → r ≡ Ok x → IsErr r → ⊥
+pub not_both_ways : {X E : Type 0} (r : Result X E) (x : X) → r ≡ Ok x → IsErr r → ⊥
 not_both_ways (Ok y) x is bad = absurd (false≢true bad)
 not_both_ways (Err e) x is bad = absurd cc
 
@@ -71,3 +79,20 @@ is_not_empty (c ∷ line) answer says other = λ none. cc
 pub if_ok_by : {X E : Type 0} (r : Result X E) (P Q : X → Type 0) → IfOk r P → ((x : X) → P x → Q x) → IfOk r Q
 if_ok_by (Ok x) P Q holds more = more x holds
 if_ok_by (Err e) P Q holds more = tt
+
+is_bad : {X E : Type 0} (r : Result X E) → IsErr r → (e : E) × (r ≡ Err e)
+is_bad (Ok x) bad = absurd (false≢true bad)
+is_bad (Err e) bad = (e, refl)
+
+bad_by : {X E : Type 0} (r : Result X E) (e : E) → r ≡ Err e → IsErr r
+bad_by (Ok x) e is = absurd cc
+bad_by (Err f) e is = refl
+
+-- where two digits spell no byte, all spell none
+pub no_bytes_here : (digits bytes : List ℕ) (place : ℕ) → length digits % 2 ≡ 0 → 2 * place + 1 < length digits
+    → IsErr (pair_value (slice_index digits (2 * place)) (slice_index digits (2 * place + 1)) (2 * place))
+    → decode_pairs 0 digits ≡ prepend (take place bytes) (decode_pairs (2 * place) (drop (2 * place) digits))
+    → IsErr (decode_of digits)
+no_bytes_here digits bytes place even within bad before =
+    let fault = is_bad (pair_value (slice_index digits (2 * place)) (slice_index digits (2 * place + 1)) (2 * place)) bad in
+    bad_by (decode_of digits) fault.0 (decode_of-even digits even ∙ decode_err digits bytes place fault.0 within fault.1 before)

@@ -1,6 +1,7 @@
 //! The output, written in pieces.
 ghost use Rattle.std.specs.Prelude.{◌≡◌, ◌≤◌, ◌↔◌, List, ℕ, [], ◌∷◌, ◌++◌, length, IsTrue, OnOk, OnErr};
 ghost use Rattle.std.specs.Io.KnownBytes.{Appends};
+ghost use Rattle.hex.specs.Hex.{encode_lower};
 ghost use Rattle.scenario_text.specs.Writing.{WritesPart};
 
 use std::alloc::{AllocError, Global};
@@ -10,6 +11,9 @@ use std::marker::Model;
 
 /// The most bytes of one write. An output that holds at least this number of bytes is full.
 const PIECE: usize = 65_536;
+
+/// What ends a line.
+const LINE_FEED: u8 = b'\n';
 
 /// Lines that are printed and not yet written.
 #[derive(Drop)]
@@ -40,7 +44,21 @@ impl Output {
     {
         let held = self.held.len();
         self.held.extend_from_slice(text.as_bytes())?;
-        if self.held.push(b'\n').is_err() {
+        if self.held.push(LINE_FEED).is_err() {
+            self.held.truncate(held);
+            return Err(AllocError);
+        }
+        Ok(())
+    }
+
+    /// Prints one line: bytes in hex. On `Err` nothing is printed.
+    pub fn hex_line(&mut self, bytes: &[u8]) -> Result<(), AllocError>
+        ensures ok { OnOk result (self.new ≡ self.old ++ encode_lower bytes.now ++ 10 ∷ []) }
+        ensures err { OnErr result (self.new ≡ self.old) }
+    {
+        let held = self.held.len();
+        put_hex(&mut self.held, bytes)?;
+        if self.held.push(LINE_FEED).is_err() {
             self.held.truncate(held);
             return Err(AllocError);
         }
@@ -79,6 +97,25 @@ impl Output {
         self.held.clear();
         Ok(())
     }
+}
+
+/// Appends bytes in hex.
+fn put_hex(text: &mut Vec<u8>, bytes: &[u8]) -> Result<(), AllocError>
+    ensures ok { OnOk result (text.new.items ≡ text.old.items ++ encode_lower bytes.now) }
+    ensures err { OnErr result (text.new.items ≡ text.old.items) }
+{
+    let start = text.len();
+    let Some(digits) = bytes.len().checked_mul(2) else {
+        return Err(AllocError);
+    };
+    let Some(end) = start.checked_add(digits) else {
+        return Err(AllocError);
+    };
+    text.resize(end, 0)?;
+    let (_, room) = text.as_mut_slice().split_at_mut(start);
+    // (there is room for just these digits)
+    let _ = hex::encode_to_slice(bytes, room);
+    Ok(())
 }
 
 /// Writes all the bytes, or the first of them and then says why no more.

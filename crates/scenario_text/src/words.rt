@@ -1,14 +1,13 @@
 //! The words of a line, and what they stand for.
 ghost use Rattle.std.specs.Prelude.{◌≡◌, ◌≢◌, ℕ, [], pos, All, ◌^◌, ◌<◌, ◌↔◌, length, map, decimal, IsTrue, IfOk, OnOk, IsErr, IfSome, IfNone};
-ghost use Rattle.hex.specs.Hex.{decode_of};
+ghost use Rattle.hex.specs.Hex.{decode_of, hex_digit_value, pair_value};
 ghost use Rattle.scenario_text.specs.Words.{words_of, IsLine, IsName};
-ghost use Rattle.std.specs.Prelude.{ℤ, MatchOption, neg_ℤ, ◌≤◌};
+ghost use Rattle.std.specs.Prelude.{ℤ, ◌*◌, MatchOption, OnErr, neg_ℤ, ◌≤◌};
 ghost use Rattle.scenario_text.specs.Numbers.{SpellsOffset};
 ghost use Rattle.scenario_text.specs.FrameLines.{IsFrameLine, SpellsBytes};
 
 use crate::fault::LineFault;
 use group_types::limits::LONGEST_STRING;
-use hex::FromHexError;
 use itoa::Buffer;
 use std::alloc::{AllocError, Global};
 
@@ -120,9 +119,55 @@ fn decoded(alloc: Global, digits: &[u8]) -> Result<Vec<u8>, LineFault>
     ensures bytes { IfOk result (λ bytes. decode_of digits.now ≡ Ok bytes.items) }
     ensures refused { result ≡ Err LineFault.BadLine → IsErr (decode_of digits.now) }
 {
-    match hex::decode(alloc, digits) {
-        Ok(bytes) => Ok(bytes),
-        Err(FromHexError::OutOfMemory) => Err(LineFault::NoMemory),
-        Err(_) => Err(LineFault::BadLine),
+    let mut bytes = Vec::new(alloc);
+    decode_into(digits, &mut bytes)?;
+    Ok(bytes)
+}
+
+/// Puts the bytes that digits spell in hex, in either case, in place of the former ones, whose room they take. Other digits are a bad
+/// line, and what is there then is left open.
+pub fn decode_into(digits: &[u8], bytes: &mut Vec<u8>) -> Result<(), LineFault>
+    ensures bytes { OnOk result (decode_of digits.now ≡ Ok bytes.new.items) }
+    ensures refused { result ≡ Err LineFault.BadLine → IsErr (decode_of digits.now) }
+{
+    if digits.len() % 2 != 0 {
+        return Err(LineFault::BadLine);
+    }
+    bytes.resize(digits.len() / 2, 0)?;
+    decode_pairs(digits, bytes.as_mut_slice())
+}
+
+/// Puts the byte of each two digits.
+fn decode_pairs(digits: &[u8], bytes: &mut [u8]) -> Result<(), LineFault>
+    requires { length digits.now ≡ 2 * length bytes.old }
+    ensures bytes { OnOk result (decode_of digits.now ≡ Ok bytes.new) }
+    ensures refused { OnErr result (IsErr (decode_of digits.now)) }
+{
+    'pairs: for place in 0..bytes.len() {
+        let Some(byte) = byte_of(digits[2 * place], digits[2 * place + 1]) else {
+            return Err(LineFault::BadLine);
+        };
+        bytes[place] = byte;
+    }
+    Ok(())
+}
+
+/// The byte of two digits, or nothing where they aren't.
+fn byte_of(high: u8, low: u8) -> Option<u8>
+    ensures some { IfSome result (λ byte. (place : ℕ) → pair_value high low place ≡ Ok byte) }
+    ensures none { IfNone result ((place : ℕ) → IsErr (pair_value high low place)) }
+{
+    Some(value_of(high)? * 16 + value_of(low)?)
+}
+
+/// The value of a digit in hex, in either case. (Most digits are numbers.)
+fn value_of(digit: u8) -> Option<u8>
+    ensures { result ≡ hex_digit_value digit }
+{
+    match digit {
+        b'0'..=b'9' => Some(digit - b'0'),
+        b'a'..=b'f' => Some(digit - b'a' + 10),
+        b'A'..=b'F' => Some(digit - b'A' + 10),
+        _ => None,
     }
 }
