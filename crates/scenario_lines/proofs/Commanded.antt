@@ -1,17 +1,12 @@
 -- Which commands words spell.
-use Rattle.std.proofs.Common.{◌≡◌, ℕ, ◌<◌, ◌≤◌, ◌^◌, List, [], ◌∷◌, length, get_or, Bor, Some, None, codes, decimal, refl, sym, ap, ◌∙◌, subst, arith, append_assoc}
+use Rattle.std.proofs.Common.{◌≡◌, ℕ, ◌<◌, ◌≤◌, ◌^◌, List, [], ◌∷◌, length, get_or, Bor, Some, None, codes, decimal, refl, sym, ap, ◌∙◌, subst, arith}
 use Rattle.group_types.specs.declared.stamp.Stamp.{Stamp}
 use Rattle.group_types.specs.Topics.{Topics}
 use Rattle.topic_meta.specs.Images.{Entry}
 use Rattle.scenario_lines.specs.declared.interpreter.Interpreter.{Interpreter}
-use Rattle.scenario_lines.specs.declared.stamps.Stamps.{Stamps}
-use Rattle.scenario_text.specs.Lines.{fed}
-use Rattle.scenario_lines.specs.Stamps.{stamp_of}
-use Rattle.scenario_lines.specs.Requests.{BytesStep, PrintsAnswer, text_of}
-use Rattle.scenario_text.specs.Runs.{Prints}
 use Rattle.scenario_text.specs.ImageWords.{SpellImage, IsImage}
 use Rattle.scenario_text.proofs.TopicWords.{one_word, texts, two_words, word_at}
-use Rattle.scenario_lines.specs.Commands.{Image, Now, Stamped, Request, Tick, IsCommand, DoesCommand, one_more}
+use Rattle.scenario_lines.specs.Commands.{Image, Now, Stamped, Request, Tick, IsCommand, DoesCommand}
 
 -- ---- commands
 
@@ -38,27 +33,6 @@ stamp_done old stamp words least most first second =
       does = (refl, refl);
     }
 
-pub request_done : (old new : Interpreter) (words : List (Bor (List ℕ))) (before after : List ℕ) → 1 ≤ length words → length words < 2
-    → PrintsAnswer old.node (word_at words 0) (stamp_of old.stamps.given new.stamps.requests) old.now new.node before after
-    → new.stamps ≡ record { given = None; requests = one_more old.stamps.requests }
-    → new ≡ record old { node = new.node; stamps = new.stamps }
-    → Prints (DoesCommand (codes "req" ∷ texts words) old new) before after
-request_done old new words before after least most prints counted kept =
-    record {
-      text = fed (text_of prints.answer);
-      is_text = record {
-        command = Request prints.bytes;
-        spelled = (word_at words 0, ap (λ ws. codes "req" ∷ ws) (one_word words least most), prints.spelled);
-        does = (
-          prints.answer,
-          subst (λ (s : Stamps). BytesStep old.node prints.bytes (stamp_of old.stamps.given s.requests) old.now prints.answer new.node) counted prints.step,
-          kept ∙ ap (λ (s : Stamps). (let it : Interpreter = record old { node = new.node; stamps = s } in it)) counted,
-          refl,
-        );
-      };
-      printed = prints.printed ∙ append_assoc before (text_of prints.answer) (10 ∷ []);
-    }
-
 pub image_done : (old : Interpreter) (words : List (List ℕ)) (image : Topics) → IsImage words image
     → DoesCommand (codes "image" ∷ words) old (record old { node = record old.node { image = image } }) []
 image_done old words image is =
@@ -68,7 +42,7 @@ image_done old words image is =
       does = (ap (λ (t : Topics). (let it : Interpreter = record old { node = record old.node { image = t } } in it)) is.2, refl);
     }
 
-abbrev first_byte : List (List ℕ) → ℕ
+abbrev pub first_byte : List (List ℕ) → ℕ
 first_byte [] = 0
 first_byte (word ∷ words) = get_or word 0 0
 

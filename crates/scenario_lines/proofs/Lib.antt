@@ -8,3 +8,4 @@ pub mod Described
 pub mod Played
 pub mod Answered
 pub mod Closing
+pub mod Requested

@@ -1,5 +1,5 @@
 -- What the lines of `coord reply` ask, and what each does. The forms are this program's own.
-use Rattle.std.specs.Prelude.{◌≡◌, ℕ, ◌+◌, ◌-◌, ◌^◌, ◌<◌, min, List, [], ◌∷◌, Some, None, codes, decimal, Ok}
+use Rattle.std.specs.Prelude.{◌≡◌, ℕ, ◌+◌, ◌-◌, ◌^◌, ◌<◌, min, List, [], ◌∷◌, ◌++◌, Some, None, codes, decimal, Ok}
 use Rattle.std.specs.declared.alloc.Global.{Global}
 use Rattle.hex.specs.Hex.{decode_of}
 use Rattle.group_types.specs.declared.stamp.Stamp.{Stamp}
@@ -71,6 +71,10 @@ IsCommand words = (command : Command) × SpellCommand words command
 pub record IsReplyLine (line : List ℕ) : Type 0 where
   pub is_line : IsLine line
   pub is_command : IsCommand (words_of line)
+
+-- a line that begins as a request does
+abbrev pub BeginsRequest : List ℕ → Type 0
+BeginsRequest line = (digits : List ℕ) × (line ≡ codes "req " ++ digits)
 
 -- what it does
 pub record DoesReplyLine (old : Interpreter) (line : List ℕ) (new : Interpreter) (text : List ℕ) : Type 0 where

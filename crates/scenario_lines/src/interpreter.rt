@@ -1,17 +1,14 @@
-//! The lines of `coord reply`, each as one method.
-ghost use Rattle.std.specs.Prelude.{◌≡◌, [], ◌∷◌, ◌++◌, map, codes, IfErr, IfOk, OnOk, OnErr};
+//! What the lines of `coord reply` do, each as one method.
+ghost use Rattle.std.specs.Prelude.{◌≡◌, ◌≢◌, [], ◌∷◌, ◌++◌, map, codes, IfErr, IfOk, OnOk, OnErr};
 ghost use Rattle.coord_node.specs.Coordinator.{Done};
 ghost use Rattle.scenario_text.specs.Lines.{fed};
 ghost use Rattle.scenario_lines.specs.Printing.{line_of};
 ghost use Rattle.scenario_lines.specs.Requests.{text_of};
-ghost use Rattle.scenario_lines.specs.Commands.{DoesReplyLine, IsReplyLine};
-ghost use Rattle.scenario_text.specs.Runs.{PrintsNothing};
 
 use crate::stamps::Stamps;
 use crate::{reasons, refusals};
 use coord_node::{Answered, Node};
 use group_types::{Moment, Stamp};
-use scenario_text::driver::LineWorker;
 use scenario_text::fault::LineFault;
 use scenario_text::output::Output;
 use scenario_text::page::Page;
@@ -28,8 +25,8 @@ const CLOSE: &str = "close";
 pub enum Did {
     /// It set something, or removed members.
     Nothing,
-    /// Its request was answered, by this frame.
-    Answered(Vec<u8>),
+    /// Its request was answered.
+    Answered,
     /// Its request, which had this stamp, was not answered.
     Closed(Stamp),
 }
@@ -49,7 +46,7 @@ impl Interpreter {
     ghost use Rattle.scenario_lines.specs.Stamps.{stamp_of};
     ghost use Rattle.scenario_lines.specs.Requests.{PrintsAnswer};
     ghost use Rattle.scenario_lines.specs.Printing.{AnswersBytes};
-    ghost use Rattle.scenario_lines.specs.Commands.{DoesCommand, IsCommand, new_interpreter};
+    ghost use Rattle.scenario_lines.specs.Commands.{BeginsRequest, DoesCommand, DoesReplyLine, IsCommand, IsReplyLine, new_interpreter};
     ghost use Rattle.scenario_text.specs.Runs.{Prints};
 
     /// The salt of the node's ids.
@@ -67,7 +64,20 @@ impl Interpreter {
         }
     }
 
-    /// Does the command of this name.
+    /// Does a line that is no request: all of its words.
+    pub fn words_line(&mut self, line: &[u8], output: &mut Output) -> Result<Did, LineFault>
+        ensures printed { OnOk result (Prints (DoesReplyLine self.old line.now self.new) output.old output.new) }
+        ensures refused { result ≡ Err LineFault.BadLine → ¬ BeginsRequest line.now → ¬ IsReplyLine line.now }
+        ensures err { OnErr result (output.new ≡ output.old) }
+    {
+        let words = words::words_of(self.alloc, line)?;
+        let Some((name, arguments)) = words.split_first() else {
+            return Err(LineFault::BadLine);
+        };
+        self.command(name, arguments, output)
+    }
+
+    /// Does the command of this name, which is no request.
     fn command(
         &mut self,
         name: &str,
@@ -75,14 +85,14 @@ impl Interpreter {
         output: &mut Output,
     ) -> Result<Did, LineFault>
         ensures printed { OnOk result (Prints (DoesCommand (name.now ∷ map (λ word. word.now) arguments.now) self.old self.new) output.old output.new) }
-        ensures refused { result ≡ Err LineFault.BadLine → ¬ IsCommand (name.now ∷ map (λ word. word.now) arguments.now) }
+        ensures refused { result ≡ Err LineFault.BadLine → name.now ≢ codes "req"
+            → ¬ IsCommand (name.now ∷ map (λ word. word.now) arguments.now) }
         ensures err { OnErr result (output.new ≡ output.old) }
     {
         match name {
             "image" => self.image(arguments),
             "now" => self.now(arguments),
             "stamp" => self.stamp(arguments),
-            "req" => self.request_line(arguments, output),
             "tick" => self.tick(arguments, output),
             _ => Err(LineFault::BadLine),
         }
@@ -127,18 +137,6 @@ impl Interpreter {
         Ok(Did::Nothing)
     }
 
-    /// `req HEX` answers a frame.
-    fn request_line(&mut self, arguments: &[&str], output: &mut Output) -> Result<Did, LineFault>
-        ensures printed { OnOk result (Prints (DoesCommand (codes "req" ∷ map (λ word. word.now) arguments.now) self.old self.new) output.old output.new) }
-        ensures refused { result ≡ Err LineFault.BadLine → ¬ IsCommand (codes "req" ∷ map (λ word. word.now) arguments.now) }
-        ensures err { OnErr result (output.new ≡ output.old) }
-    {
-        let [frame] = arguments else {
-            return Err(LineFault::BadLine);
-        };
-        self.request(frame, output)
-    }
-
     /// `tick` removes the members whose deadline has come at the moment, and prints how many. Where memory is short for the text,
     /// they are removed.
     fn tick(&mut self, arguments: &[&str], output: &mut Output) -> Result<Did, LineFault>
@@ -154,21 +152,41 @@ impl Interpreter {
         Ok(Did::Nothing)
     }
 
-    /// `req HEX` prints the frame of the reply, or `close`.
-    fn request(&mut self, frame: &str, output: &mut Output) -> Result<Did, LineFault>
-        ensures printed { OnOk result (PrintsAnswer self.old.node frame.now
+    /// `req HEX` prints the frame of the reply, or `close`. The bytes of the request and of the reply take the room of former ones.
+    pub fn request(
+        &mut self,
+        digits: &[u8],
+        frame: &mut Vec<u8>,
+        reply: &mut Vec<u8>,
+        output: &mut Output,
+    ) -> Result<Did, LineFault>
+        ensures printed { OnOk result (PrintsAnswer self.old.node digits.now
             (stamp_of self.old.stamps.given self.new.stamps.requests) self.old.now self.new.node output.old output.new) }
         ensures counted { OnOk result (self.new.stamps
             ≡ record { given = None; requests = min (self.old.stamps.requests + 1) (2 ^ 64 - 1) }) }
         ensures err { OnErr result (output.new ≡ output.old) }
-        ensures refused { result ≡ Err LineFault.BadLine → IsErr (decode_of frame.now) }
+        ensures refused { result ≡ Err LineFault.BadLine → IsErr (decode_of digits.now) }
         ensures kept { self.new ≡ record self.old { node = self.new.node; stamps = self.new.stamps } }
     {
-        let frame = words::bytes_of(self.alloc, frame)?;
+        words::decode_into(digits, frame)?;
         let stamp = self.stamps.next_stamp();
-        let mut reply = Vec::new(self.alloc);
-        let answered = self.answer(frame.as_slice(), stamp, &mut reply)?;
-        print(self.alloc, answered, reply, stamp, output)
+        reply.clear();
+        let answered = self.answer(frame.as_slice(), stamp, reply)?;
+        print(answered, reply.as_slice(), stamp, output)
+    }
+
+    /// Why a line came to nothing that did this, if it did: a request by its reply.
+    pub fn why(&self, line: &[u8], did: &Did, reply: &[u8]) -> Result<Option<String>, AllocError> {
+        match did {
+            Did::Nothing => Ok(None),
+            Did::Answered => refusals::of_reply(self.alloc, &self.node, line, reply),
+            Did::Closed(stamp) => reasons::of_closed(self.alloc, &self.node, line, *stamp),
+        }
+    }
+
+    /// Why a line is none of `coord reply`.
+    pub fn why_bad(&self, line: &[u8]) -> Result<String, AllocError> {
+        reasons::of_bad_reply_line(self.alloc, line)
     }
 
     /// Answers the bytes of a frame, and appends the reply. Other bytes than a frame close.
@@ -189,66 +207,21 @@ impl Interpreter {
     }
 }
 
-impl LineWorker for Interpreter {
-    ghost does = { DoesReplyLine };
-
-    ghost takes = { λ _. IsReplyLine };
-
-    ghost closes = { PrintsNothing };
-
-    type Did = Did;
-
-    type Notes = ();
-
-    fn line(&mut self, line: &[u8], output: &mut Output) -> Result<Did, LineFault> {
-        let words = words::words_of(self.alloc, line)?;
-        let Some((name, arguments)) = words.split_first() else {
-            return Err(LineFault::BadLine);
-        };
-        self.command(name, arguments, output)
-    }
-
-    /// Nothing stands behind the last line.
-    fn end(&mut self, _output: &mut Output) -> Result<(), AllocError> {
-        Ok(())
-    }
-
-    fn notes(&self) {}
-
-    fn why(&self, _: &mut (), line: &[u8], did: &Did) -> Result<Option<String>, AllocError> {
-        match did {
-            Did::Nothing => Ok(None),
-            Did::Answered(reply) => refusals::of_reply(
-                self.alloc,
-                &self.node,
-                line,
-                reply.as_slice(),
-            ),
-            Did::Closed(stamp) => reasons::of_closed(self.alloc, &self.node, line, *stamp),
-        }
-    }
-
-    fn why_bad(&self, line: &[u8]) -> Result<String, AllocError> {
-        reasons::of_bad_reply_line(self.alloc, line)
-    }
-}
-
 /// Prints what became of a frame with a stamp: the reply in hex, or `close`.
 fn print(
-    alloc: Global,
     answered: Answered,
-    reply: Vec<u8>,
+    reply: &[u8],
     stamp: Stamp,
     output: &mut Output,
 ) -> Result<Did, LineFault>
-    ensures ok { OnOk result (output.new ≡ output.old ++ line_of answered reply.items ++ 10 ∷ []) }
+    ensures ok { OnOk result (output.new ≡ output.old ++ line_of answered reply.now ++ 10 ∷ []) }
     ensures err { OnErr result (output.new ≡ output.old) }
     ensures fault { IfErr result (λ fault. fault ≡ LineFault.NoMemory) }
 {
     match answered {
         Answered::Replied => {
-            output.line(hex::encode(alloc, reply.as_slice())?.as_str())?;
-            Ok(Did::Answered(reply))
+            output.hex_line(reply)?;
+            Ok(Did::Answered)
         }
         Answered::Closes => {
             output.line(CLOSE)?;

@@ -16,6 +16,7 @@ mod player;
 pub mod program;
 mod reasons;
 mod refusals;
+mod replier;
 pub mod reply;
 pub mod run;
 mod sentences;

@@ -2,7 +2,7 @@
 ghost use Rattle.scenario_lines.specs.Commands.{DoesReplyLine, IsReplyLine, new_interpreter};
 ghost use Rattle.scenario_text.specs.Runs.{RunsLines};
 
-use crate::interpreter::Interpreter;
+use crate::replier::Replier;
 use scenario_text::command_line::Telling;
 use scenario_text::driver;
 use std::alloc::Global;
@@ -25,6 +25,6 @@ pub fn reply_lines<R: Read, W: Write, E: Write>(
     ensures { RunsLines DoesReplyLine IsReplyLine (new_interpreter alloc) telling (R.remaining reader.old)
         (W.contents writer.old, W.contents writer.new) (E.contents faults.old, E.contents faults.new) result }
 {
-    let interpreter = Interpreter::new(alloc, hasher);
-    driver::run(alloc, interpreter, telling, reader, writer, faults)
+    let replier = Replier::new(alloc, hasher);
+    driver::run(alloc, replier, telling, reader, writer, faults)
 }

@@ -9,4 +9,4 @@ returns g c =
     subst
     (λ (first : Interpreter). RunsLines DoesReplyLine IsReplyLine first c.args.telling (g.R.Read.remaining c.args.reader.now)
     (g.W.Write.contents c.args.writer.now, g.W.Write.contents c.run.new.writer) (g.E.Write.contents c.args.faults.now, g.E.Write.contents c.run.new.faults) c.run.result)
-    c.new-interpreter.ensures c.run.ensures
+    c.new-replier.ensures c.run.ensures
