@@ -202,17 +202,34 @@ fn first_foreign(group: &Group, member: &str, topics: &[TopicPartitions<'_>]) ->
     None
 }
 
-/// UNRELEASED_INSTANCE_ID: of a new member, or of one that is there.
+/// UNRELEASED_INSTANCE_ID.
 fn unreleased(
     alloc: Global,
     group: Option<&Group>,
     message: &HeartbeatRequest<'_>,
 ) -> Result<String, AllocError> {
-    let instance = escaped(alloc, message.instance_id.unwrap_or_default())?;
-    if group.is_some_and(|group| group.epochs(message.member_id).is_some()) {
-        return format!(in alloc; "instance {instance} is another member's");
+    let id = message.instance_id.unwrap_or_default();
+    let instance = escaped(alloc, id)?;
+    match group.and_then(|group| holder(group, id)) {
+        Some(member) => {
+            let member = escaped(alloc, member)?;
+            format!(in alloc; "instance {instance} is member {member}'s")
+        }
+        None => format!(in alloc; "instance {instance} is another member's"),
     }
-    format!(in alloc; "instance {instance} is a member's that has not left with epoch -2")
+}
+
+/// The id of the member that has an instance id.
+fn holder<'a>(group: &'a Group, instance: &str) -> Option<&'a str> {
+    let records = group.records();
+    for rank in 0..records.len() {
+        if let Some((member, record)) = records.member_at(rank) {
+            if record.instance() == Some(instance) {
+                return Some(member.as_str());
+            }
+        }
+    }
+    None
 }
 
 /// UNSUPPORTED_ASSIGNOR.
@@ -238,7 +255,7 @@ fn of_commit(
         Code::UnknownMemberId => no_committer(alloc, node, message)?,
         Code::GroupIdNotFound => no_group(alloc, message.group_id)?,
         Code::StaleMemberEpoch => stale(alloc, node, message)?,
-        _ => of_partition(alloc, message, code, topic, place)?,
+        _ => of_partition(alloc, node, message, code, topic, place)?,
     };
     let reason = with_more(alloc, code, reason, refused_in(&reply).saturating_sub(1))?;
     numbered(alloc, code, reason.as_str())
@@ -315,6 +332,7 @@ fn stale(alloc: Global, node: &Node, message: &CommitRequest<'_>) -> Result<Stri
 /// UNKNOWN_TOPIC_OR_PARTITION and OFFSET_METADATA_TOO_LARGE, of the partition at this place of the request.
 fn of_partition(
     alloc: Global,
+    node: &Node,
     message: &CommitRequest<'_>,
     code: Code,
     topic: usize,
@@ -328,7 +346,10 @@ fn of_partition(
     };
     let (name, index) = (escaped(alloc, topic.name)?, partition.partition_index);
     if code == Code::UnknownTopicOrPartition {
-        return format!(in alloc; "there is no partition {index} of a topic {name}");
+        return match node.image().find(topic.name) {
+            Some(_) => format!(in alloc; "topic {name} has no partition {index}"),
+            None => format!(in alloc; "there is no topic {name}"),
+        };
     }
     let bytes = partition.committed_metadata.map_or(0, |text| text.len());
     format!(in alloc;
