@@ -1,9 +1,12 @@
 -- Which lines are requests.
-use Rattle.std.proofs.Common.{◌≡◌, ◌≢◌, ℕ, List, [], ◌∷◌, ◌++◌, All, Bool, false, get_or, None, codes, refl, sym, ap, ◌∙◌, subst, arith, append_assoc, take, drop, take-append-drop}
+use Rattle.std.proofs.Common.{◌≡◌, ◌≢◌, ℕ, List, [], ◌∷◌, ◌++◌, All, None, Bool, true, false, Ok, codes, refl, sym, ap, ◌∙◌, subst, arith, append_assoc, take, drop, take-append-drop}
 use Rattle.std.specs.Prelude.{IsErr}
 use Rattle.std.specs.List.{join_with_byte}
 use Rattle.std.proofs.lemmas.List.Elements.{All-nil, All-cons, All-head, All-tail}
 use Rattle.std.proofs.lemmas.List.Splits.{join_with_byte-slice_split}
+use Rattle.std.proofs.lemmas.Bool.{false≢true}
+use Rattle.std.proofs.lemmas.Slice.Eq.{bytes_eq-Decides}
+use Rattle.std.specs.Str.{bytes_eq}
 use Rattle.std.proofs.lemmas.Str.{IsUtf8-from_ascii}
 use Rattle.std.proofs.lemmas.Str.Ascii.{IsAscii-cons}
 use Rattle.hex.specs.Hex.{decode_of}
@@ -87,3 +90,8 @@ no_bare_request line words cut none (Stamped stamp, spelled) = absurd (omega (ar
 no_bare_request line words cut none (Request bytes, spelled) =
     none (spelled.0, sym (join_with_byte-slice_split 32 line) ∙ ap (join_with_byte 32) (cut ∙ spelled.1))
 no_bare_request line words cut none (Tick, spelled) = absurd (omega (arith, ap first_byte spelled))
+
+-- a line whose first bytes are those of `req ` is that and the others
+pub is_begun : (line digits : List ℕ) → bytes_eq (take 4 line) (codes "req ") ≡ true → digits ≡ drop 4 line → line ≡ codes "req " ++ digits
+is_begun line digits same rest =
+    sym (take-append-drop 4 line) ∙ ap (λ l. l ++ drop 4 line) ((bytes_eq-Decides (take 4 line) (codes "req ")).0 same) ∙ ap (λ l. codes "req " ++ l) (sym rest)
