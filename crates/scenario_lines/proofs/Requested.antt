@@ -27,7 +27,8 @@ IsGiven word = word ≢ []
 -- the digits behind `req` are the other word of a line
 request_line : (line digits bytes : List ℕ) → line ≡ codes "req " ++ digits → digits ≢ [] → decode_of digits ≡ Ok bytes → IsLine line
 request_line line digits bytes begins some spelled =
-    let ascii = IsAscii-cons 114 _ (omega arith) (IsAscii-cons 101 _ (omega arith) (IsAscii-cons 113 _ (omega arith) (IsAscii-cons 32 _ (omega arith) (digits_are_ascii digits bytes spelled)))) in
+    let ascii = IsAscii-cons 114 (101 ∷ 113 ∷ 32 ∷ digits) (omega arith) (IsAscii-cons 101 (113 ∷ 32 ∷ digits) (omega arith)
+    (IsAscii-cons 113 (32 ∷ digits) (omega arith) (IsAscii-cons 32 digits (omega arith) (digits_are_ascii digits bytes spelled)))) in
     let words : All IsGiven (codes "req" ∷ digits ∷ []) = All-cons IsGiven (codes "req") (digits ∷ []) (λ none. cc) (All-cons IsGiven digits [] some (All-nil _)) in
     record {
       text = rw begins (IsUtf8-from_ascii (codes "req " ++ digits) ascii);
