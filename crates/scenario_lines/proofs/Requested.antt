@@ -1,10 +1,9 @@
 -- Which lines are requests.
-use Rattle.std.proofs.Common.{◌≡◌, ◌≢◌, ℕ, List, [], ◌∷◌, ◌++◌, All, None, Bool, true, false, Ok, codes, refl, sym, ap, ◌∙◌, subst, arith, append_assoc, take, drop, take-append-drop}
+use Rattle.std.proofs.Common.{◌≡◌, ◌≢◌, ℕ, List, [], ◌∷◌, ◌++◌, All, None, true, Ok, codes, refl, sym, ap, ◌∙◌, subst, arith, append_assoc, take, drop, take-append-drop}
 use Rattle.std.specs.Prelude.{IsErr}
 use Rattle.std.specs.List.{join_with_byte}
 use Rattle.std.proofs.lemmas.List.Elements.{All-nil, All-cons, All-head, All-tail}
 use Rattle.std.proofs.lemmas.List.Splits.{join_with_byte-slice_split}
-use Rattle.std.proofs.lemmas.Bool.{false≢true}
 use Rattle.std.proofs.lemmas.Slice.Eq.{bytes_eq-Decides}
 use Rattle.std.specs.Str.{bytes_eq}
 use Rattle.std.proofs.lemmas.Str.{IsUtf8-from_ascii}
@@ -19,7 +18,7 @@ use Rattle.scenario_lines.specs.declared.stamps.Stamps.{Stamps}
 use Rattle.scenario_lines.specs.Stamps.{stamp_of}
 use Rattle.scenario_lines.proofs.Commanded.{first_byte}
 use Rattle.scenario_lines.specs.Requests.{BytesStep, PrintsAnswer, text_of}
-use Rattle.scenario_lines.specs.Commands.{BeginsRequest, DoesCommand, DoesReplyLine, Image, IsCommand, IsReplyLine, Now, Request, Stamped, Tick, one_more}
+use Rattle.scenario_lines.specs.Commands.{BeginsRequest, DoesReplyLine, Image, IsCommand, IsReplyLine, Now, Request, Stamped, Tick, one_more}
 
 abbrev IsGiven : List ℕ → Type 0
 IsGiven word = word ≢ []

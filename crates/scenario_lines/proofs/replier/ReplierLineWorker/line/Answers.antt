@@ -1,4 +1,4 @@
-use Rattle.std.proofs.Common.{◌≢◌, [], rules}
+use Rattle.std.proofs.Common.{◌≢◌, []}
 use Rattle.scenario_text.proofs.Digits.{is_not_empty}
 use Rattle.scenario_text.proofs.Reported.{on_ok_both}
 use Rattle.scenario_lines.proofs.Requested.{is_begun, no_request, request_done}
