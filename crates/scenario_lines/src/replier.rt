@@ -23,8 +23,11 @@ pub struct Replier {
 
 impl Model for Replier {
     ghost use Rattle.scenario_lines.specs.declared.interpreter.Interpreter.{Interpreter};
+    ghost use Rattle.scenario_lines.specs.contracts.interpreter.Interpreter.{the_row};
 
     ghost Value = { Interpreter };
+
+    ghost coded = { the_row.coded };
 
     ghost view = { λ replier. replier.interpreter };
 }
