@@ -1,7 +1,8 @@
 -- Which lines are requests.
-use Rattle.std.proofs.Common.{◌≡◌, ◌≢◌, ℕ, List, [], ◌∷◌, ◌++◌, All, None, true, Ok, codes, refl, sym, ap, ◌∙◌, subst, arith, append_assoc, take, drop, take-append-drop}
-use Rattle.std.specs.Prelude.{IsErr}
+use Rattle.std.proofs.Common.{◌≡◌, ◌≢◌, ℕ, suc, Bool, length, List, [], ◌∷◌, ◌++◌, All, None, true, Ok, codes, refl, sym, ap, ◌∙◌, subst, arith, append_assoc, take, drop, take-append-drop}
+use Rattle.std.specs.Prelude.{◌==◌, IsErr}
 use Rattle.std.specs.List.{join_with_byte}
+use Rattle.std.proofs.lemmas.Bool.Decides.{nat_tests}
 use Rattle.std.proofs.lemmas.List.Elements.{All-nil, All-cons, All-head, All-tail}
 use Rattle.std.proofs.lemmas.List.Splits.{join_with_byte-slice_split}
 use Rattle.std.proofs.lemmas.Slice.Eq.{bytes_eq-Decides}
@@ -75,6 +76,13 @@ no_bytes digits bad (Tick, spelled) = absurd (omega (arith, ap first_byte spelle
 pub no_request : (line digits : List ℕ) → line ≡ codes "req " ++ digits → IsErr (decode_of digits) → IsReplyLine line → ⊥
 no_request line digits begins bad is =
     no_bytes digits bad (subst (λ l. IsCommand (words_of l)) begins is.is_command)
+
+not_zero : (n : ℕ) → (suc n == 0) ≡ true → ⊥
+not_zero n is = grind (arith, nat_tests)
+
+pub no_digits : (digits : List ℕ) (answer : Bool) → answer ≡ (length digits == 0) → answer ≡ true → digits ≡ []
+no_digits [] answer says is = refl
+no_digits (d ∷ digits) answer says is = absurd (not_zero (length digits) (sym says ∙ is))
 
 -- and none at all don't
 pub no_empty_request : (line digits : List ℕ) → line ≡ codes "req " ++ digits → digits ≡ [] → IsReplyLine line → ⊥

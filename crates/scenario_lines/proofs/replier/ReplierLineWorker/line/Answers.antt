@@ -1,7 +1,7 @@
 use Rattle.std.proofs.Common.{◌≢◌, []}
 use Rattle.scenario_text.proofs.Digits.{is_not_empty}
 use Rattle.scenario_text.proofs.Reported.{on_ok_both}
-use Rattle.scenario_lines.proofs.Requested.{is_begun, no_request, request_done}
+use Rattle.scenario_lines.proofs.Requested.{is_begun, no_digits, no_empty_request, no_request, request_done}
 use Rattle.scenario_lines.proofs.replier.ReplierLineWorker.line.Goals as goal
 
 pub returns-clause-printed : goal.returns-clause-printed
@@ -20,3 +20,9 @@ pub returns-clause-refused : goal.returns-clause-refused
 returns-clause-refused c = λ bad is.
     let begun = is_begun c.args.line.now c.in-Some.digits.now c.in-Some.ensures.cases.0 c.in-Some.ensures.cases.1 in
     no_request c.args.line.now c.in-Some.digits.now begun (c.request.ensures.refused bad) is
+
+pub returns-then-is_empty-clause-refused : goal.returns-then-is_empty-clause-refused
+returns-then-is_empty-clause-refused c = λ bad is.
+    let digits = c.in-Some.digits.now in
+    let begun = is_begun c.args.line.now digits c.in-Some.ensures.cases.0 c.in-Some.ensures.cases.1 in
+    no_empty_request c.args.line.now digits begun (no_digits digits c.is_empty.result c.is_empty.ensures c.if-is_empty.true) is
