@@ -1,5 +1,5 @@
 -- A node's sections, one behind the other.
-use Rattle.std.proofs.Common.{◌≡◌, ℕ, zero, suc, ◌+◌, ◌-◌, ◌<◌, ◌≤◌, List, [], ◌∷◌, ◌++◌, length, length-drop, map, take, drop, get_or, Some, Ok, Err, All, refl, sym, ap, subst, ◌∙◌, append_assoc, append-nil, arith}
+use Rattle.std.proofs.Common.{◌≡◌, ℕ, zero, suc, ◌+◌, ◌-◌, ◌<◌, ◌≤◌, List, [], ◌∷◌, ◌++◌, length, length-append, length-drop, map, take, drop, get_or, Some, Ok, Err, All, refl, sym, ap, subst, ◌∙◌, append_assoc, append-nil, arith}
 use Rattle.std.specs.Prelude.{slice_get}
 use Rattle.std.specs.List.{flat_map, AllByRecursion}
 use Rattle.std.proofs.lemmas.List.{take_more, get_or-drop}
@@ -50,24 +50,35 @@ between_more sections from next x behind at =
     ap (λ n. take n (drop from sections)) one_more
     ∙ (take_more (drop from sections) (next - from) x left ∙ ap (λ y. between from next sections ++ y ∷ []) here)
 
--- the sections from one number up to the next are put behind the old bytes
-pub record ArePut (old now : List ℕ) (sections : List Section) (from next : ℕ) : Type 0 where
+-- the sections from one number up to the next are put behind the old bytes, each further one because there were too few bytes
+pub record ArePut (old now : List ℕ) (sections : List Section) (from size next : ℕ) : Type 0 where
   pub put : now ≡ old ++ flat_map section_fields (between from next sections)
   pub fits : All FitsSection (between from next sections)
+  pub short : suc from < next → length (flat_map section_fields (between from (next - 1) sections)) < size
   pub none : length sections ≤ from → next ≡ from
 
-pub none_put : (old : List ℕ) (sections : List Section) (from : ℕ) → ArePut old old sections from from
-none_put old sections from =
+pub none_put : (old : List ℕ) (sections : List Section) (from size : ℕ) → ArePut old old sections from size from
+none_put old sections from size =
     let none = between_none sections from in
     record {
       put = sym (append-nil old) ∙ ap (λ (l : List Section). old ++ flat_map section_fields l) (sym none);
       fits = subst (All FitsSection) (sym none) (All-from_recursion FitsSection [] tt);
+      short = λ further. absurd (omega (arith, further));
       none = λ past. refl;
     }
 
-pub one_put : {old now new : List ℕ} (sections : List Section) (from next : ℕ) (x : Section) → from ≤ next → slice_get sections next ≡ Some x
-    → ArePut old now sections from next → PutsUpTo (Ok tt) now new (FitsSection x) (section_fields x) → ArePut old new sections from (next + 1)
-one_put {old} {now} {new} sections from next x behind at before one =
+-- so few bytes are put as there are behind the old ones
+few_put : {old now : List ℕ} (sections : List Section) (from size next : ℕ) → ArePut old now sections from size next
+    → length now - length old < size → length (flat_map section_fields (between from next sections)) < size
+few_put {old} {now} sections from size next before few =
+    let both : length now ≡ length old + length (flat_map section_fields (between from next sections)) =
+    ap (λ (l : List ℕ). length l) before.put ∙ length-append old (flat_map section_fields (between from next sections)) in
+    omega (arith, both, few)
+
+pub one_put : {old now new : List ℕ} (sections : List Section) (from size next : ℕ) (x : Section) → from ≤ next → slice_get sections next ≡ Some x
+    → (from < next → length now - length old < size) → ArePut old now sections from size next
+    → PutsUpTo (Ok tt) now new (FitsSection x) (section_fields x) → ArePut old new sections from size (next + 1)
+one_put {old} {now} {new} sections from size next x behind at few before one =
     let more = between_more sections from next x behind at in
     let within = slice_get_within sections next x at in
     let done = between from next sections in
@@ -79,24 +90,29 @@ one_put {old} {now} {new} sections from next x behind at before one =
           ∙ (append_assoc old (flat_map section_fields done) (section_fields x)
           ∙ ap (λ (l : List ℕ). old ++ l) (sym (ap (flat_map section_fields) more ∙ bytes))));
       fits = subst (All FitsSection) (sym more) (All-push FitsSection done x before.fits one.fits);
+      short = λ further.
+          let same : next + 1 - 1 ≡ next = omega arith in
+          subst (λ n. length (flat_map section_fields (between from n sections)) < size) (sym same)
+          (few_put sections from size next before (few (omega (arith, further))));
       none = λ past. absurd (omega arith);
     }
 
 -- there are enough bytes
-pub enough_put : {old now : List ℕ} (sections : List Section) (from size next : ℕ) → ArePut old now sections from next → from < next
+pub enough_put : {old now : List ℕ} (sections : List Section) (from size next : ℕ) → ArePut old now sections from size next → from < next
     → next < length sections → size ≤ length now - length old → PutsSections (Ok next) old now sections from size
 enough_put sections from size next before behind within enough = record {
   put = before.put;
   fits = before.fits;
   next = λ some. (behind, omega arith);
   all = λ left. enough;
+  short = before.short;
   none = before.none;
   err = tt;
   fitting = λ all. tt;
 }
 
 -- none is left
-pub all_put : {old now : List ℕ} (sections : List Section) (from size next last : ℕ) → ArePut old now sections from next → length sections ≤ next
+pub all_put : {old now : List ℕ} (sections : List Section) (from size next last : ℕ) → ArePut old now sections from size next → length sections ≤ next
     → (from ≤ length sections → next ≤ length sections) → last ≡ next → PutsSections (Ok last) old now sections from size
 all_put {old} {now} sections from size next last before past within same =
     let puts : PutsSections (Ok next) old now sections from size = record {
@@ -104,6 +120,7 @@ all_put {old} {now} sections from size next last before past within same =
       fits = before.fits;
       next = λ some. let ends : next ≤ length sections = within (omega arith) in (omega arith, ends);
       all = λ left. absurd (omega arith);
+      short = before.short;
       none = before.none;
       err = tt;
       fitting = λ all. tt;
@@ -117,7 +134,7 @@ fits_at (s ∷ sections) (suc n) x at fits = fits_at sections n x at fits.1
 
 -- one could not be put
 pub stopped_put : {old now new : List ℕ} {e : SnapshotFault} (sections : List Section) (from size next : ℕ) (x : Section) → slice_get sections next ≡ Some x
-    → ArePut old now sections from next → PutsUpTo (Err e) now new (FitsSection x) (section_fields x)
+    → ArePut old now sections from size next → PutsUpTo (Err e) now new (FitsSection x) (section_fields x)
     → PutsSections (Err e) old (take (length old) new) sections from size
 stopped_put {old} {now} {new} {e} sections from size next x at before one =
     let done = between from next sections in
@@ -128,6 +145,7 @@ stopped_put {old} {now} {new} {e} sections from size next x at before one =
       fits = tt;
       next = tt;
       all = tt;
+      short = tt;
       none = tt;
       err = (both (Err e) former one).err;
       fitting = λ all. one.fitting (fits_at sections next x at (recursion_from_All FitsSection sections all));

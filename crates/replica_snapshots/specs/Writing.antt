@@ -1,5 +1,5 @@
 -- What a put does to the bytes written so far.
-use Rattle.std.specs.Prelude.{◌≡◌, ℕ, ◌-◌, ◌<◌, ◌≤◌, List, ◌++◌, length, take, All, Result, OnOk, OnErr, IfOk, IfErr, is_ok, if◌then◌else◌}
+use Rattle.std.specs.Prelude.{◌≡◌, ℕ, suc, ◌-◌, ◌<◌, ◌≤◌, List, ◌++◌, length, take, All, Result, OnOk, OnErr, IfOk, IfErr, is_ok, if◌then◌else◌}
 use Rattle.std.specs.List.{flat_map}
 use Rattle.replica_snapshots.specs.Nodes.{Section, section_fields, FitsSection, between}
 use Rattle.replica_snapshots.specs.declared.fault.SnapshotFault.{SnapshotFault}
@@ -19,13 +19,14 @@ pub record Puts (result : Result (Unit {0}) SnapshotFault) (old new : List ℕ) 
   pub fits : OnOk result Fits
   pub fitting : Fits → IfErr result (λ fault. fault ≡ NoMemory)
 
--- Sections are appended, from one number up to the next that is to be written: until there are so many bytes of them, or
+-- Sections are appended, from one number up to the next that is to be written: until there are so many bytes of them, and no further, or
 -- none is left; at least one, where one is left. Or no byte changes. Of sections that fit only the want of memory is in the way.
 pub record PutsSections (result : Result ℕ SnapshotFault) (old new : List ℕ) (sections : List Section) (from size : ℕ) : Type 0 where
   pub put : IfOk result (λ next. new ≡ old ++ flat_map section_fields (between from next sections))
   pub fits : IfOk result (λ next. All FitsSection (between from next sections))
   pub next : IfOk result (λ next. from < length sections → (from < next) × (next ≤ length sections))
   pub all : IfOk result (λ next. next < length sections → size ≤ length new - length old)
+  pub short : IfOk result (λ next. suc from < next → length (flat_map section_fields (between from (next - 1) sections)) < size)
   pub none : IfOk result (λ next. length sections ≤ from → next ≡ from)
   pub err : OnErr result (new ≡ old)
   pub fitting : All FitsSection sections → IfErr result (λ fault. fault ≡ NoMemory)
