@@ -25,5 +25,7 @@ pub use laws::{
 };
 pub use leading::Leading;
 pub use replica::Replica;
+pub use replica_entries::EntryFault;
 pub use replica_snapshots::SnapshotFault;
 pub use snapshot::Snapshot;
+pub use topic_meta::{ImageFault, TopicEntry};

@@ -16,6 +16,8 @@ mod writing;
 pub use entry::{Content, Entry, LoggedFrame};
 pub use fault::EntryFault;
 pub use flex_wire::WireFault;
+pub use group_types::Moment;
 pub use laws::{one_entry_a_run, one_run_an_entry};
 pub use reading::read_entry;
+pub use topic_meta::TopicEntry;
 pub use writing::put_entry;

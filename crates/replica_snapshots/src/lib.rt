@@ -19,7 +19,7 @@ mod place;
 mod reading;
 mod rewriting;
 
-pub use coord_node::Node;
+pub use coord_node::{Group, Image, Moment, Node};
 pub use fault::SnapshotFault;
 pub use flex_wire::WireFault;
 pub use group::{ReadGroup, put_group, read_group};

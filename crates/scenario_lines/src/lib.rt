@@ -28,4 +28,5 @@ mod story;
 mod told;
 mod verb;
 
+pub use scenario_text::command_line::Telling;
 pub use scenario_text::service::Service;
