@@ -27,9 +27,10 @@ returns-in-Err c =
 few_bytes : (c : goal.In_default) → c.args.from < c.loop-next.next
     → length c.loop-next.out.items - length c.args.out.now.items < c.args.size
 few_bytes c behind = elim c.else-from-next.branch [
-    else-from-next-via-then-from-next+else-size-len w ↦
-        omega (arith, w.if-size-len, w.len.ensures, c.len-before.ensures, c.args.out.now.ok.0)
-    | else-from-next-via-else-from-next w ↦ absurd (omega (arith, w.if-from-next, behind)) ]
+  | else-from-next-via-then-from-next+else-size-len w ↦
+      omega (arith, w.if-size-len, w.len.ensures, c.len-before.ensures, c.args.out.now.ok.0)
+  | else-from-next-via-else-from-next w ↦ absurd (omega (arith, w.if-from-next, behind))
+]
 
 pub loop-next-preserved : goal.loop-next-preserved
 loop-next-preserved c =
