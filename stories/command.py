@@ -6,7 +6,7 @@ import argparse
 import os
 import re
 import sys
-from typing import Callable, Iterable, Iterator, Optional
+from typing import Callable, Container, Iterable, Iterator, Optional
 
 from stories import picture, table
 from stories.capture import Captured
@@ -14,6 +14,9 @@ from stories.notation import Writer
 from stories.reading import NoScript, Output, lines_of, output_in, output_of
 from stories.recording import Recording
 from stories.story import Story, tell
+
+# A line that a story has and no script: a comment, or what is said of clients or of a topic.
+OF_STORY = re.compile(rb"\s*(#|[^ :]+( *, *[^ :]+)* *:\s)")
 
 
 def write_run(document: str) -> int:
@@ -39,14 +42,22 @@ def tell_run(document: str) -> int:
     asked = made.parse_args()
     wrong: list[bool] = []
 
-    def told() -> Iterable[str]:
-        it = story(asked)
+    def told() -> Iterator[str]:
+        try:
+            it = story(asked)
+        except NoScript as fault:
+            yield from () if asked.story else so_far(fault.writer, asked.lines)
+            raise
         wrong.append(asked.strict and table.is_wrong(it))
-        if asked.story:
-            return [*it.heads, "", *it.acts]
-        return table.part(it, asked.lines) if asked.lines else table.table(it)
+        yield from [*it.heads, "", *it.acts] if asked.story else table.part(it, asked.lines) if asked.lines else table.table(it)
 
     return run("tell-run", told) or int(any(wrong))
+
+
+def so_far(writer: Optional[Writer], lines: Container[str]) -> Iterator[str]:
+    """The table of a story up to the act that can't be done."""
+    if writer is not None and any(not line.startswith("client ") for line in writer.script):
+        yield from table.part(tell(writer.story, [line.encode() for line in writer.script], Output(), writer), lines)
 
 
 def tell_capture(document: str) -> int:
@@ -98,7 +109,7 @@ def parser(name: str, document: str) -> argparse.ArgumentParser:
 
 def add_script(made: argparse.ArgumentParser) -> None:
     """Words that name a script, and where its output comes from."""
-    made.add_argument("script", metavar="SCRIPT", help="lines for `coord run`, or a story where its name ends in .story; - is standard input")
+    made.add_argument("script", metavar="SCRIPT", help="lines for `coord run`, or a story; - is standard input")
     outputs = made.add_mutually_exclusive_group()
     outputs.add_argument("output", metavar="OUTPUT", nargs="?", help="what it printed; without it the rules in conformance/rules say so")
     outputs.add_argument("--program", metavar="PATH", help="runs PATH run over the script, and takes its output")
@@ -107,7 +118,7 @@ def add_script(made: argparse.ArgumentParser) -> None:
 def read(path: str) -> tuple[list[bytes], Optional[Writer]]:
     """The lines of a script, or those that a story stands for, with what has written them."""
     lines, writer = lines_of(path), None
-    if path.endswith(".story"):
+    if path.endswith(".story") or any(map(OF_STORY.match, lines)):
         writer = Writer(path)
         lines = [line.encode() for line in writer.write(lines)]
     return lines, writer
@@ -129,6 +140,7 @@ def run(name: str, lines: Callable[[], Iterable[str]]) -> int:
             sys.stdout.buffer.write(f"{line}\n".encode())
         sys.stdout.flush()
     except NoScript as wrong:
+        sys.stdout.flush()
         print(f"tools/{name}: {wrong}", file=sys.stderr)
         return 2
     except BrokenPipeError:

@@ -30,6 +30,7 @@ take b | there is no reply to "b" yet
 deliver x | "x" is neither a client nor a request; there are a, b
 beat a as x, take x | "x" is a request; did you mean "deliver x"?
 beat a as b | "b" is a client, or a message already
+release a | a is steady: only a member that has to revoke something and waits for no reply can release
 lose a | a is steady: only a client that waits for a reply can lose
 quit b leave | b is outside: only a member that waits for no reply, and away a static one, can quit
 commit a orders/0 100 | "commit a orders/0 100" isn't like "commit a orders/0 at 100"
@@ -53,6 +54,9 @@ tell-run --lines 5 examples/run/rebalance.txt | 0 | deliver a
 tell-run --lines 9-5 examples/run/rebalance.txt | 2 | '9-5' isn't like 3-9 or 5
 tell-run --lines 4-5 - < examples/run/rebalance.txt | 0 | deliver a
 write-run - < examples/run/rebalance.story | 0 | take 5
+tell-run --lines 5 - < examples/run/rebalance.story | 0 | take a
+tell-run --lines 10 <(sed '$a jion b' examples/run/rebalance.story) 2>/dev/null | 2 | gets t/1
+tell-run <(sed 's,^release a .*,release a,' examples/run/rebalance.story) | 0 | b is steady at epoch 2
 draw-run no-such-file | 2 | tools/draw-run: no-such-file: No such file or directory
 tell-capture README.md | 2 | neither like "record 1 SECONDS TOPIC.." nor a packet capture
 tell-capture --group h examples/capture/fenced.record | 2 | no heartbeat in it of the group h
