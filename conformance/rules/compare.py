@@ -207,7 +207,7 @@ def answer(tool: Tool, words: Sequence[str]) -> int:
     return 0
 
 
-def main(tool: Tool, doc: str, form: Tuple[str, Sequence[int], Callable[..., Iterable[str]]]) -> int:
+def main(tool: Tool, doc: str, form: Tuple[str, Sequence[int], Callable[..., Iterable[str]]] = ("", (), lambda: ())) -> int:
     """Does what the command line asks for: answer, check, or the tool's own form, with how many words it has, whose lines are printed."""
     first, words = (sys.argv[1:] or [""])[0], sys.argv[2:]
     try:
