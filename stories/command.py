@@ -84,7 +84,7 @@ def captured(asked: argparse.Namespace, wrong: list[bool]) -> Iterator[str]:
     unread = "heartbeats and commits of other versions or forms aren't read"
     for count, what in ((recording.unread, unread), (recording.lost, "lines or packets are missing or cut")):
         if count:
-            print(f"tools/tell-capture: {asked.file}: {count} {what}", file=sys.stderr)
+            print(f"{called('tell-capture')}: {asked.file}: {count} {what}", file=sys.stderr)
     if asked.script:
         yield from followed.replay.lines
     elif asked.picture:
@@ -103,8 +103,14 @@ def span(word: str) -> list[str]:
     return lines
 
 
+def called(name: str) -> str:
+    """What a tool is called by: tools/NAME of the repository is migwelun-NAME of a package."""
+    own = os.path.basename(sys.argv[0])
+    return own if own == f"migwelun-{name}" else f"tools/{name}"
+
+
 def parser(name: str, document: str) -> argparse.ArgumentParser:
-    return argparse.ArgumentParser(prog=f"tools/{name}", description=document, formatter_class=argparse.RawDescriptionHelpFormatter)
+    return argparse.ArgumentParser(prog=called(name), description=document, formatter_class=argparse.RawDescriptionHelpFormatter)
 
 
 def add_script(made: argparse.ArgumentParser) -> None:
@@ -141,7 +147,7 @@ def run(name: str, lines: Callable[[], Iterable[str]]) -> int:
         sys.stdout.flush()
     except NoScript as wrong:
         sys.stdout.flush()
-        print(f"tools/{name}: {wrong}", file=sys.stderr)
+        print(f"{called(name)}: {wrong}", file=sys.stderr)
         return 2
     except BrokenPipeError:
         # Whoever read the lines has ended.
