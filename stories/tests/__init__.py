@@ -63,6 +63,7 @@ tell-capture --group h examples/capture/fenced.record | 2 | no heartbeat in it o
 tell-capture <(awk 'NR == 1 || $1 > 5' examples/capture/fenced.record) orders:aaaaaaaa-0000-4000-8000-000000000001:4 | 0 | left out: 3
 tell-capture --strict examples/capture/two-holders.record | 1 | heartbeats that bring nothing new
 tell-run --strict examples/run/rebalance.txt <(sed '6s,-$,11111111-1111-1111-1111-111111111111/1,' examples/run/rebalance.out) | 1 | b is steady
+tell-run --lines 5 <(printf 't: 2 partitions\\na: group g\\njoin a, deliver, lose\\njoin a, deliver, take\\nwait 45 s\\n') | 0 | 2 members removed, 1 of them no client's
 tell-run --lines 12 examples/run/stray-commit.story | 0 | but it doesn't hold t/1
 tell-run --strict examples/run/stray-commit.story | 0 | b is steady at epoch 2
 tell-run --strict cases/run/a-client-that-nobody-named-is-refused.in | 1 | is
