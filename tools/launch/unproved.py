@@ -75,7 +75,8 @@ def progress_of(step: str, seconds: float, behind: float = 0) -> Iterator[None]:
     def tell() -> None:
         while not ended.wait(BETWEEN):
             took = time.monotonic() - began
-            build.say(f"{step} for {took:.0f} s; {progress.about(max(seconds - took, 0) + behind * max(took / seconds, 1))} left")
+            left = max(seconds - took, 0) + behind * max(took / seconds, 1)
+            build.say(f"{step} for {took:.0f} s" + f"; {progress.about(left)} left" * (left > 0))
 
     threading.Thread(target=tell, daemon=True).start()
     try:
