@@ -76,7 +76,7 @@ def parse(words: List[str]) -> Options:
 
 def _parser() -> Parser:
     parser = Parser(
-        prog=os.environ.get("BROKER_NAME", "python3 -m broker"),
+        prog=os.environ.get("PROGRAM_NAME", "python3 -m broker"),
         description="Plays the rest of a Kafka broker in front of `coord serve`, so that stock consumers can use it.",
     )
     parser.add_argument(
@@ -91,10 +91,10 @@ def _parser() -> Parser:
     )
     _add_those_of_etcd(parser)
     parser.add_argument(
-        "--library", default=str(LIBRARY), metavar="PATH", help="the library that --embedded and --etcd load, as tools/build-library makes it"
+        "--library", default=str(LIBRARY), metavar="PATH", help="the library that --embedded and --etcd load (that of this repository or package)"
     )
     parser.add_argument(
-        "--program", default=str(LAUNCHER), metavar="PATH", help="the program coord that --start starts (the launcher of this repository)"
+        "--program", default=str(LAUNCHER), metavar="PATH", help="the program coord that --start starts (that of this repository or package)"
     )
     parser.add_argument(
         "--port", type=_port, help="clients' port of 127.0.0.1, the first of as many as brokers; 0 is a free one each; with --etcd by default that of --advertise, there"
@@ -102,7 +102,7 @@ def _parser() -> Parser:
     parser.add_argument("--status", type=_port, metavar="PORT", help="port of 127.0.0.1 for the page /, /groups and /metrics")
     parser.add_argument("--rate", type=_rate, default=2.0, metavar="R", help="records a second in each partition (%(default)g)")
     parser.add_argument("--records", type=_records, default=0, metavar="N", help="records in each partition from the start (%(default)d)")
-    parser.add_argument("--record", metavar="FILE", help="writes all frames to this file, with their times; README.md has its form")
+    parser.add_argument("--record", metavar="FILE", help="writes all frames to this file, with their times; broker/README.md has its form")
     parser.add_argument("topics", nargs="+", type=_topic, metavar="NAME:UUID:COUNT", help="a topic: its name, id and number of partitions")
     return parser
 

@@ -7,13 +7,13 @@ the coordinator says that it doesn't know it, when it leaves, or when it has sai
 from __future__ import annotations
 
 import dataclasses
-from typing import Callable, Dict, FrozenSet, Iterable, List, Optional, Tuple
+from typing import Callable, Dict, FrozenSet, Iterable, Iterator, List, Optional, Tuple
 
 from broker import codes
 from broker.heartbeats import AWAY, JOIN, LEAVE, Asked, ById, Steady, Told
 from broker.partitions import NOTHING, Partitions, union
 from broker.topics import Topics
-from broker.words import in_words, names_in_words, plain
+from broker.words import in_words, names_in_words, plain, short_id
 
 SESSION_SECONDS = 45.0
 # After this time without a change, of three heartbeats, members that could be assigned more are taken to wait for it.
@@ -164,12 +164,32 @@ class Groups:
         return self._change(group, member.id, member.epoch, phrases, now) if phrases else None
 
     def _refused(self, asked: Asked, code: int, now: float) -> Change:
-        group = self.groups.get(asked.group)
+        group, phrases = self.groups.get(asked.group), [codes.name(code), *self._why(asked, code)]
         if group and asked.member in group.members and code in (codes.UNKNOWN_MEMBER_ID, codes.FENCED_MEMBER_EPOCH):
             # The member gives up all that it has, and joins again.
             self._remove(group, asked.member)
-            return self._change(group, asked.member, asked.epoch, [codes.name(code)], now)
-        return Change(asked.group, asked.member, asked.epoch, [codes.name(code)])
+            return self._change(group, asked.member, asked.epoch, phrases, now)
+        return Change(asked.group, asked.member, asked.epoch, phrases)
+
+    def _why(self, asked: Asked, code: int) -> Iterator[str]:
+        """The other side of a refusal, as far as it is known."""
+        if code == codes.FENCED_MEMBER_EPOCH:
+            yield from self.other_epoch(asked.group, asked.member, asked.epoch)
+        elif code == codes.UNRELEASED_INSTANCE_ID:
+            members = self.groups[asked.group].members.values() if asked.group in self.groups else ()
+            yield from (f"instance {plain(it.instance)} is {short_id(it.id)}'s" for it in members if it.instance and it.instance == asked.instance)
+        elif code == codes.UNSUPPORTED_ASSIGNOR:
+            yield f"the assignor {plain(asked.assignor or '')} is neither range nor uniform"
+        elif code == codes.INVALID_REQUEST and asked.epoch == JOIN and asked.names is None:
+            yield "its topic names are null in a join"
+        elif code == codes.INVALID_REQUEST and asked.regex:
+            yield "regular expressions are not supported"
+
+    def other_epoch(self, group: str, member: str, epoch: int) -> Iterator[str]:
+        """At which epoch a member is, where that isn't this one."""
+        known = self.groups[group].members.get(member) if group in self.groups else None
+        if known is not None and known.epoch != epoch:
+            yield f"the member is at {known.epoch}"
 
     def _left(self, asked: Asked, now: float) -> Optional[Change]:
         group = self.groups.get(asked.group)

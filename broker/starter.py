@@ -67,7 +67,12 @@ async def _start(program: str, port: int, topics: Topics) -> Started:
     started = Started(program, process, Coordinator(HOST, port))
     try:
         assert process.stdout is not None
-        if await process.stdout.readline() != f"listening {port}\n".encode():
+        line = await process.stdout.readline()
+        if not line:
+            # Its end is taken here, since asyncio says something of one that a signal comes upon first.
+            with contextlib.suppress(asyncio.TimeoutError):
+                await within(END_SECONDS, process.wait())
+        if line != f"listening {port}\n".encode():
             raise Ended(f"{program} serve ended before it listened")
         return started
     except BaseException:

@@ -63,8 +63,10 @@ class Watch:
         for code, count in sorted(collections.Counter(result.code for result in results).items()):
             self.commits.add(_labels(code), count)
             if code != codes.NONE:
-                phrase = f"{codes.name(code)}: its commit of {in_words(_of_code(results, code))}"
-                self._changed(Change(asked.group, asked.member, asked.epoch, [phrase]))
+                phrases = [f"{codes.name(code)}: its commit of {in_words(_of_code(results, code))}"]
+                if code == codes.STALE_MEMBER_EPOCH:
+                    phrases += self.groups.other_epoch(asked.group, asked.member, asked.epoch)
+                self._changed(Change(asked.group, asked.member, asked.epoch, phrases))
 
     def answered(self, api: str, seconds: float) -> None:
         self.seconds.observe(seconds, (("api", api),))

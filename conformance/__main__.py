@@ -29,7 +29,7 @@ class Parser(argparse.ArgumentParser):
 
 def parser() -> Parser:
     words = Parser(
-        prog="python3 -m conformance",
+        prog=os.environ.get("PROGRAM_NAME", "python3 -m conformance"),
         description="Plays members of KIP-848 consumer groups against a broker, and judges its replies by the protocol.",
     )
     words.add_argument("address", nargs="?", type=address_of, metavar="HOST:PORT", help="the broker, or one of its cluster")

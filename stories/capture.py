@@ -139,7 +139,7 @@ class Captured:
         new = [at for at, it in enumerate(now) if it.is_removed and not self.standings[at].is_removed]
         if new:
             self.standings = tuple(dataclasses.replace(it, is_removed=it.is_removed or at in new) for at, it in enumerate(self.standings))
-            self.steps.append(self.row(self.replay.ticked, events.Ticked(self.replay.ticked, len(new))))
+            self.steps.append(self.row(self.replay.ticked, events.Ticked(self.replay.ticked, len(new), 0)))
         elif moment - self.shown >= PAUSE:
             self.steps.append(self.row(moment, events.ClockSet(moment - moment % 100)))
         self.standings = now

@@ -6,7 +6,7 @@ import argparse
 import os
 import re
 import sys
-from typing import Callable, Iterable, Iterator, Optional
+from typing import Callable, Container, Iterable, Iterator, Optional
 
 from stories import picture, table
 from stories.capture import Captured
@@ -14,6 +14,9 @@ from stories.notation import Writer
 from stories.reading import NoScript, Output, lines_of, output_in, output_of
 from stories.recording import Recording
 from stories.story import Story, tell
+
+# A line that a story has and no script: a comment, or what is said of clients or of a topic.
+OF_STORY = re.compile(rb"\s*(#|[^ :]+( *, *[^ :]+)* *:\s)")
 
 
 def write_run(document: str) -> int:
@@ -39,14 +42,22 @@ def tell_run(document: str) -> int:
     asked = made.parse_args()
     wrong: list[bool] = []
 
-    def told() -> Iterable[str]:
-        it = story(asked)
+    def told() -> Iterator[str]:
+        try:
+            it = story(asked)
+        except NoScript as fault:
+            yield from () if asked.story else so_far(fault.writer, asked.lines)
+            raise
         wrong.append(asked.strict and table.is_wrong(it))
-        if asked.story:
-            return [*it.heads, "", *it.acts]
-        return table.part(it, asked.lines) if asked.lines else table.table(it)
+        yield from [*it.heads, "", *it.acts] if asked.story else table.part(it, asked.lines) if asked.lines else table.table(it)
 
     return run("tell-run", told) or int(any(wrong))
+
+
+def so_far(writer: Optional[Writer], lines: Container[str]) -> Iterator[str]:
+    """The table of a story up to the act that can't be done."""
+    if writer is not None and any(not line.startswith("client ") for line in writer.script):
+        yield from table.part(tell(writer.story, [line.encode() for line in writer.script], Output(), writer), lines)
 
 
 def tell_capture(document: str) -> int:
@@ -73,7 +84,7 @@ def captured(asked: argparse.Namespace, wrong: list[bool]) -> Iterator[str]:
     unread = "heartbeats and commits of other versions or forms aren't read"
     for count, what in ((recording.unread, unread), (recording.lost, "lines or packets are missing or cut")):
         if count:
-            print(f"tools/tell-capture: {asked.file}: {count} {what}", file=sys.stderr)
+            print(f"{called('tell-capture')}: {asked.file}: {count} {what}", file=sys.stderr)
     if asked.script:
         yield from followed.replay.lines
     elif asked.picture:
@@ -92,13 +103,19 @@ def span(word: str) -> list[str]:
     return lines
 
 
+def called(name: str) -> str:
+    """What a tool is called by: tools/NAME of the repository is migwelun-NAME of a package."""
+    own = os.path.basename(sys.argv[0])
+    return own if own == f"migwelun-{name}" else f"tools/{name}"
+
+
 def parser(name: str, document: str) -> argparse.ArgumentParser:
-    return argparse.ArgumentParser(prog=f"tools/{name}", description=document, formatter_class=argparse.RawDescriptionHelpFormatter)
+    return argparse.ArgumentParser(prog=called(name), description=document, formatter_class=argparse.RawDescriptionHelpFormatter)
 
 
 def add_script(made: argparse.ArgumentParser) -> None:
     """Words that name a script, and where its output comes from."""
-    made.add_argument("script", metavar="SCRIPT", help="lines for `coord run`, or a story where its name ends in .story; - is standard input")
+    made.add_argument("script", metavar="SCRIPT", help="lines for `coord run`, or a story; - is standard input")
     outputs = made.add_mutually_exclusive_group()
     outputs.add_argument("output", metavar="OUTPUT", nargs="?", help="what it printed; without it the rules in conformance/rules say so")
     outputs.add_argument("--program", metavar="PATH", help="runs PATH run over the script, and takes its output")
@@ -107,7 +124,7 @@ def add_script(made: argparse.ArgumentParser) -> None:
 def read(path: str) -> tuple[list[bytes], Optional[Writer]]:
     """The lines of a script, or those that a story stands for, with what has written them."""
     lines, writer = lines_of(path), None
-    if path.endswith(".story"):
+    if path.endswith(".story") or any(map(OF_STORY.match, lines)):
         writer = Writer(path)
         lines = [line.encode() for line in writer.write(lines)]
     return lines, writer
@@ -129,7 +146,8 @@ def run(name: str, lines: Callable[[], Iterable[str]]) -> int:
             sys.stdout.buffer.write(f"{line}\n".encode())
         sys.stdout.flush()
     except NoScript as wrong:
-        print(f"tools/{name}: {wrong}", file=sys.stderr)
+        sys.stdout.flush()
+        print(f"{called(name)}: {wrong}", file=sys.stderr)
         return 2
     except BrokenPipeError:
         # Whoever read the lines has ended.

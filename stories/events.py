@@ -49,7 +49,8 @@ Committed = NamedTuple("Committed", [("client", int), ("commit", int), ("places"
 # The topics by their ids, each with the number of its partitions.
 ImageSet = NamedTuple("ImageSet", [("topics", List[Tuple[bytes, int]])])
 ClockSet = NamedTuple("ClockSet", [("moment", int)])
-Ticked = NamedTuple("Ticked", [("moment", int), ("removed", int)])
+# Of the removed members some may be no client's: their joins were answered, and the reply was lost.
+Ticked = NamedTuple("Ticked", [("moment", int), ("removed", int), ("strangers", int)])
 # Three rounds in which no message is lost.
 Settled = NamedTuple("Settled", [])
 Refused = NamedTuple("Refused", [("fault", int)])

@@ -42,7 +42,7 @@ ONLY = {
     "beat": "a member that waits for no reply",
     "quit": "a member that waits for no reply, and away a static one,",
     "lose": "a client that waits for a reply",
-    "release": "a client that is releasing and waits for no reply",
+    "release": "a member that has to revoke something and waits for no reply",
     "commit": "a member",
 }
 REBALANCE = 60_000
@@ -221,7 +221,9 @@ class Writer(Notation):
             try:
                 add(text)
             except (Unclear, BadLine) as wrong:
-                raise NoScript(f"{self.story}, line {self.number}: {wrong}") from None
+                fault = NoScript(f"{self.story}, line {self.number}: {wrong}")
+                fault.writer = self
+                raise fault from None
 
     def add_clients(self, text: str, known: list[str]) -> None:
         """Clients whose names are before the colon, with what is said behind it."""
@@ -255,6 +257,8 @@ class Writer(Notation):
                 of = words[1] if self.client(words[1]) else ""
             if words[0] == "settle" and (words[1:] or not (self.rules.world and self.rules.world.can_settle())):
                 self.settle(words[1:])
+            elif words[0] == "release" and len(words) == 2:
+                self.release(self.known(words[1]))
             else:
                 made = self.play(self.line(" ".join(words)), words[0] == "run")
                 if name:
@@ -282,6 +286,14 @@ class Writer(Notation):
         waits = f" and waits for a reply (take {client.name}, or lose {client.name}, ends that)" if client.waits else ""
         return f"{client.name} is {client.state()}{waits}: only {ONLY[words[0]]} can {words[0]}"
 
+    def release(self, client: Client, may_be_nothing: bool = False) -> None:
+        """A client stops reading all that it has to revoke."""
+        revoked = sorted(client.own - client.shown)
+        if not (revoked or may_be_nothing):
+            raise Unclear(self.why(["release", client.name], WRONG_STATE))
+        for topic, index in revoked:
+            self.play(f"release {client.name} {uuid.UUID(bytes=topic)} {index}")
+
     def settle(self, names: list[str]) -> None:
         """Rounds in which no message is lost, act by act, as long as something changes: of some clients, or of all that are members."""
         world = self.rules.world
@@ -293,8 +305,7 @@ class Writer(Notation):
             for it in clients:
                 for act in ("beat {} full", "deliver {}", "take {}"):
                     self.play(self.line(act.format(it.name)))
-                for topic, index in sorted(it.own - it.shown):
-                    self.play(f"release {it.name} {uuid.UUID(bytes=topic)} {index}")
+                self.release(it, may_be_nothing=True)
             if before == [(it.epoch, it.own) for it in clients]:
                 return
 

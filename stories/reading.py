@@ -32,7 +32,9 @@ REPORT = f"({STATE}) (\\S+) {NUMBER} ({SET})"
 
 
 class NoScript(Exception):
-    """Why something is no script, or no output of it."""
+    """Why something is no script, or no output of it; and where a story breaks off, what has written it up to there."""
+
+    writer = None
 
 
 class Reported(NamedTuple):

@@ -111,6 +111,8 @@ class Teller:
         self.commits: dict[int, Message] = {}
         # How often time has passed, the topics by their names, and whether the output has agreed with the rules so far.
         self.time, self.agrees = 0, True
+        # How many of the members that a tick has removed are no client's.
+        self.strangers = 0
         self.topics: names.Image = {}
 
     # -- lines
@@ -121,6 +123,7 @@ class Teller:
             text = " ".join(words_of(line))
             if not text.startswith("client "):
                 self.telling.say(text)
+            before = self.members() if text.startswith("tick ") else set()
             ruled = self.rules.line(line)
         except BadLine as bad:
             raise NoScript(f"{self.path}, line {number}: {'it ends in a carriage return' if line.endswith(CR) else bad}") from None
@@ -133,6 +136,8 @@ class Teller:
         word, *words = text.split(" ")
         found, agrees = self.output.next(f"{REFUSED}|{PRINTED[word]}", f"line {number}", ruled)
         self.agrees = self.agrees and agrees
+        strangers = before and before - self.members() - {(it.group, it.id) for it in self.rules.clients}
+        self.strangers = len(strangers) if self.agrees else 0
         try:
             event = events.Refused(int(found[1])) if found[1] else self.event(word, words, [it or "" for it in found.groups()[1:]])
         except (KeyError, StopIteration):
@@ -140,6 +145,11 @@ class Teller:
         removed = [self.agrees and is_removed(self.rules.world, client) for client in self.rules.clients]
         self.standings = tuple(map(standing_of, self.clients, self.standings, removed))
         return event, self.standings
+
+    def members(self) -> set[tuple[str, str]]:
+        """All members by their groups and ids."""
+        groups = self.rules.world.node.groups if self.rules.world else {}
+        return {(name, it) for name, group in groups.items() for it in group.records}
 
     def event(self, word: str, words: list[str], found: list[str]) -> Event:
         if word in ("deliver", "take", "bring"):
@@ -151,7 +161,7 @@ class Teller:
             return events.ImageSet([*self.topics.values()])
         if word in ("clock", "tick"):
             self.time += 1
-            return events.Ticked(int(words[0]), int(found[0])) if word == "tick" else events.ClockSet(int(words[0]))
+            return events.Ticked(int(words[0]), int(found[0]), self.strangers) if word == "tick" else events.ClockSet(int(words[0]))
         at = next(at for at, client in enumerate(self.clients) if client.name == words[0])
         return self.client_acts(at, word, words[1:], found)
 

@@ -115,7 +115,9 @@ class Phrases:
         return [(f"it is {self.event.moment / 1_000:.12g} s", TOLD)]
 
     def told_ticked(self) -> Label:
-        return [(f"it is {self.event.moment / 1_000:.12g} s, {counted(self.event.removed, 'member')} removed", TOLD)]
+        all_removed, strangers = self.event.removed, self.event.strangers
+        of_them = f", {strangers} of them no client's" if strangers < all_removed else ", no client's"
+        return [(f"it is {self.event.moment / 1_000:.12g} s, {counted(all_removed, 'member')} removed" + of_them * bool(strangers), TOLD)]
 
     def told_settled(self) -> Label:
         return [("three rounds of full heartbeats, none of them lost", TOLD)]

@@ -111,12 +111,30 @@ class Groups(unittest.TestCase):
         self.assertEqual(
             it.lines,
             [
-                "g  000002  epoch 1  STALE_MEMBER_EPOCH: its commit of orders[1]",
+                "g  000002  epoch 1  STALE_MEMBER_EPOCH: its commit of orders[1]; the member is at 2",
                 "g  000001  epoch 2  UNKNOWN_MEMBER_ID",
                 "g  x\\u000a  epoch 7  FENCED_MEMBER_EPOCH",
                 "g  000002  epoch 2  leaves",
                 "g  000003  epoch 4  joins; subscribes orders; is assigned orders[0..1]",
                 "g  000003  epoch 4  said nothing for 45 s: its session is over",
+            ],
+        )
+
+    def test_refusals_with_what_is_known_of_the_member(self) -> None:
+        it = Conversation()
+        it.join(0, A, 1, of_orders(0, 1), instance="i")
+        it.lines.clear()
+        it.beat(1, "", 0, Told(111), names=["orders"], instance="i")
+        it.beat(2, "", 0, Told(112), names=["orders"], assignor="sticky")
+        it.beat(3, "", 0, Told(42))
+        it.beat(4, A, 7, Told(110))
+        self.assertEqual(
+            it.lines,
+            [
+                "g  -  epoch 0  UNRELEASED_INSTANCE_ID; instance i is 000001's",
+                "g  -  epoch 0  UNSUPPORTED_ASSIGNOR; the assignor sticky is neither range nor uniform",
+                "g  -  epoch 0  INVALID_REQUEST; its topic names are null in a join",
+                "g  000001  epoch 7  FENCED_MEMBER_EPOCH; the member is at 1",
             ],
         )
 

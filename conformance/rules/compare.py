@@ -7,6 +7,7 @@ from __future__ import annotations
 
 import argparse
 import dataclasses
+import os
 import random
 import signal
 import subprocess
@@ -49,6 +50,11 @@ class Tool:
     lines: int = 120
     scripts: int = 200
     command: Sequence[str] = ()
+
+    def called(self) -> str:
+        """What the tool is called by: tools/NAME of the repository is migwelun-NAME of a package."""
+        own = os.path.basename(sys.argv[0])
+        return own if own == f"migwelun-{self.name}" else f"tools/{self.name}"
 
     def answers(self, lines: Lines) -> List[Tuple[int, str]]:
         """What is printed for lines, each with the number of its line, and 0 for the report."""
@@ -170,7 +176,7 @@ def cut(text: str) -> str:
 
 def check(tool: Tool, words: Sequence[str]) -> int:
     """Compares a program over random scripts. The status is 2 where it can't be started."""
-    parser = argparse.ArgumentParser(prog=f"tools/{tool.name} check")
+    parser = argparse.ArgumentParser(prog=f"{tool.called()} check")
     for name, number in (("seed", SEED), ("scripts", tool.scripts), ("lines", tool.lines)):
         parser.add_argument(f"--{name}", type=int, default=number)
     parser.add_argument("program", nargs=argparse.REMAINDER)
@@ -181,7 +187,7 @@ def check(tool: Tool, words: Sequence[str]) -> int:
     try:
         return tool.compare(asked.seed, asked.scripts, asked.lines)
     except (OSError, ValueError) as why:
-        print(f"{tool.name}: {asked.program[0]} can't be started: {getattr(why, 'strerror', None) or why}", file=sys.stderr)
+        print(f"{tool.called()}: {asked.program[0]} can't be started: {getattr(why, 'strerror', None) or why}", file=sys.stderr)
         return 2
     except KeyboardInterrupt:
         return 128 + signal.SIGINT
@@ -207,7 +213,7 @@ def answer(tool: Tool, words: Sequence[str]) -> int:
     return 0
 
 
-def main(tool: Tool, doc: str, form: Tuple[str, Sequence[int], Callable[..., Iterable[str]]]) -> int:
+def main(tool: Tool, doc: str, form: Tuple[str, Sequence[int], Callable[..., Iterable[str]]] = ("", (), lambda: ())) -> int:
     """Does what the command line asks for: answer, check, or the tool's own form, with how many words it has, whose lines are printed."""
     first, words = (sys.argv[1:] or [""])[0], sys.argv[2:]
     try:
@@ -219,7 +225,7 @@ def main(tool: Tool, doc: str, form: Tuple[str, Sequence[int], Callable[..., Ite
             print(*form[2](*map(int, words)), sep="\n")
             return 0
     except OSError as why:
-        sys.exit(f"tools/{tool.name}: {why.filename}: {why.strerror}" if why.filename else f"tools/{tool.name}: {why}")
-    is_asked = first in ("-h", "--help")
+        sys.exit(f"{tool.called()}: {why.filename}: {why.strerror}" if why.filename else f"{tool.called()}: {why}")
+    is_asked, doc = first in ("-h", "--help"), doc.replace(f"tools/{tool.name}", tool.called())
     print(doc.strip() if is_asked else doc.split("\n\n")[1], file=sys.stdout if is_asked else sys.stderr)
     return 0 if is_asked else 2

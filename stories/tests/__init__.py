@@ -30,6 +30,7 @@ take b | there is no reply to "b" yet
 deliver x | "x" is neither a client nor a request; there are a, b
 beat a as x, take x | "x" is a request; did you mean "deliver x"?
 beat a as b | "b" is a client, or a message already
+release a | a is steady: only a member that has to revoke something and waits for no reply can release
 lose a | a is steady: only a client that waits for a reply can lose
 quit b leave | b is outside: only a member that waits for no reply, and away a static one, can quit
 commit a orders/0 100 | "commit a orders/0 100" isn't like "commit a orders/0 at 100"
@@ -53,12 +54,16 @@ tell-run --lines 5 examples/run/rebalance.txt | 0 | deliver a
 tell-run --lines 9-5 examples/run/rebalance.txt | 2 | '9-5' isn't like 3-9 or 5
 tell-run --lines 4-5 - < examples/run/rebalance.txt | 0 | deliver a
 write-run - < examples/run/rebalance.story | 0 | take 5
+tell-run --lines 5 - < examples/run/rebalance.story | 0 | take a
+tell-run --lines 10 <(sed '$a jion b' examples/run/rebalance.story) 2>/dev/null | 2 | gets t/1
+tell-run <(sed 's,^release a .*,release a,' examples/run/rebalance.story) | 0 | b is steady at epoch 2
 draw-run no-such-file | 2 | tools/draw-run: no-such-file: No such file or directory
 tell-capture README.md | 2 | neither like "record 1 SECONDS TOPIC.." nor a packet capture
 tell-capture --group h examples/capture/fenced.record | 2 | no heartbeat in it of the group h
 tell-capture <(awk 'NR == 1 || $1 > 5' examples/capture/fenced.record) orders:aaaaaaaa-0000-4000-8000-000000000001:4 | 0 | left out: 3
 tell-capture --strict examples/capture/two-holders.record | 1 | heartbeats that bring nothing new
 tell-run --strict examples/run/rebalance.txt <(sed '6s,-$,11111111-1111-1111-1111-111111111111/1,' examples/run/rebalance.out) | 1 | b is steady
+tell-run --lines 5 <(printf 't: 2 partitions\\na: group g\\njoin a, deliver, lose\\njoin a, deliver, take\\nwait 45 s\\n') | 0 | 2 members removed, 1 of them no client's
 tell-run --lines 12 examples/run/stray-commit.story | 0 | but it doesn't hold t/1
 tell-run --strict examples/run/stray-commit.story | 0 | b is steady at epoch 2
 tell-run --strict cases/run/a-client-that-nobody-named-is-refused.in | 1 | is

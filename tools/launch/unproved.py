@@ -69,13 +69,14 @@ def compile_module(copied: crates.Tree, folder: str, translated: float) -> bool:
 
 @contextlib.contextmanager
 def progress_of(step: str, seconds: float, behind: float = 0) -> Iterator[None]:
-    """Says how long a step takes on, and those behind it."""
+    """Says how long a step takes on, and those behind it, which take longer where this one does."""
     ended, began = threading.Event(), time.monotonic()
 
     def tell() -> None:
         while not ended.wait(BETWEEN):
             took = time.monotonic() - began
-            build.say(f"{step} for {took:.0f} s; {progress.about(max(seconds - took, 0) + behind)} left")
+            left = max(seconds - took, 0) + behind * max(took / seconds, 1)
+            build.say(f"{step} for {took:.0f} s" + f"; {progress.about(left)} left" * (left > 0))
 
     threading.Thread(target=tell, daemon=True).start()
     try:

@@ -108,11 +108,11 @@ def of_options(version: str, seconds: int) -> Files:
     found += [(options.read(f"coord {it}", ANSWERS[it, "--help"]), manual.section(document, f"`coord {it}`")) for it in SUBCOMMANDS]
     for name, (path, titles) in PROGRAMS.items():
         command = f"migwelun-{name}"
-        words = {**os.environ, "COLUMNS": "1000", "BROKER_NAME": command}
+        words = {**os.environ, "COLUMNS": "1000", "PROGRAM_NAME": command}
         ran = subprocess.run([sys.executable, "-B", "-m", name, "--help"], cwd=TOP, env=words, stdout=subprocess.PIPE, text=True, check=True)
         text = as_installed((TOP / path).read_text())
         part = "".join(manual.section(text, it) for it in titles) or text.partition("\n")[2]
-        found.append((options.read(command, ran.stdout.replace(f"python3 -m {name}", command)), part))
+        found.append((options.read(command, ran.stdout), part))
     pages = {it.command.replace(" ", "-"): (it, part) for it, part in found}
     files: Files = {}
     for own, (it, part) in pages.items():
