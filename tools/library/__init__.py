@@ -1,7 +1,6 @@
 """Checks of the C library.
 
-    checks     what is checked, and how it is run
-    reply.c    answers the lines of `coord reply` through the library, also with allocations refused, and times heartbeats
-    edges.c    short bodies, short buffers, empty slots, faults of topics, snapshots
-    snapshots  random scripts through replicas that are written and restored, and snapshots and entries that are changed
+    checks   what is checked, and how it is run
+    reply.c  answers the lines of `coord reply` through the library, also with allocations refused, and times heartbeats
+    edges.c  short bodies, short buffers, empty slots, faults of topics, snapshots
 """

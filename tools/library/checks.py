@@ -15,10 +15,10 @@ from gate.checks import TOP, Check, Failed, rebalances, why_fails
 AT_ONCE = 4
 SECONDS, BUILD_SECONDS = 300, 1_500
 SCRIPTS, REFUSED_SCRIPTS, WATCHED_SCRIPTS = 2_000, 100, 4
-RESTORED_SCRIPTS, CHANGED = 100, 2_000
 WATCH = ("valgrind", "-q", "--error-exitcode=99", "--leak-check=full", "--errors-for-leak-kinds=all")
 TOPIC = "t:11111111-1111-1111-1111-111111111111:2"
 REBALANCE = TOP / "examples/reply/rebalance"
+REFUSING = ("-shared", "-fPIC", "-Wl,-u,migwelun_make", "-Wl,--wrap=malloc,--wrap=realloc,--wrap=free")
 COMPILE = ("cc", "-std=c11", "-O2", "-Wall", "-Wextra", "-Werror")
 
 
@@ -130,8 +130,9 @@ def of_examples(library: Library) -> Iterator[Check]:
     python = [sys.executable, "-B", "-m", "unittest"]
     os.environ["MIGWELUN_LIBRARY"] = os.environ["BROKER_TEST_LIBRARY"] = str(library.archive.with_suffix(".so"))
     os.environ["MIGWELUN_JOURNAL"] = str(library.compiled("examples/embed/journal.c", "-D_GNU_SOURCE", "-DMOST_LOG=2000"))
-    words = ["env", f"PYTHONPATH={embed / 'python'}", sys.executable, "-B", "-m", "library.snapshots", os.environ["MIGWELUN_LIBRARY"]]
-    yield "replicas that are restored", run([*words, str(RESTORED_SCRIPTS), str(CHANGED)], TOP / "tools")
+    os.environ["MIGWELUN_REFUSING"] = str(library.compiled("examples/embed/refusing.c", *REFUSING))
+    yield "replicas that are restored", run(["env", f"PYTHONPATH={TOP / 'conformance'}", *python, "test_snapshots"], embed / "python")
+    yield "examples/embed/snapshots.c", run([str(library.compiled("examples/embed/snapshots.c", "-D_GNU_SOURCE")), "10", "10", "20"])
     yield "examples/embed/journal.c, killed", run([*python, "test_journal"], embed / "python")
     yield "examples/embed/python", run([*python, "test_migwelun"], embed / "python")
     yield "broker --embedded", run([*python, "broker.tests.test_program.Program.test_two_members_of_another_hand_embedded"], TOP)

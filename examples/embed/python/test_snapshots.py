@@ -1,23 +1,28 @@
-"""Replicas that are written and restored, over the Python module of examples/embed and libmigwelun.so.
+"""Replicas that are written and restored, over random scripts of `tools/reply-lines`, also where memory is short.
 
-usage: PYTHONPATH=../examples/embed/python python3 -B -m library.snapshots LIBRARY SCRIPTS MUTATIONS
-
-Plays random scripts of `tools/reply-lines` through a replica that is written and restored after every event, and restores another one at a random
-place, which applies the rest of the log. No byte of a reply may differ, nor from the rules in conformance/rules. Then snapshots are cut at each byte,
-and snapshots and entries are changed at random: each is refused, or makes a state that is written with the same bytes, and goes on.
+MIGWELUN_LIBRARY is libmigwelun.so, MIGWELUN_REFUSING the same with examples/embed/refusing.c, and PYTHONPATH the folder conformance, whose rules
+say what is to be answered. With MIGWELUN_TIMES=N all numbers are N times as great.
 """
 
 import collections
 import contextlib
+import ctypes
+import itertools
+import os
 import random
 import resource
-import sys
+import unittest
 import uuid
-from typing import Any, Iterator, List, Optional, Sequence, Tuple
+from typing import Any, Callable, Iterator, List, Optional, Sequence, Tuple
 
 import migwelun
 from rules import reply_lines
 
+TIMES = int(os.environ.get("MIGWELUN_TIMES", "1"))
+SCRIPTS, REFUSED_SCRIPTS, CHANGED, CUT = 100 * TIMES, 10 * TIMES, 2_000 * TIMES, 2 * TIMES
+LIBRARY, REFUSING = os.environ["MIGWELUN_LIBRARY"], os.environ["MIGWELUN_REFUSING"]
+# The calls that take memory.
+TAKING = {"make_replica", "lead", "add_topic", "propose_topics", "propose", "propose_tick", "apply", "snapshot", "restore"}
 SEED, LINES, KEPT, MOST_CUT = 1, 60, 100, 20_000
 # A changed count may ask for much: that is to be refused, and not to take this machine's memory.
 MEMORY = 4 << 30
@@ -25,7 +30,7 @@ MEMORY = 4 << 30
 
 def same(what: str, found: Any, wanted: Any) -> None:
     if found != wanted:
-        sys.exit(f"{what}: {found!r}, and not {wanted!r}")
+        raise AssertionError(f"{what}: {found!r}, and not {wanted!r}")
 
 
 def written(replica: Any, size: int = 1 << 20) -> bytes:
@@ -97,6 +102,7 @@ def changed(some: bytes, other: bytes, dice: random.Random) -> bytes:
 
 
 def is_taken(replica: Any, snapshot: bytes) -> bool:
+    """Whether a snapshot is. If so, it is written with the same bytes, and the log goes on behind it."""
     try:
         replica.restore(snapshot)
     except (migwelun.BadSnapshot, MemoryError):
@@ -124,16 +130,54 @@ def mutations(replica: Any, logs: Sequence[Played], count: int, dice: random.Ran
         yield is_taken(replica, written(replica)) and is_applied
 
 
-def main(library: str, scripts: int, count: int) -> None:
-    resource.setrlimit(resource.RLIMIT_AS, (MEMORY, MEMORY))
-    dice = random.Random(SEED)
-    logs = collections.deque((play(library, dice) for _ in range(scripts)), KEPT)
-    cut = [log.snapshots[-1] for log in logs if len(log.snapshots[-1]) < MOST_CUT][: max(1, count // 1_000)]
-    with migwelun.Replica(library, 0) as it:
-        same("a cut snapshot", [at for snapshot in cut for at in range(len(snapshot)) if is_taken(it, snapshot[:at])], [])
-        taken = sum(mutations(it, logs, count, dice))
-    print(f"{scripts} scripts, {sum(map(len, cut))} cuts; of {2 * count} changed snapshots and entries {taken} are taken")
+class Refusing(migwelun.Replica):
+    """Each call is made with its first allocation refused, then with its second, and so on, up to one in which none is refused."""
+
+    refusals: "collections.Counter[str]" = collections.Counter()
+
+    def _call(self, name: str, *words: object) -> int:
+        return int(self._until_given(name, super()._call, name, *words))
+
+    def restore(self, snapshot: bytes) -> None:
+        self._until_given("restore", super().restore, snapshot)
+
+    def _until_given(self, name: str, call: Callable[..., Any], *words: object) -> Any:
+        left = ctypes.c_long.in_dll(self._library, "migwelun_left")
+        for given in itertools.count():
+            left.value = given
+            try:
+                done = call(*words)
+            except MemoryError:
+                self.refusals[name] += 1
+                continue
+            same(f"whether {name} was refused memory and is done", left.value < 0, False)
+            left.value = -1
+            return done
 
 
-if __name__ == "__main__":
-    main(sys.argv[1], int(sys.argv[2]), int(sys.argv[3]))
+class Snapshots(unittest.TestCase):
+    @classmethod
+    def setUpClass(cls) -> None:
+        resource.setrlimit(resource.RLIMIT_AS, (MEMORY, MEMORY))
+        cls.dice = random.Random(SEED)
+        cls.logs = collections.deque((play(LIBRARY, cls.dice) for _ in range(SCRIPTS)), KEPT)
+
+    def test_a_snapshot_that_was_cut_is_refused(self) -> None:
+        cut = [log.snapshots[-1] for log in self.logs if len(log.snapshots[-1]) < MOST_CUT][:CUT]
+        with migwelun.Replica(LIBRARY, 0) as it:
+            self.assertEqual([at for snapshot in cut for at in range(len(snapshot)) if is_taken(it, snapshot[:at])], [])
+
+    def test_what_was_changed_is_refused_or_sound(self) -> None:
+        with migwelun.Replica(LIBRARY, 0) as it:
+            taken = sum(mutations(it, self.logs, CHANGED, self.dice))
+        self.assertTrue(0 < taken < 2 * CHANGED)
+
+    def test_each_allocation_is_refused_in_turn(self) -> None:
+        """The bytes are those without refusals, and all memory is given back."""
+        for seed in range(REFUSED_SCRIPTS):
+            with Refusing(REFUSING, 0) as it:
+                refused = Played(it, random.Random(seed))
+            given = play(REFUSING, random.Random(seed))
+            same("the bytes", *[(some.entries, some.applied, some.snapshots) for some in (refused, given)])
+            same("what is left", ctypes.c_long.in_dll(ctypes.CDLL(REFUSING), "migwelun_blocks").value, 0)
+        self.assertEqual(set(Refusing.refusals), TAKING)
