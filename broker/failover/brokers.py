@@ -12,7 +12,7 @@ from typing import List, Optional, Set
 
 from broker.streams import within
 from clients.relay import read_frame
-from clients.stand import HOST, Ports, Programs, Topic
+from clients.stand import HOST, Failed, Ports, Programs, Topic
 from conformance.connection import Address
 from conformance.messages import FIND_COORDINATOR, find_coordinator_fields, framed, header, read_find_coordinator_reply, reply_fields
 from broker.failover.etcds import Etcds
@@ -66,11 +66,13 @@ class Channel:
 
 
 class Wire:
-    """Passes bytes on between a broker and an etcd. While it is cut nothing passes, and nothing is closed."""
+    """Passes bytes on between a broker and an etcd. While it is cut nothing passes, and nothing is closed. A request that has `refused` in it never
+    passes, and closes its connection."""
 
     def __init__(self, target: int) -> None:
         self.target, self.port, self.whole = target, 0, asyncio.Event()
         self.whole.set()
+        self.refused, self.met = b"", asyncio.Event()
 
     async def listen(self) -> None:
         server = await asyncio.start_server(self.accept, HOST, 0)
@@ -88,6 +90,9 @@ class Wire:
         with contextlib.suppress(OSError):
             while data := await reader.read(1 << 16):
                 await self.whole.wait()
+                if self.refused and self.refused in data:
+                    self.met.set()
+                    break
                 writer.write(data)
                 await writer.drain()
         writer.close()
@@ -134,6 +139,21 @@ class Brokers(Programs):
     def heal(self) -> None:
         for wire in sum(self.wires, []):
             wire.whole.set()
+
+    async def refuse(self, slot: int, words: bytes, seconds: float) -> None:
+        """Lets no request with these words pass from a broker to an etcd, and returns once it has made one. Raises Failed."""
+        met = asyncio.Event()
+        for wire in self.wires[slot]:
+            wire.refused, wire.met = words, met
+        try:
+            await within(seconds, met.wait())
+        except asyncio.TimeoutError:
+            self.let_pass()
+            raise Failed(f"a broker doesn't ask etcd for {words.decode()} within {seconds:g} s") from None
+
+    def let_pass(self) -> None:
+        for wire in sum(self.wires, []):
+            wire.refused = b""
 
     def connected(self, slot: int) -> Set[int]:
         """The ports that a broker is connected to."""

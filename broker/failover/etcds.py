@@ -99,6 +99,11 @@ class Etcds(Programs):
         found = self.any("kv/range", key=text(folder.encode()), range_end=text(folder[:-1].encode() + b"0"), count_only=True)
         return int(found.get("count", 0))
 
+    def pairs(self, folder: str) -> Dict[str, bytes]:
+        """The keys below a folder's name, which ends in `/`, with their values."""
+        found = self.any("kv/range", key=text(folder.encode()), range_end=text(folder[:-1].encode() + b"0"))
+        return {base64.b64decode(it["key"]).decode(): base64.b64decode(it["value"]) for it in found.get("kvs", [])}
+
     def fill(self) -> None:
         """Puts in as much as there is room for."""
         with contextlib.suppress(OSError):

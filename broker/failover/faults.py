@@ -1,32 +1,70 @@
 """The faults: what is done, and how long a group may go unanswered by it. What must hold always is in run."""
 
 import asyncio
+import itertools
 import signal
 import time
-from typing import Awaitable, Callable, Dict, NamedTuple, Sequence
+from typing import Awaitable, Callable, Dict, List, NamedTuple, Sequence
 
+from broker.snapshots import LAST, PIECES, decoded, folder
 from clients.stand import Failed, Programs
 from broker.failover.brokers import Brokers
+from broker.failover.etcds import text
 
-# A time longer than a session, how long all is down, and how long a new broker may wait for a leadership.
-LONG_SECONDS, DOWN_SECONDS, SPREAD_SECONDS = 60, 120, 30
+# A time longer than a session; how long all is down; and within how long a new broker leads, a snapshot is due, and its pieces are deleted.
+LONG_SECONDS, DOWN_SECONDS, SPREAD_SECONDS, DUE_SECONDS, TIDY_SECONDS = 60, 120, 30, 180, 30
+# How requests begin that a leader makes for a snapshot: one that names it, one that deletes what it takes the place of, and one that puts a piece.
+# Each in turn is the one that doesn't come to etcd any more.
+STEPS = itertools.cycle(
+    f'"{operation}": {{"key": "{text(key.encode())}'.encode()
+    for operation, key in (("request_put", LAST), ("request_delete_range", PIECES), ("request_put", PIECES))
+)
+
+
+async def at_once(_: Brokers, __: int) -> None:
+    """The moment of most faults."""
 
 
 class Fault(NamedTuple):
-    """`act` brings it to the broker in a slot, and takes it away again. Then a group may have had no answer for the lease and `most` seconds;
-    and where it has `least`, for that long none may have had one."""
+    """`act` brings it to the broker in a slot, once `comes` has returned, and takes it away again. Then a group may have had no answer for the
+    lease and `most` seconds; and where it has `least`, for that long none may have had one."""
 
     does: str
     act: Callable[[Brokers, int], Awaitable[None]]
     most: float = 2.0
     least: float = 0.0
     times: int = 1
+    comes: Callable[[Brokers, int], Awaitable[None]] = at_once
 
 
 async def kill(it: Brokers, slot: int) -> None:
     it.send_signal(str(slot), signal.SIGKILL)
     await asyncio.sleep(it.lease + 2)
     await it.start_one(slot)
+
+
+async def writes_snapshot(it: Brokers, slot: int) -> None:
+    await it.refuse(slot, next(STEPS), DUE_SECONDS)
+
+
+async def kill_writer(it: Brokers, slot: int) -> None:
+    """Whoever leads then deletes what it has left of a snapshot that nothing names."""
+    it.send_signal(str(slot), signal.SIGKILL)
+    it.let_pass()
+    await asyncio.sleep(it.lease + 2)
+    await it.start_one(slot)
+    until = time.monotonic() + TIDY_SECONDS
+    while left := await asyncio.to_thread(unnamed, it):
+        if time.monotonic() > until:
+            raise Failed(f"{left[0]} is left of a snapshot after {TIDY_SECONDS} s")
+        await asyncio.sleep(0.5)
+
+
+def unnamed(it: Brokers) -> List[str]:
+    """The pieces of snapshots but the last of each part."""
+    pieces, named = it.etcds.pairs(PIECES), it.etcds.pairs(LAST)
+    folders = tuple(folder(int(key[len(LAST) :]), decoded(value).place) + "/" for key, value in named.items())
+    return [key for key in pieces if not key.startswith(folders)]
 
 
 async def pause(programs: Programs, names: Sequence[str], seconds: float) -> None:
@@ -100,6 +138,7 @@ async def fill_etcd(it: Brokers, slot: int) -> None:
 
 FAULTS: Dict[str, Fault] = {
     "kill": Fault("kill -9 of a broker, which starts again after the lease and 2 s", kill, times=20),
+    "kill-writer": Fault("kill -9 of a broker while it writes a snapshot", kill_writer, times=3, comes=writes_snapshot),
     "stop": Fault("SIGSTOP of a broker for twice the lease, then SIGCONT", lambda it, slot: pause(it, [str(slot)], 2 * it.lease)),
     "cut": Fault("a broker and etcd are cut off from each other for twice the lease", cut),
     "cut-long": Fault(f"the same for {LONG_SECONDS} s", lambda it, slot: cut(it, slot, LONG_SECONDS)),

@@ -16,6 +16,8 @@ from rules.messages import Commit, read_commit_reply, read_heartbeat_reply
 
 HEARTBEAT_SECONDS, COMMIT_SECONDS, TURN_SECONDS, ANSWER_SECONDS = 1.0, 0.25, 0.05, 1.0
 FETCH_VERSION = 9
+# How long it may hold on to what it is to give up, as librdkafka says by itself.
+REBALANCE_MS = 300_000
 # Codes after which a client asks for the coordinator again.
 NOT_HERE = (14, 15, 16)
 # Each member's requests have correlation ids of their own, so that no two frames are alike.
@@ -37,7 +39,7 @@ class Member:
     def __init__(self, group: str, name: str, topic: Topic, find: Callable[[str], Awaitable[Address]], tell: Callable[[Print], None]) -> None:
         Member.made += 1
         self.name, self.topic, self.find, self.tell = name, topic, find, tell
-        self.client = Client(name, group, names=[topic.name])
+        self.client = Client(name, group, rebalance=REBALANCE_MS, names=[topic.name])
         self.client.id, self.client.number, self.commits = str(uuid.uuid4()), Member.made * NUMBERS, Member.made * NUMBERS
         self.channel: Optional[Channel] = None
         # The offset of each partition that was committed last, and whether what it owns has changed since it reported it.

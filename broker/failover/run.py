@@ -146,6 +146,7 @@ class Run(Crowd):
         steady = [it for it in GROUPS if it != group]
         epochs = lambda: {it.name: (it.client.id, it.client.epoch) for it in self.own_of(steady)}
         before = epochs()
+        await fault.comes(self.brokers, slot)
         began, waited, late = time.time(), self.waited(), self.timer.late
         asyncio.get_running_loop().call_later(HOLD_SECONDS, self.let_go)
         await fault.act(self.brokers, slot)
