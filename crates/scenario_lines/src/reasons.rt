@@ -2,17 +2,15 @@
 
 use coord_node::Node;
 use group_types::Stamp;
-use group_types::limits::{
-    LARGEST_BODY, MOST_PARTITIONS, MOST_TOPIC_PARTITIONS, MOST_TOPICS, SMALLEST_BODY,
-};
+use group_types::limits::{LARGEST_BODY, SMALLEST_BODY};
 use kip_msgs::{Request, read_request};
 use scenario_text::command_line::escaped;
 use scenario_text::fault::LineFault;
 use scenario_text::reasons::{argument_of, of_frame, of_line, of_word};
+use scenario_text::topic_reasons::of_list;
 use scenario_text::topics::topic_of;
 use scenario_text::{frame, words};
 use std::alloc::{AllocError, Global};
-use topic_meta::TopicEntry;
 
 /// The lines of `coord reply`: what each begins with, and its form.
 const REPLY_FORMS: &[(&str, &str)] = &[
@@ -97,74 +95,6 @@ fn of_topic_words(alloc: Global, words: &[&str]) -> Result<String, AllocError> {
         text.push_str(escaped(alloc, word)?.as_str())?;
     }
     format!(in alloc; "\"{}\" is not NAME UUID COUNT", text.as_str().trim_start())
-}
-
-/// Why a list of topics makes no image, if it doesn't.
-fn of_list(alloc: Global, topics: &[TopicEntry]) -> Result<Option<String>, AllocError> {
-    let (count, partitions) = (topics.len(), partitions_of(topics));
-    if MOST_TOPICS < count || MOST_PARTITIONS < partitions {
-        let reason = format!(in alloc;
-            "an image has at most {MOST_TOPICS} topics and {MOST_PARTITIONS} partitions, and this one has {count} and {partitions}"
-        )?;
-        return Ok(Some(reason));
-    }
-    for (place, topic) in topics.iter().enumerate() {
-        let reason = of_topic(alloc, topic, topics.get(..place).unwrap_or_default())?;
-        if reason.is_some() {
-            return Ok(reason);
-        }
-    }
-    Ok(None)
-}
-
-/// How many partitions topics have together.
-fn partitions_of(topics: &[TopicEntry]) -> u64 {
-    let mut partitions = 0_u64;
-    for topic in topics {
-        partitions = partitions.saturating_add(u64::from(topic.count.unsigned_abs()));
-    }
-    partitions
-}
-
-/// Why a topic can't stand in an image behind former ones, if it can't.
-fn of_topic(
-    alloc: Global,
-    topic: &TopicEntry,
-    formers: &[TopicEntry],
-) -> Result<Option<String>, AllocError> {
-    let count = topic.count.unsigned_abs();
-    if count < 1 || MOST_TOPIC_PARTITIONS < count {
-        let name = escaped(alloc, topic.name.as_str())?;
-        let reason = format!(in alloc;
-            "topic {name} has {count} partitions, and a topic has 1 to {MOST_TOPIC_PARTITIONS}"
-        )?;
-        return Ok(Some(reason));
-    }
-    for former in formers {
-        let reason = of_two(alloc, former, topic)?;
-        if reason.is_some() {
-            return Ok(reason);
-        }
-    }
-    Ok(None)
-}
-
-/// Why two topics can't stand in one image, if they can't.
-fn of_two(
-    alloc: Global,
-    one: &TopicEntry,
-    other: &TopicEntry,
-) -> Result<Option<String>, AllocError> {
-    if one.name.as_str() == other.name.as_str() {
-        let name = escaped(alloc, one.name.as_str())?;
-        return Ok(Some(format!(in alloc; "two topics have the name {name}")?));
-    }
-    if one.id == other.id {
-        let name = escaped(alloc, one.name.as_str())?;
-        let other_name = escaped(alloc, other.name.as_str())?;
-        return Ok(Some(format!(in alloc; "topics {name} and {other_name} have the same id")?));
-    }
-    Ok(None)
 }
 
 /// Why a `req` line closed, whose request had this stamp: it has no frame that is answered, or the node had accepted a later heartbeat

@@ -11,7 +11,6 @@ use std::convert::AsStr;
 use std::io;
 use std::rt::Env;
 use thiserror::Error;
-use topic_meta::ImageFault;
 
 /// The program's version.
 pub const VERSION: &str = "0.1.0";
@@ -67,9 +66,9 @@ pub enum CommandLineFault {
     /// The word is no topic.
     #[error("error: '{0}' is no topic NAME:UUID:COUNT\n")]
     NoTopic(String),
-    /// The topics make no image.
+    /// The topics make no image, and the text says why.
     #[error("error: {0}\n")]
-    NoImage(ImageFault),
+    NoImage(String),
     #[error("error: there is no such subcommand\n")]
     NoSubcommand,
     #[error("error: out of memory\n")]
@@ -294,14 +293,5 @@ impl From<AllocError> for CommandLineFault {
 impl<T: Drop> From<AllocFailed<T>> for CommandLineFault {
     fn from(_error: AllocFailed<T>) -> CommandLineFault {
         CommandLineFault::NoMemory
-    }
-}
-
-impl From<ImageFault> for CommandLineFault {
-    fn from(fault: ImageFault) -> CommandLineFault {
-        match fault {
-            ImageFault::NoMemory => CommandLineFault::NoMemory,
-            _ => CommandLineFault::NoImage(fault),
-        }
     }
 }

@@ -22,6 +22,7 @@ pub mod replies;
 pub mod reply_report;
 pub mod report;
 pub mod service;
+pub mod topic_reasons;
 pub mod topics;
 pub mod words;
 

@@ -4,10 +4,11 @@ ghost use Rattle.std.proofs.Props.{props};
 
 use crate::command_line::{CommandLineFault, escaped};
 use crate::fault::LineFault;
+use crate::topic_reasons::of_list;
 use crate::topics::topic_of;
 use clap::{Arg, ArgAction, ArgMatches, Command};
 use std::alloc::{AllocError, Global};
-use topic_meta::{Image, TopicEntry};
+use topic_meta::{Image, ImageFault, TopicEntry};
 
 /// The greatest port.
 const GREATEST_PORT: u64 = 65_535;
@@ -174,11 +175,32 @@ fn number_of(
 
 /// The image of the topics that words name.
 fn image_of(alloc: Global, words: &[&str]) -> Result<Image, CommandLineFault> {
+    match Image::of(alloc, topics_of(alloc, words)?) {
+        Ok(image) => Ok(image),
+        Err(ImageFault::NoMemory) => Err(CommandLineFault::NoMemory),
+        Err(fault) => Err(no_image(alloc, topics_of(alloc, words)?.as_slice(), fault)?),
+    }
+}
+
+/// The topics that words name.
+fn topics_of(alloc: Global, words: &[&str]) -> Result<Vec<TopicEntry>, CommandLineFault> {
     let mut list = Vec::new(alloc);
     for word in words {
         list.push(topic_of_word(alloc, word)?)?;
     }
-    Ok(Image::of(alloc, list)?)
+    Ok(list)
+}
+
+/// That topics make no image, and which.
+fn no_image(
+    alloc: Global,
+    topics: &[TopicEntry],
+    fault: ImageFault,
+) -> Result<CommandLineFault, AllocError> {
+    Ok(CommandLineFault::NoImage(match of_list(alloc, topics)? {
+        Some(reason) => reason,
+        None => format!(in alloc; "{fault}")?,
+    }))
 }
 
 /// The topic of a word: its name, its id and how many partitions it has, cut at the first colon and the last. Its parts are what words
