@@ -1,6 +1,6 @@
 //! The words of a line, and what they stand for.
-ghost use Rattle.std.specs.Prelude.{◌≡◌, ◌≢◌, ℕ, [], pos, All, ◌^◌, ◌<◌, ◌↔◌, length, map, decimal, IsTrue, IfOk, OnOk, IsErr, IfSome, IfNone};
-ghost use Rattle.hex.specs.Hex.{decode_of, hex_digit_value, pair_value};
+ghost use Rattle.std.specs.Prelude.{◌≡◌, ◌≢◌, ℕ, [], pos, All, ◌^◌, ◌<◌, ◌↔◌, length, map, decimal, IsTrue, IfOk, OnOk, IsErr, Some, None, IfSome, IfNone};
+ghost use Rattle.hex.specs.Hex.{decode_of, hex_digit_value};
 ghost use Rattle.scenario_text.specs.Words.{words_of, IsLine, IsName};
 ghost use Rattle.std.specs.Prelude.{ℤ, ◌*◌, MatchOption, OnErr, neg_ℤ, ◌≤◌};
 ghost use Rattle.scenario_text.specs.Numbers.{SpellsOffset};
@@ -143,31 +143,35 @@ fn decode_pairs(digits: &[u8], bytes: &mut [u8]) -> Result<(), LineFault>
     ensures bytes { OnOk result (decode_of digits.now ≡ Ok bytes.new) }
     ensures refused { OnErr result (IsErr (decode_of digits.now)) }
 {
+    let mut most = 0;
     'pairs: for place in 0..bytes.len() {
-        let Some(byte) = byte_of(digits[2 * place], digits[2 * place + 1]) else {
-            return Err(LineFault::BadLine);
-        };
-        bytes[place] = byte;
+        let high = value_of(digits[2 * place]);
+        let low = value_of(digits[2 * place + 1]);
+        most = high.max(low).max(most);
+        bytes[place] = high % 16 * 16 + low % 16;
     }
-    Ok(())
+    if most < 16 {
+        Ok(())
+    } else {
+        Err(LineFault::BadLine)
+    }
 }
 
-/// The byte of two digits, or nothing where they aren't.
-fn byte_of(high: u8, low: u8) -> Option<u8>
-    ensures some { IfSome result (λ byte. (place : ℕ) → pair_value high low place ≡ Ok byte) }
-    ensures none { IfNone result ((place : ℕ) → IsErr (pair_value high low place)) }
+/// The value of a digit in hex, in either case, and at least 16 for another byte.
+fn value_of(digit: u8) -> u8
+    ensures some { result < 16 → hex_digit_value digit ≡ Some result }
+    ensures none { 16 ≤ result → hex_digit_value digit ≡ None }
 {
-    Some(value_of(high)? * 16 + value_of(low)?)
-}
-
-/// The value of a digit in hex, in either case. (Most digits are numbers.)
-fn value_of(digit: u8) -> Option<u8>
-    ensures { result ≡ hex_digit_value digit }
-{
-    match digit {
-        b'0'..=b'9' => Some(digit - b'0'),
-        b'a'..=b'f' => Some(digit - b'a' + 10),
-        b'A'..=b'F' => Some(digit - b'A' + 10),
-        _ => None,
+    let number = digit.wrapping_sub(b'0');
+    let lower = digit.wrapping_sub(b'a');
+    let upper = digit.wrapping_sub(b'A');
+    if number < 10 {
+        number
+    } else if lower < 6 {
+        lower + 10
+    } else if upper < 6 {
+        upper + 10
+    } else {
+        16
     }
 }
