@@ -31,6 +31,11 @@ FORMS = {
     "no": ("no topics", "no topics"),
     "run": ("run (.+)", "run deliver 5"),
 }
+# What others call an act.
+OTHERS = {
+    **{"leave": "quit a leave", "heartbeat": "beat a", "send": "beat a", "revoke": "release a", "receive": "take a"},
+    **{"timeout": "lose a", "drop": "lose a", "expire": "wait 45 s", "sleep": "wait 45 s"},
+}
 # What goes on about the message of the act before it needs no client's name.
 GOES_ON = ("deliver", "take", "bring", "lose")
 # The pools of messages, by the word that brings one, with what is in them and what makes one.
@@ -40,7 +45,7 @@ MAKERS = {"join": "deliver", "beat": "deliver", "quit": "deliver", "deliver": "t
 ONLY = {
     "join": "a client that is outside and waits for no reply",
     "beat": "a member that waits for no reply",
-    "quit": "a member that waits for no reply, and away a static one,",
+    "quit": "a member that waits for no reply (away: a static one)",
     "lose": "a client that waits for a reply",
     "release": "a member that has to revoke something and waits for no reply",
     "commit": "a member",
@@ -130,7 +135,8 @@ class Notation:
             return self.image_line(act)
         word = act.split(" ")[0]
         if word not in FORMS:
-            raise Unclear(f"nothing begins with {shown(word)}{meant(word, FORMS)}")
+            other = f'; did you mean "{OTHERS[word]}"?' if word in OTHERS else '; the act comes first, as in "join a"' if self.client(word) else ""
+            raise Unclear(f"nothing begins with {shown(word)}{other or meant(word, FORMS)}")
         pattern, like = FORMS[word]
         found = re.fullmatch(pattern, act)
         if found is None:
@@ -232,7 +238,8 @@ class Writer(Notation):
         for part in filter(None, map(str.strip, parts.split(","))):
             word = next((it for it in said if part.startswith(f"{it} ")), None)
             if word is None:
-                raise Unclear(f"{shown(part)} isn't like {CLIENT}")
+                like = '"orders: 4 partitions"' if part.isdecimal() else CLIENT
+                raise Unclear(f"{shown(part)} isn't like {like}")
             said[word] = part[len(word) + 1 :]
         time = re.fullmatch(TIME, said["rebalance timeout"])
         if time is None:

@@ -32,7 +32,10 @@ beat a as x, take x | "x" is a request; did you mean "deliver x"?
 beat a as b | "b" is a client, or a message already
 release a | a is steady: only a member that has to revoke something and waits for no reply can release
 lose a | a is steady: only a client that waits for a reply can lose
-quit b leave | b is outside: only a member that waits for no reply, and away a static one, can quit
+quit b leave | b is outside: only a member that waits for no reply (away: a static one) can quit
+leave b | nothing begins with "leave"; did you mean "quit a leave"?
+a joins | nothing begins with "a"; the act comes first, as in "join a"
+orders: 4 | "4" isn't like "orders: 4 partitions"
 commit a orders/0 100 | "commit a orders/0 100" isn't like "commit a orders/0 at 100"
 commit a order/0 at 100 | no topic is called "order"; did you mean "orders"?
 release a oders/0 | no topic is called "oders"; did you mean "orders"?
