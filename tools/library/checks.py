@@ -130,7 +130,7 @@ def of_examples(library: Library) -> Iterator[Check]:
     python = [sys.executable, "-B", "-m", "unittest"]
     os.environ["MIGWELUN_LIBRARY"] = os.environ["BROKER_TEST_LIBRARY"] = str(library.archive.with_suffix(".so"))
     os.environ["MIGWELUN_JOURNAL"] = str(library.compiled("examples/embed/journal.c", "-D_GNU_SOURCE", "-DMOST_LOG=2000"))
-    os.environ["MIGWELUN_REFUSING"] = str(library.compiled("examples/embed/refusing.c", *REFUSING))
+    os.environ["MIGWELUN_REFUSING"] = str(library.compiled("examples/embed/refusals.c", *REFUSING))
     yield "replicas that are restored", run(["env", f"PYTHONPATH={TOP / 'conformance'}", *python, "test_snapshots"], embed / "python")
     yield "examples/embed/snapshots.c", run([str(library.compiled("examples/embed/snapshots.c", "-D_GNU_SOURCE")), "10", "10", "20"])
     yield "examples/embed/journal.c, killed", run([*python, "test_journal"], embed / "python")

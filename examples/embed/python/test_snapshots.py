@@ -1,6 +1,6 @@
 """Replicas that are written and restored, over random scripts of `tools/reply-lines`, also where memory is short.
 
-MIGWELUN_LIBRARY is libmigwelun.so, MIGWELUN_REFUSING the same with examples/embed/refusing.c, and PYTHONPATH the folder conformance, whose rules
+MIGWELUN_LIBRARY is libmigwelun.so, MIGWELUN_REFUSING the same with examples/embed/refusals.c, and PYTHONPATH the folder conformance, whose rules
 say what is to be answered. With MIGWELUN_TIMES=N all numbers are N times as great.
 """
 

@@ -2,9 +2,9 @@
  * Stands between the library and malloc, in tests: refuses an allocation, and counts the blocks that the library has.
  *
  *     tools/build-library
- *     cc -shared -fPIC -o refusing.so examples/embed/refusing.c -Wl,-u,migwelun_make -Wl,--wrap=malloc,--wrap=realloc,--wrap=free out/libmigwelun.a
+ *     cc -shared -fPIC -o refusals.so examples/embed/refusals.c -Wl,-u,migwelun_make -Wl,--wrap=malloc,--wrap=realloc,--wrap=free out/libmigwelun.a
  *
- * refusing.so has all functions of the library. One thread calls them.
+ * refusals.so has all functions of the library. One thread calls them.
  */
 #include <stddef.h>
 
