@@ -284,10 +284,17 @@ class Picture:
     def draw_name(self, client: int, how: str, x: float, top: float, width: float, height: float) -> None:
         """A holder's name, across its part of a bar or along it, where there is room for it."""
         name, kind = self.names[client], "bar" if how == SURELY else "pale"
-        if self.name_width(client) <= width and height > 16:
-            self.canvas.text(x, top + 15, name, kind, "middle")
-        elif self.name_width(client) + 6 <= height and width > 10:
-            self.canvas.along(x - 4, top + 6, name, kind)
+        length = self.name_width(client) + 6
+        if length - 6 <= width and height > 16:
+            self.canvas.text(x, self.uncut(top, height, 16) + 15, name, kind, "middle")
+        elif length <= height and width > 10:
+            self.canvas.along(x - 4, self.uncut(top, height, length) + 6, name, kind)
+
+    def uncut(self, top: float, height: float, length: float) -> float:
+        """Where a name of a bar begins: as high as it isn't broken, or at the top where it is everywhere."""
+        cuts = [self.row(at) - ROW / 2 for at in self.breaks]
+        below = [top, *(cut + 6 for cut in cuts if top < cut)]
+        return next((y for y in below if y + length <= top + height and not any(y - 6 < cut < y + length + 6 for cut in cuts)), top)
 
     def unheld(self) -> Iterator[tuple[int, events.Brought]]:
         """The rows in which a commit is accepted of a member that doesn't hold what it commits."""
