@@ -13,7 +13,7 @@ from broker.batches import LOGS, decode, part_and_place
 from broker.embedded import module
 from broker.settings import KEY
 from clients.log import COMMIT, HEARTBEAT, head_of, read_events
-from broker.failover.etcds import Etcds, opened, text
+from broker.failover.etcds import Etcds, call, opened, text
 from broker.failover.member import NOT_HERE
 from rules.messages import read_commit_reply, read_heartbeat_reply
 
@@ -21,6 +21,7 @@ SILENT_SECONDS, CATCH_UP_SECONDS = 2, 30
 # Where the body of a frame's entry begins. Each part has a salt of its own.
 BODY, SALTS = 28, 1 << 64
 KEYS = {"key": text(LOGS.encode()), "range_end": text(LOGS[:-1].encode() + b"0")}
+LATEST = {"limit": 1, "keys_only": True, "sort_order": "DESCEND", "sort_target": "MOD", **KEYS}
 # The client, the API's key and the correlation id of a request.
 Ask = Tuple[Optional[str], int, int]
 
@@ -56,6 +57,9 @@ class Logs:
                     self.watch(port)
 
     def watch(self, port: int) -> None:
+        # (Where there is nothing later than what was taken, all is known up to now: etcd may have forgotten the revisions between.)
+        last, now = self.last(call(port, "kv/range", **LATEST))
+        self.revision = now if last <= self.revision else self.revision
         with opened(port, "watch", SILENT_SECONDS, {"create_request": {**KEYS, "start_revision": str(self.revision + 1)}}) as lines:
             for line in lines:
                 result = json.loads(line).get("result")
@@ -89,12 +93,17 @@ class Logs:
         if applied.kind == "frame" and applied.reply is not None:
             self.replies[asked_of(bytes(4) + entry[BODY:])].append(applied.reply)
 
+    @staticmethod
+    def last(found: Dict[str, Any]) -> Tuple[int, int]:
+        """The revision of the last batch, or 0 where there is none; and etcd's."""
+        return max((int(it["mod_revision"]) for it in found.get("kvs", [])), default=0), int(found["header"]["revision"])
+
     def catch_up(self) -> None:
-        last = self.etcds.any("kv/range", limit=1, keys_only=True, sort_order="DESCEND", sort_target="MOD", **KEYS)["kvs"][0]["mod_revision"]
+        last, _ = self.last(self.etcds.any("kv/range", **LATEST))
         until = time.monotonic() + CATCH_UP_SECONDS
-        while self.revision < int(last) and not self.ends and time.monotonic() < until:
+        while self.revision < last and not self.ends and time.monotonic() < until:
             time.sleep(0.1)
-        if self.revision < int(last):
+        if self.revision < last:
             self.faults.append(f"the logs were followed to revision {self.revision} alone, of {last}")
         self.ends = True
 
