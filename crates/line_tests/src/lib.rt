@@ -4,6 +4,8 @@
 #[cfg(test)]
 mod beats;
 #[cfg(test)]
+mod hearing;
+#[cfg(test)]
 mod lines;
 #[cfg(test)]
 mod numbering;
