@@ -18,16 +18,20 @@ FILES = TOP / "tools/packages/files"
 ANSWERS = answers.of(str(TOP))
 VERSION = ANSWERS["--version",].split()[1]
 SUBCOMMANDS = ("reply", "frame", "run", "serve")
-# The programs in Python, with the document that their man pages have, and its sections where that isn't all. They are commands migwelun-NAME of the
+# Programs in Python, with the document that their man pages have, and its sections where that isn't all. They are commands migwelun-NAME of the
 # package, and so are the tools that need only Python. Some of these have their parts in the folder `stories`.
-PROGRAMS = {
+PAGES = {
     "broker": ("broker/README.md", ("The command line", "A record of the frames", "What a broker does for a consumer")),
     "conformance": ("conformance/README.md", ()),
+    "write-run": ("docs/COMMANDS.md", ("Write a story",)),
+    **dict.fromkeys(("tell-run", "draw-run"), ("docs/COMMANDS.md", ("Tell and draw it",))),
+    "tell-capture": ("docs/COMMANDS.md", ("Traffic as a story",)),
 }
+PROGRAMS = ("broker", "conformance")
 # The folders of theirs that only a repository needs.
 NOT_SHARED = {"tests", "trials", "failover"}
 TOOLS = ("tell-run", "draw-run", "write-run", "tell-capture", "run-lines", "reply-lines")
-EXAMPLES = ("*.md", "*.py", "run/*", "reply/*", "frame/*", "stories/*", "capture/*", "embed/*.c", "embed/python/*.py", "embed/rust/*.*", "embed/rust/*/*.rs")
+EXAMPLES = ("*.md", "*.py", "run/*", "reply/*", "frame/*", "capture/*", "embed/*.c", "embed/python/*.py", "embed/rust/*.*", "embed/rust/*/*.rs")
 # The newest C library that may be needed: Debian 11's.
 NEWEST_GLIBC = (2, 31)
 DESCRIPTION = """Kafka consumer group coordinator (KIP-848), proved
@@ -80,8 +84,7 @@ def files_of(program: pathlib.Path, library: pathlib.Path, version: str, seconds
         "share/migwelun/tools/rules": Entry(link="../conformance/rules"),
         "share/doc/migwelun/examples": Entry(link="../../migwelun/examples"),
     }
-    shared = [it for each in EXAMPLES for it in (TOP / "examples").glob(each)]
-    shared += (TOP / "stories").glob("*.py")
+    shared = [*(it for each in EXAMPLES for it in (TOP / "examples").glob(each)), *(TOP / "stories").glob("*.py")]
     for name in PROGRAMS:
         files[f"bin/migwelun-{name}"] = Entry((FILES / "python-program").read_bytes(), 0o755)
         found = [it for ending in ("py", "html", "md", "txt") for it in (TOP / name).glob(f"**/*.{ending}")]
@@ -106,19 +109,17 @@ def of_options(version: str, seconds: int) -> Files:
     # Each command's help, and the text of its page.
     found = [(options.read("coord", ANSWERS["--help",]), "\n\n".join(document.split("\n\n")[1:3]) + "\n" + more)]
     found += [(options.read(f"coord {it}", ANSWERS[it, "--help"]), manual.section(document, f"`coord {it}`")) for it in SUBCOMMANDS]
-    for name, (path, titles) in PROGRAMS.items():
-        command = f"migwelun-{name}"
-        words = {**os.environ, "COLUMNS": "1000", "PROGRAM_NAME": command}
-        ran = subprocess.run([sys.executable, "-B", "-m", name, "--help"], cwd=TOP, env=words, stdout=subprocess.PIPE, text=True, check=True)
+    for name, (path, titles) in PAGES.items():
+        own = ["-m", name] if name in PROGRAMS else [f"tools/{name}"]
+        words = {**os.environ, "COLUMNS": "1000", "PROGRAM_NAME": f"migwelun-{name}"}
+        ran = subprocess.run([sys.executable, "-B", *own, "--help"], cwd=TOP, env=words, stdout=subprocess.PIPE, text=True, check=True)
         text = as_installed((TOP / path).read_text())
         part = "".join(manual.section(text, it) for it in titles) or text.partition("\n")[2]
-        found.append((options.read(command, ran.stdout), part))
+        found.append((options.read(f"migwelun-{name}", as_installed(ran.stdout)), part))
     pages = {it.command.replace(" ", "-"): (it, part) for it, part in found}
-    files: Files = {}
-    for own, (it, part) in pages.items():
-        text = manual.page(it, version, seconds, part, [name for name in pages if name != own])
-        files[f"share/man/man1/{own}.1.gz"] = Entry(zipped(text.encode()))
-    return {**files, **completions_of(["coord", *(f"migwelun-{it}" for it in PROGRAMS)])}
+    made = {own: manual.page(it, version, seconds, part, [name for name in pages if name != own]) for own, (it, part) in pages.items()}
+    files = {f"share/man/man1/{own}.1.gz": Entry(zipped(text.encode())) for own, text in made.items()}
+    return {**files, **completions_of(["coord", *(f"migwelun-{it}" for it in PAGES)])}
 
 
 def as_installed(text: str) -> str:

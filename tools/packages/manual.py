@@ -15,7 +15,8 @@ def page(help_of: Help, version: str, seconds: int, text: str, others: List[str]
     """The man page of a command. `text` is Markdown, and `others` are the pages that it names."""
     date = time.strftime("%Y-%m-%d", time.gmtime(seconds))
     name = help_of.command.replace(" ", "-")
-    about = help_of.about[:1].lower() + help_of.about[1:].rstrip(".")
+    first, _, more = help_of.about.partition(". ")
+    about = first[:1].lower() + first[1:].rstrip(".")
     lines = [f'.TH {name.upper()} 1 "{date}" "migwelun {version}" Migwelun', ".SH NAME", f"{literal(name)} \\- {inline(about)}"]
     lines += [".SH SYNOPSIS", literal(help_of.usage)]
     rows = [(" ".join([", ".join(it.names), it.value]).strip(), it) for it in help_of.options]
@@ -27,16 +28,16 @@ def page(help_of: Help, version: str, seconds: int, text: str, others: List[str]
         lines += [f".SH {title}"] * bool(entries)
         for head, said in entries:
             lines += [".TP", f"\\fB{literal(head)}\\fR", inline(said)]
-    lines += [".SH DESCRIPTION", *blocks(text)]
+    lines += [".SH DESCRIPTION", *blocks(f"{more}\n\n{text}")]
     return "\n".join([*lines, ".SH SEE ALSO", ", ".join(f"\\fB{literal(it)}\\fR(1)" for it in others), ""])
 
 
 def section(document: str, title: str) -> str:
-    """The part of a Markdown document below a heading of the second level, with its parts."""
-    found = re.search(rf"^## {re.escape(title)}\n(.*?)(?=^## |\Z)", document, re.M | re.S)
+    """The part of a Markdown document below a heading, with its parts."""
+    found = re.search(rf"^(##+) {re.escape(title)}\n(.*?)(?=^(?:\1|##) |\Z)", document, re.M | re.S)
     if found is None:
         raise ValueError(f"there is no section {title!r}")
-    return found[1]
+    return found[2]
 
 
 def blocks(text: str) -> Iterator[str]:
