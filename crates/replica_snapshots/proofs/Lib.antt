@@ -1,9 +1,12 @@
 pub mod Begins
 pub mod FieldLaws
 pub mod GroupLaws
+pub mod ImageLaws
 pub mod Listed
 pub mod NodeLaws
+pub mod PartReads
 pub mod PlaceLaws
 pub mod Puts
+pub mod ReadingLaws
 pub mod SectionLaws
 pub mod Told

@@ -3,6 +3,7 @@ pub mod Parts
 pub mod Groups
 pub mod Nodes
 pub mod Places
+pub mod Reading
 pub mod Restoring
 pub mod Views
 pub mod Faults

@@ -1,7 +1,8 @@
 -- What is written and read, as values.
-use Rattle.std.specs.Prelude.{List, map}
+use Rattle.std.specs.Prelude.{ℕ, List, map}
 use Rattle.group_core.specs.Group.{GroupValue}
 use Rattle.coord_node.specs.declared.restored.NamedGroup.{NamedGroup}
+use Rattle.replica_snapshots.specs.declared.cursor.Cursor.{Cursor}
 use Rattle.replica_snapshots.specs.declared.group.ReadGroup.{ReadGroup}
 use Rattle.replica_snapshots.specs.declared.head.Head.{Head}
 use Rattle.replica_snapshots.specs.declared.node.Sections.{Sections}
@@ -9,6 +10,10 @@ use Rattle.replica_snapshots.specs.declared.place.Place.{Place}
 use Rattle.replica_snapshots.specs.Groups.{HeldGroup, Named}
 use Rattle.replica_snapshots.specs.Nodes.{HeadValue, NodeValue}
 use Rattle.replica_snapshots.specs.Places.{PlaceValue}
+
+-- the bytes that a cursor hasn't read
+abbrev pub unread : Cursor → List ℕ
+unread c = c.rest.now
 
 -- the head of a node
 abbrev pub head_value : Head → HeadValue

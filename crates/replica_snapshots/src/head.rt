@@ -1,10 +1,13 @@
 //! The head of a node: what stands in front of its groups.
 
-ghost use Rattle.std.specs.Prelude.{◌≡◌, ◌++◌, ℕ, List, IfOk};
+ghost use Rattle.std.specs.Prelude.{◌≡◌, ◌++◌, ℕ, List, IfOk, IfErr};
 ghost use Rattle.flex_wire.specs.Spelling.{int16};
+ghost use Rattle.group_types.specs.Images.{AreImageTopics};
 ghost use Rattle.replica_snapshots.specs.Nodes.{VERSION as THE_VERSION, HeadValue, head_with, head_fields, FitsHead};
-ghost use Rattle.replica_snapshots.specs.Views.{head_value};
+ghost use Rattle.replica_snapshots.specs.Reading.{Gives, head_at};
+ghost use Rattle.replica_snapshots.specs.Views.{head_value, unread};
 ghost use Rattle.replica_snapshots.specs.Writing.{Puts, PutsUpTo};
+ghost use Rattle.replica_snapshots.specs.declared.fault.SnapshotFault.TheVariants.{NoMemory};
 
 use crate::cursor::Cursor;
 use crate::fault::SnapshotFault;
@@ -76,36 +79,47 @@ fn put_version(out: &mut Vec<u8>) -> Result<(), SnapshotFault>
 }
 
 /// Reads a node's head from the front of bytes, and gives the bytes behind it: the one head that they begin with, or a fault.
-/// A sound head that was written is never refused but for want of memory; that isn't proved.
+/// A sound head that was written is never refused but for want of memory.
 pub fn read_head(alloc: Global, bytes: &[u8]) -> Result<(Head, &[u8]), SnapshotFault>
     ensures found { IfOk result (λ x. FitsHead (head_value x.0) × (bytes.now ≡ head_fields (head_value x.0) ++ x.1.now)) }
     ensures only { (h : HeadValue) (rest : List ℕ) → FitsHead h → bytes.now ≡ head_fields h ++ rest
         → IfOk result (λ x. (head_value x.0 ≡ h) × (x.1.now ≡ rest)) }
+    ensures whole { (h : HeadValue) (rest : List ℕ) → FitsHead h → AreImageTopics h.image → bytes.now ≡ head_fields h ++ rest
+        → IfErr result (λ fault. fault ≡ NoMemory) }
 {
     read_again(alloc, bytes)
 }
 
 /// The fields are read, and taken only where they are spelled just as the bytes are.
 fn read_again(alloc: Global, bytes: &[u8]) -> Result<(Head, &[u8]), SnapshotFault>
-    ensures { IfOk result (λ x. FitsHead (head_value x.0) × (bytes.now ≡ head_fields (head_value x.0) ++ x.1.now)) }
+    ensures found { IfOk result (λ x. FitsHead (head_value x.0) × (bytes.now ≡ head_fields (head_value x.0) ++ x.1.now)) }
+    ensures whole { (h : HeadValue) (rest : List ℕ) → FitsHead h → AreImageTopics h.image → bytes.now ≡ head_fields h ++ rest
+        → IfErr result (λ fault. fault ≡ NoMemory) }
 {
     let mut cursor = Cursor::new(alloc, bytes);
     let head = head_of(&mut cursor)?;
-    let mut again = Vec::with_capacity(alloc, cursor.place())?;
-    put_head(
-        alloc,
-        &mut again,
-        head.salt,
-        &head.image,
-        head.groups as usize,
-    )?;
+    let again = spelled(alloc, cursor.place(), &head)?;
     match behind(bytes, &again) {
         Ok(rest) => Ok((head, rest)),
         Err(fault) => Err(fault),
     }
 }
 
-fn head_of(cursor: &mut Cursor<'_>) -> Result<Head, SnapshotFault> {
+/// The spelling of a head, whose size is known.
+fn spelled(alloc: Global, size: usize, head: &Head) -> Result<Vec<u8>, SnapshotFault>
+    ensures ok { IfOk result (λ bytes. FitsHead (head_value head.now) × (bytes.items ≡ head_fields (head_value head.now))) }
+    ensures fitting { FitsHead (head_value head.now) → IfErr result (λ fault. fault ≡ NoMemory) }
+{
+    let mut bytes = Vec::with_capacity(alloc, size)?;
+    let groups = head.groups as usize;
+    put_head(alloc, &mut bytes, head.salt, &head.image, groups)?;
+    Ok(bytes)
+}
+
+#[tactic(auto, unfolding(crate::specs::Reading::head_at))]
+fn head_of(cursor: &mut Cursor<'_>) -> Result<Head, SnapshotFault>
+    ensures { Gives head_value result (unread cursor.new) (head_at (unread cursor.old)) }
+{
     if cursor.int16()? != VERSION {
         return Err(cursor.bad_value());
     }

@@ -1,11 +1,13 @@
 //! A place in a log: what the log has come to there, but for the coordinator.
 
-ghost use Rattle.std.specs.Prelude.{◌≡◌, ◌++◌, ℕ, List, IfOk, FitsSigned, pos};
+ghost use Rattle.std.specs.Prelude.{◌≡◌, ◌++◌, ℕ, List, IfOk, IfErr, FitsSigned, pos};
 ghost use Rattle.std.specs.Int.{w32, w64};
 ghost use Rattle.flex_wire.specs.Spelling.{int16, int32, int64};
 ghost use Rattle.replica_snapshots.specs.Places.{PLACE_VERSION as THE_VERSION, PlaceValue, place_fields, FitsPlace};
-ghost use Rattle.replica_snapshots.specs.Views.{place_value};
+ghost use Rattle.replica_snapshots.specs.Reading.{Gives, natural_at, int32_at, int64_at, place_at};
+ghost use Rattle.replica_snapshots.specs.Views.{place_value, unread};
 ghost use Rattle.replica_snapshots.specs.Writing.{Puts, PutsUpTo};
+ghost use Rattle.replica_snapshots.specs.declared.fault.SnapshotFault.TheVariants.{NoMemory};
 
 use crate::cursor::Cursor;
 use crate::fault::SnapshotFault;
@@ -81,18 +83,23 @@ fn put_moment(out: &mut Vec<u8>, moment: Moment) -> Result<(), SnapshotFault>
     }
 }
 
-/// Reads a place from the front of bytes, and gives the bytes behind it: the one place that they begin with, or a fault.
+/// Reads a place from the front of bytes, and gives the bytes behind it: the one place that they begin with, or a fault. A place
+/// that was written is never refused but for want of memory.
 pub fn read_place(alloc: Global, bytes: &[u8]) -> Result<(Place, &[u8]), SnapshotFault>
     ensures found { IfOk result (λ x. FitsPlace (place_value x.0) × (bytes.now ≡ place_fields (place_value x.0) ++ x.1.now)) }
     ensures only { (p : PlaceValue) (rest : List ℕ) → FitsPlace p → bytes.now ≡ place_fields p ++ rest
         → IfOk result (λ x. (place_value x.0 ≡ p) × (x.1.now ≡ rest)) }
+    ensures whole { (p : PlaceValue) (rest : List ℕ) → FitsPlace p → bytes.now ≡ place_fields p ++ rest
+        → IfErr result (λ fault. fault ≡ NoMemory) }
 {
     read_again(alloc, bytes)
 }
 
 /// The fields are read, and taken only where they are spelled just as the bytes are.
 fn read_again(alloc: Global, bytes: &[u8]) -> Result<(Place, &[u8]), SnapshotFault>
-    ensures { IfOk result (λ x. FitsPlace (place_value x.0) × (bytes.now ≡ place_fields (place_value x.0) ++ x.1.now)) }
+    ensures found { IfOk result (λ x. FitsPlace (place_value x.0) × (bytes.now ≡ place_fields (place_value x.0) ++ x.1.now)) }
+    ensures whole { (p : PlaceValue) (rest : List ℕ) → FitsPlace p → bytes.now ≡ place_fields p ++ rest
+        → IfErr result (λ fault. fault ≡ NoMemory) }
 {
     let mut cursor = Cursor::new(alloc, bytes);
     let place = place_of(&mut cursor)?;
@@ -105,14 +112,18 @@ fn read_again(alloc: Global, bytes: &[u8]) -> Result<(Place, &[u8]), SnapshotFau
 
 /// The spelling of a place, whose size is known.
 fn spelled(alloc: Global, size: usize, place: &Place) -> Result<Vec<u8>, SnapshotFault>
-    ensures { IfOk result (λ bytes. FitsPlace (place_value place.now) × (bytes.items ≡ place_fields (place_value place.now))) }
+    ensures ok { IfOk result (λ bytes. FitsPlace (place_value place.now) × (bytes.items ≡ place_fields (place_value place.now))) }
+    ensures fitting { FitsPlace (place_value place.now) → IfErr result (λ fault. fault ≡ NoMemory) }
 {
     let mut bytes = Vec::with_capacity(alloc, size)?;
     put_place(&mut bytes, *place)?;
     Ok(bytes)
 }
 
-fn place_of(cursor: &mut Cursor<'_>) -> Result<Place, SnapshotFault> {
+#[tactic(auto, unfolding(crate::specs::Reading::place_at))]
+fn place_of(cursor: &mut Cursor<'_>) -> Result<Place, SnapshotFault>
+    ensures { Gives place_value result (unread cursor.new) (place_at (unread cursor.old)) }
+{
     if cursor.int16()? != PLACE_VERSION {
         return Err(cursor.bad_value());
     }
@@ -126,7 +137,9 @@ fn place_of(cursor: &mut Cursor<'_>) -> Result<Place, SnapshotFault> {
     })
 }
 
-fn leadership_of(cursor: &mut Cursor<'_>) -> Result<u32, SnapshotFault> {
+fn leadership_of(cursor: &mut Cursor<'_>) -> Result<u32, SnapshotFault>
+    ensures { Gives (λ n. n) result (unread cursor.new) (natural_at int32_at (unread cursor.old)) }
+{
     let number = cursor.int32()?;
     match u32::try_from(number) {
         Ok(leadership) => Ok(leadership),
@@ -134,7 +147,9 @@ fn leadership_of(cursor: &mut Cursor<'_>) -> Result<u32, SnapshotFault> {
     }
 }
 
-fn moment_of(cursor: &mut Cursor<'_>) -> Result<Moment, SnapshotFault> {
+fn moment_of(cursor: &mut Cursor<'_>) -> Result<Moment, SnapshotFault>
+    ensures { Gives (λ moment. moment) result (unread cursor.new) (natural_at int64_at (unread cursor.old)) }
+{
     let millis = cursor.int64()?;
     match u64::try_from(millis) {
         Ok(millis) => Ok(Moment::of_millis(millis)),

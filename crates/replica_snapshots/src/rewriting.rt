@@ -1,12 +1,13 @@
 //! What was read is compared with what is written of it.
 
-ghost use Rattle.std.specs.Prelude.{◌≡◌, ◌++◌, IfOk};
+ghost use Rattle.std.specs.Prelude.{◌≡◌, ◌++◌, ℕ, List, IfOk, IsOk};
 
 use crate::fault::SnapshotFault;
 
 /// The bytes behind the front, where the front is just that.
 pub fn behind<'a>(bytes: &'a [u8], front: &[u8]) -> Result<&'a [u8], SnapshotFault>
-    ensures { IfOk result (λ rest. bytes.now ≡ front.now ++ rest.now) }
+    ensures found { IfOk result (λ rest. bytes.now ≡ front.now ++ rest.now) }
+    ensures whole { (rest : List ℕ) → bytes.now ≡ front.now ++ rest → IsOk result }
 {
     match bytes.strip_prefix(front) {
         Some(rest) => Ok(rest),
