@@ -180,10 +180,10 @@ class Groups:
             yield from (f"instance {plain(it.instance)} is {short_id(it.id)}'s" for it in members if it.instance and it.instance == asked.instance)
         elif code == codes.UNSUPPORTED_ASSIGNOR:
             yield f"the assignor {plain(asked.assignor or '')} is neither range nor uniform"
-        elif code == codes.INVALID_REQUEST and asked.epoch == JOIN and asked.names is None:
-            yield "its topic names are null in a join"
         elif code == codes.INVALID_REQUEST and asked.regex:
             yield "regular expressions are not supported"
+        elif code == codes.INVALID_REQUEST and asked.epoch == JOIN and asked.names is None:
+            yield "its topic names are null in a join"
 
     def other_epoch(self, group: str, member: str, epoch: int) -> Iterator[str]:
         """At which epoch a member is, where that isn't this one."""

@@ -109,7 +109,7 @@ class Relay(unittest.IsolatedAsyncioTestCase):
             sent = [(0, data(JOIN_0)), (0, data(BEAT_0))]
             self.assertEqual(it.coordinator.bodies, sent)
             self.assertEqual(replies, [accept_all(*sent[0]), data(REGEX_REFUSAL), accept_all(*sent[1])])
-            self.assertIn("g  m  epoch 0  INVALID_REQUEST", it.lines)
+            self.assertIn("g  m  epoch 0  INVALID_REQUEST; regular expressions are not supported", it.lines)
 
     async def test_bytes_that_are_no_request_close_their_connection(self) -> None:
         async with front() as it:

@@ -4,8 +4,6 @@
 #[cfg(test)]
 mod beats;
 #[cfg(test)]
-mod hearing;
-#[cfg(test)]
 mod lines;
 #[cfg(test)]
 mod numbering;

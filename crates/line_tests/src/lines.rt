@@ -1,7 +1,6 @@
 //! Lines over readers and writers in memory, with replies worked out by hand from the Kafka protocol guide and KIP-848.
 ghost use Rattle.std.specs.Prelude.{⊤};
 
-use crate::hearing::Hearing;
 use crate::numbering::{Numbering, put_numbers};
 use crate::streams::{
     Frames, drain, feed, numbered_rows, output_within, put_words, task_of, written,
@@ -14,7 +13,6 @@ use link_futures::{
     Counted, Desk, Drain, End, Feed, Line, Moment, Moments, Session, Solo, Worker, WriteParts,
 };
 use std::alloc::{AllocError, AllocGlobal, Global};
-use std::cell::Cell;
 use std::collections::hash_map::RandomState;
 use std::random::RandomSource;
 use std::test::Fail;
@@ -232,7 +230,8 @@ impl Streaming {
     /// Tells the numbers of a worker's replies, line by line.
     fn tell_turns(&self, alloc: Global, words: &str, out: &mut String) -> Result<(), AllocError> {
         let (lines, far_ends) = self.piped_lines(alloc, words)?;
-        let _ = self.ended_within(alloc, lines, Numbering::new(), 1_000)?;
+        let worker = Worker::new(alloc, stream::iter(lines), Numbering::new());
+        let _ = output_within(&self.task, worker, 1_000);
         for far in far_ends {
             let bytes = written(alloc, &self.task, far)?;
             put_numbers(bytes.as_slice(), out)?;
@@ -260,10 +259,16 @@ impl Streaming {
         session.into_parts().0
     }
 
-    /// Tells how many lines of a worker have ended, and what they have written.
+    /// Tells what a worker's lines have written. A line that finds no memory is let go, and is no line that has ended: then the row
+    /// is asked again.
     fn tell_worker(&self, alloc: Global, words: &str, out: &mut String) -> Result<(), AllocError> {
         let (lines, far_ends) = self.piped_lines(alloc, words)?;
-        self.tell_ended(alloc, lines, 1_000, out)?;
+        let wanted = lines.len() as u64;
+        let ended = self.ended_within(alloc, lines, 1_000)?;
+        if ended != Some(wanted) {
+            return Err(AllocError);
+        }
+        write!(out, "{wanted}")?;
         self.tell_written(alloc, far_ends, out)
     }
 
@@ -285,39 +290,21 @@ impl Streaming {
         let (polls, words) = cut(words);
         let mut lines = Vec::new(alloc);
         lines.push(self.line_of(alloc, words)?)?;
-        self.tell_ended(alloc, lines, number(polls), out)
-    }
-
-    /// Tells how many of these lines have ended once their worker is ready, over a node.
-    fn tell_ended<W: WriteParts>(
-        &self,
-        alloc: Global,
-        lines: Vec<FedLine<W>>,
-        polls: usize,
-        out: &mut String,
-    ) -> Result<(), AllocError> {
-        match self.ended_within(alloc, lines, self.desk(alloc)?, polls)? {
+        match self.ended_within(alloc, lines, number(polls))? {
             Some(ended) => write!(out, "{ended}"),
             None => out.push_str("no end"),
         }
     }
 
-    /// How many of these lines have ended once their worker is ready, if it is within `polls` polls. A line to which a growth is
-    /// refused may end with replies unsent: where one has ended otherwise than between two frames, the row is asked again.
-    fn ended_within<W: WriteParts, D: Desk>(
+    /// How many of these lines have ended once their worker is ready, if it is within `polls` polls.
+    fn ended_within<W: WriteParts>(
         &self,
         alloc: Global,
         lines: Vec<FedLine<W>>,
-        desk: D,
         polls: usize,
     ) -> Result<Option<u64>, AllocError> {
-        let fallen = Cell::new(0u64);
-        let worker = Worker::new(alloc, stream::iter(lines), Hearing::new(desk, &fallen));
-        let ended = output_within(&self.task, worker, polls);
-        if fallen.get() > 0 {
-            return Err(AllocError);
-        }
-        Ok(ended)
+        let worker = Worker::new(alloc, stream::iter(lines), self.desk(alloc)?);
+        Ok(output_within(&self.task, worker, polls))
     }
 
     /// Lines that write into pipes, and the other ends of the pipes.
