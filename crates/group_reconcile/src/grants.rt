@@ -6,6 +6,7 @@ ghost use Rattle.std.specs.FinMap as finite;
 ghost use Rattle.group_types.specs.Sets.{common, in_order, nothing};
 ghost use Rattle.group_types.specs.Group.{held};
 ghost use Rattle.group_types.specs.Settle.{granting, grants_after, grants_of_others, may_settle};
+ghost use Rattle.group_reconcile.specs.Members.{parts_of};
 ghost use Rattle.group_reconcile.specs.Holders.{Settles, granted_at, holds, is_grantable, pairs, with_grant};
 ghost use Rattle.group_reconcile.specs.Offers.{IsSince, KeepsSince, handed_over, verdict_of};
 
@@ -93,9 +94,16 @@ impl Grants {
     pub fn held(&self, member: &str) -> Option<&PartSet>
         ensures { unwrap_or (option_copied result) nothing ≡ held (pairs self.now) member.now }
     {
-        let number = self.members.find(member)?;
-        let member = self.members.get(number)?;
-        Some(&member.parts)
+        parts_of(&self.members, self.members.find(member))
+    }
+
+    /// What the member with this id may read, as [`Grants::held`] says, and the place to give for the next member: members that
+    /// are asked for in the order of their ids, from place 0 on, are found without a search. Takes no memory.
+    pub fn held_near(&self, member: &str, near: usize) -> (Option<&PartSet>, usize)
+        ensures { unwrap_or (option_copied result.0) nothing ≡ held (pairs self.now) member.now }
+    {
+        let (number, next) = self.members.find_near(member, near);
+        (parts_of(&self.members, number), next)
     }
 
     /// Offers its target to a member that reports what it owns, or nothing (KIP-848, "Reconciliation of the group"): it
@@ -277,4 +285,12 @@ impl Grants {
         let _ = self.members.take(new.as_str());
         self.members.rename(old, new);
     }
+}
+
+/// What the member with this number may read, or none where there is no such member.
+fn parts_of(members: &Members, number: Option<usize>) -> Option<&PartSet>
+    ensures { unwrap_or (option_copied result) nothing ≡ unwrap_or (option_map (parts_of members.now) number) nothing }
+{
+    let member = members.get(number?)?;
+    Some(&member.parts)
 }

@@ -74,6 +74,17 @@ impl Members {
         }
     }
 
+    /// The number of the member with this id, as [`Members::find`] says, and the place to give for the next member in the order of
+    /// the ids: a member whose place is `near` is found without a search. Takes no memory.
+    pub fn find_near(&self, id: &str, near: usize) -> (Option<usize>, usize)
+        ensures { IsNumberOf self.now id.now result.0 }
+    {
+        match place_near(&self.members, &self.by_id, id, near) {
+            Ok(place) => (Some(self.by_id[place]), place + 1),
+            Err(place) => (None, place),
+        }
+    }
+
     /// The number of the member with this id: a new one, which holds nothing, where no member has the id. Where memory is
     /// short, no member has changed.
     pub fn number_for(&mut self, alloc: Global, id: &MemberId) -> Result<usize, AllocError>

@@ -88,6 +88,19 @@ impl Target {
         Wanted::new(self.spread.share_of(member), self.epoch)
     }
 
+    /// What the target wants of the member with this id, as [`Target::of`] says, and the place to give for the next member: members
+    /// that are asked for in the order of their ids, from place 0 on, are found without a search, but for those without a share. Takes
+    /// no memory.
+    pub fn of_near(&self, member: &str, near: usize) -> (Wanted<'_>, usize)
+        ensures partitions { result.0.partitions ≡ share_of self.now.owners member.now }
+        ensures epoch { result.0.epoch ≡ self.now.epoch }
+    {
+        match self.spread.share_near(member, near) {
+            Some((set, next)) => (Wanted::new(Some(set), self.epoch), next),
+            None => (Wanted::new(None, self.epoch), near),
+        }
+    }
+
     /// The epoch of the group for which the target was worked out.
     pub fn epoch(&self) -> EpochNumber
         ensures { result ≡ self.now.epoch }
