@@ -1,5 +1,5 @@
 -- The first join's answer, by its checks.
-use Rattle.std.proofs.Common.{◌≡◌, ℕ, suc, max, Bool, true, false, nat_le, refl, ap, subst, [], ◌∷◌, Option, Some, None}
+use Rattle.std.proofs.Common.{◌≡◌, ℕ, suc, max, Bool, true, false, nat_le, refl, sym, ap, subst, ◌∙◌, [], ◌∷◌, Option, Some, None}
 use Rattle.std.specs.FinMap as finite
 use Rattle.std.specs.Option.{MatchOption}
 use Rattle.group_types.specs.declared.code.Code.TheVariants as codes
@@ -12,7 +12,7 @@ use Rattle.group_types.specs.Request.{Joins, Kind, is_invalid, is_unsupported}
 use Rattle.group_types.specs.Group.{Group, Record, Target, starting_group, wanted}
 use Rattle.group_types.specs.Join.{Name, names_after, record_of_join}
 use Rattle.group_types.specs.Renewal.{IsTarget, RenewsWhere, changed_if, view_for}
-use Rattle.group_types.specs.Checks.{Accepted, Refused, Sender, first_of, sender_of}
+use Rattle.group_types.specs.Checks.{Accepted, Refused, Sender, first_of, request_checks, sender_of}
 use Rattle.group_types.specs.HeartbeatStep.{Answer, Arrival, Stages, IsRefused, TakesIn, draft_under, StepOf, StepBy, HeartbeatStep, ByVerdict, verdict_on_change}
 use Rattle.group_core.specs.Checks.{MakesMember, verdict_on_request}
 use Rattle.group_core.specs.FirstMember.{JoinsFirst, first_draft, nobody, one_record}
@@ -20,7 +20,7 @@ use Rattle.group_core.specs.Laws.{IsAnsweredBy, IsFirstAcceptance, FirstJoinsAre
 use Rattle.group_core.proofs.FirstJoin.{joins_first, rises, view_for-single}
 use Rattle.group_core.proofs.OneStep.{same_heartbeat_step, same_name}
 use Rattle.group_core.proofs.SoleMember.{all_of_target}
-use Rattle.group_core.proofs.Steps.{JoinsIfItRises, accepts_by, first_name, is_first_name, is_joining, sender_is_nobody, verdict_is}
+use Rattle.group_core.proofs.Steps.{JoinsIfItRises, accepts_by, first_name, is_first_name, is_joining, request_of_join, sender_is_nobody, verdict_is}
 
 module _ (salt epoch : ℕ) (h : Arrival) (makes : MakesMember h.heartbeat) where
   abbrev the_group : Group
@@ -47,7 +47,7 @@ module _ (salt epoch : ℕ) (h : Arrival) (makes : MakesMember h.heartbeat) wher
       (renewed.0, is)
 
   -- the step, once it is known whose it is
-  by_checks : (answer : Answer) (new : Group) → HeartbeatStep the_group h answer new → ByVerdict (verdict_on_request h.heartbeat) (StepOf Joins nobody the_group h) the_group answer new
+  by_checks : (answer : Answer) (new : Group) → HeartbeatStep the_group h answer new → ByVerdict (first_of (request_checks Joins h.heartbeat)) (StepOf Joins nobody the_group h) the_group answer new
   by_checks answer new step =
       let by_kind : StepBy Joins (sender_of the_group.records h.heartbeat) the_group h answer new =
       subst (λ (k : Kind). StepBy k (sender_of the_group.records h.heartbeat) the_group h answer new) (is_joining h.heartbeat makes.joins) step in
@@ -94,6 +94,6 @@ module _ (salt epoch : ℕ) (h : Arrival) (makes : MakesMember h.heartbeat) wher
 pub answered : FirstJoinsAreAnswered
 answered salt epoch h answer new makes step =
     by_verdict salt epoch h makes (is_invalid h.heartbeat) (is_unsupported h.heartbeat) (nat_le GREATEST_EPOCH epoch) answer new
-    (λ verdict below joins. acceptance salt epoch h makes verdict below answer new step joins)
+    (λ verdict below joins. acceptance salt epoch h makes (sym (request_of_join h.heartbeat makes.joins) ∙ verdict) below answer new step joins)
     (by_rising salt epoch h makes answer new)
     (by_checks salt epoch h makes answer new step)

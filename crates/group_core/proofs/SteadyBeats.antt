@@ -22,7 +22,7 @@ use Rattle.group_types.specs.Join.{names_after, record_of_beat, timeout_after}
 use Rattle.group_types.specs.Settle.{arrived, may_move, moved, settled, settled_by, is_free_for}
 use Rattle.group_types.specs.Sets.{has}
 use Rattle.group_types.specs.Renewal.{RenewsWhere}
-use Rattle.group_types.specs.Checks.{Accepted, Overtaken, Refused, Sender, Verdict, are_granted, is_current, is_fenced, is_late, is_overtaken, sender_of, verdict_on}
+use Rattle.group_types.specs.Checks.{Accepted, Overtaken, Refused, Sender, Verdict, are_granted, first_of, is_current, is_fenced, is_late, is_overtaken, request_checks, sender_of, verdict_on}
 use Rattle.group_types.specs.declared.code.Code.TheVariants as codes
 use Rattle.group_types.specs.HeartbeatStep.{Answer, Arrival, BeatsWith, ByVerdict, Draft, HeartbeatStep, Replied, Stages, StepBy, StepOf, TakesIn, acceptance, assignment_of, draft_of, draft_of_beat, is_news, shown}
 use Rattle.group_types.specs.Sound.{IsSound}
@@ -188,7 +188,8 @@ module _ (g : Group) (sound : IsSound g) (a : Arrival) (steady : IsSteady g a.he
 
   accepted : verdict_on (Beats (suc n)) Whose g Q a.stamp ≡ Accepted
   accepted =
-      let both = passed_both (is_invalid Q) (is_unsupported Q) (Refused codes.InvalidRequest) (Refused codes.UnsupportedAssignor) (λ is. cc) (λ is. cc) valid in
+      let both = passed_both (is_invalid Q) (is_unsupported Q) (Refused codes.InvalidRequest) (Refused codes.UnsupportedAssignor) (λ is. cc) (λ is. cc)
+      (sym (ap (λ e. first_of (request_checks (kind_of e) Q)) at) ∙ valid) in
       (λ i. cond (both.0 i) (Refused codes.InvalidRequest) (cond (both.1 i) (Refused codes.UnsupportedAssignor)
       (cond (is_none (own i)) (Refused codes.UnknownMemberId) (cond (is_overtaken a.stamp (own i)) Overtaken (cond (is_fenced (suc n) (own i) Granted) (Refused codes.FencedMemberEpoch) Accepted)))))
       ∙ (λ i. cond (later i) Overtaken (cond (not (is_current_so i)) (Refused codes.FencedMemberEpoch) Accepted))

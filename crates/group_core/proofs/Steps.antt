@@ -14,7 +14,7 @@ use Rattle.group_types.specs.Group.{Group, Record, starting_group}
 use Rattle.group_types.specs.Members.{members_of, is_remembered}
 use Rattle.group_types.specs.Renewal.{changed_if, view_for}
 use Rattle.group_types.specs.Join.{Name, IsNamed, IsNextSerial, name_of_serial}
-use Rattle.group_types.specs.Checks.{Verdict, Accepted, Refused, Overtaken, Member as Another, Sender, first_of, other_with, record_under, sender_of, verdict_on}
+use Rattle.group_types.specs.Checks.{Verdict, Accepted, Refused, Overtaken, Member as Another, Sender, first_of, other_with, record_under, request_checks, sender_of, verdict_on}
 use Rattle.group_types.specs.HeartbeatStep.{Answer, Replied, Arrival, refusal, ByVerdict, Stages, TakesIn, JoinsAs, StepOf, StepBy, HeartbeatStep}
 use Rattle.std.proofs.lemmas.Bool.{lt-leb}
 use Rattle.group_core.specs.Checks.{MakesMember, verdict_on_request}
@@ -54,7 +54,7 @@ is_joining q joins = ap kind_of joins
 not_too_many : nat_le MOST_MEMBERS (finite.len (finite.empty {X = Record} {R = text_cmp})) ≡ false
 not_too_many = ap (nat_le MOST_MEMBERS) (finite.len-empty text_cmp Record)
 
-pub verdict_is : (salt epoch : ℕ) (q : Heartbeat) (stamp : Stamp) → verdict_on Joins nobody (starting_group salt epoch) q stamp ≡ verdict_on_request q
+pub verdict_is : (salt epoch : ℕ) (q : Heartbeat) (stamp : Stamp) → verdict_on Joins nobody (starting_group salt epoch) q stamp ≡ first_of (request_checks Joins q)
 verdict_is salt epoch q stamp =
     ap (λ (full : Bool). first_of
     ((is_invalid q, Refused codes.InvalidRequest)
@@ -63,6 +63,9 @@ verdict_is salt epoch q stamp =
     ∷ (false, Refused codes.UnreleasedInstanceId)
     ∷ (full, Refused codes.GroupMaxSizeReached)
     ∷ [])) not_too_many
+
+pub request_of_join : (q : Heartbeat) → q.epoch ≡ pos 0 → first_of (request_checks Joins q) ≡ verdict_on_request q
+request_of_join q joins = ap (λ e. first_of (request_checks (kind_of e) q)) (sym joins)
 
 pub cannot_rise : (epoch : ℕ) → epoch ≡ GREATEST_EPOCH → nat_le GREATEST_EPOCH epoch ≡ true
 cannot_rise epoch is = ap (nat_le GREATEST_EPOCH) is
@@ -87,7 +90,7 @@ module _ (salt epoch : ℕ) (h : Arrival) where
       → ByVerdict verdict (StepOf Joins nobody TheStart h) TheStart answer new → HeartbeatStep TheStart h answer new
   step_joins makes verdict is answer new by =
       let so : ByVerdict (verdict_on Joins nobody TheStart h.heartbeat h.stamp) (StepOf Joins nobody TheStart h) TheStart answer new =
-      subst (λ v. ByVerdict v (StepOf Joins nobody TheStart h) TheStart answer new) (sym (verdict_is salt epoch h.heartbeat h.stamp ∙ is)) by in
+      subst (λ v. ByVerdict v (StepOf Joins nobody TheStart h) TheStart answer new) (sym (verdict_is salt epoch h.heartbeat h.stamp ∙ (request_of_join h.heartbeat makes.joins ∙ is))) by in
       let by_sender : StepBy Joins (sender_of TheStart.records h.heartbeat) TheStart h answer new =
       subst (λ (s : Sender). StepBy Joins s TheStart h answer new) (sym (sender_is_nobody salt epoch h.heartbeat makes)) so in
       subst (λ (k : Kind). StepBy k (sender_of TheStart.records h.heartbeat) TheStart h answer new) (sym (is_joining h.heartbeat makes.joins)) by_sender

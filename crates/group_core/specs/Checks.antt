@@ -1,10 +1,9 @@
 -- What the checks of a heartbeat come to (KIP-848, "Consumer Group Heartbeat").
-use Rattle.std.specs.Prelude.{◌≡◌, ℕ, nat_le, pos, [], ◌∷◌, None}
+use Rattle.std.specs.Prelude.{◌≡◌, ℕ, nat_le, pos, [], ◌∷◌, ◌++◌, None}
 use Rattle.group_types.specs.declared.code.Code.TheVariants as codes
 use Rattle.group_types.specs.Limits.{GREATEST_EPOCH}
-use Rattle.group_types.specs.Request.{Heartbeat, Kind, Joins, Beats, Leaves, GoesAway, MeansNothing, is_invalid, is_unsupported}
-use Rattle.group_types.specs.Group.{Grants}
-use Rattle.group_types.specs.Checks.{Verdict, Accepted, Refused, Overtaken, Sender, are_granted, first_of, is_fenced}
+use Rattle.group_types.specs.Request.{Heartbeat, Joins, kind_of}
+use Rattle.group_types.specs.Checks.{Verdict, Refused, first_of, request_checks}
 
 -- KIP-848, "Consumer Group Heartbeat": a member joins that has neither an id nor an instance
 pub record MakesMember (q : Heartbeat) : Type 0 where
@@ -14,29 +13,8 @@ pub record MakesMember (q : Heartbeat) : Type 0 where
 
 -- the checks that look at nothing but the request
 abbrev pub verdict_on_request : Heartbeat → Verdict
-verdict_on_request q =
-    first_of ((is_invalid q, Refused codes.InvalidRequest) ∷ (is_unsupported q, Refused codes.UnsupportedAssignor) ∷ [])
-
--- of a beat, the one on its member epoch, once it is found to be of a member
-abbrev pub verdict_on_epoch : Kind → Sender → Grants → Heartbeat → Verdict
-verdict_on_epoch (Beats n) sender grants q =
-    first_of ((is_fenced n sender.own (are_granted grants q.member q.owned), Refused codes.FencedMemberEpoch) ∷ [])
-verdict_on_epoch Joins sender grants q = Accepted
-verdict_on_epoch Leaves sender grants q = Accepted
-verdict_on_epoch GoesAway sender grants q = Accepted
-verdict_on_epoch MeansNothing sender grants q = Accepted
-
--- the former checks, and then the latter
-abbrev pub and_then : Verdict → Verdict → Verdict
-and_then Accepted later = later
-and_then (Refused code) later = Refused code
-and_then Overtaken later = Overtaken
+verdict_on_request q = first_of (request_checks (kind_of q.epoch) q)
 
 -- of the first join of a group at an epoch: after these, whether the epoch can rise
 abbrev pub verdict_on_first : Heartbeat → ℕ → Verdict
-verdict_on_first q epoch =
-    first_of
-    ((is_invalid q, Refused codes.InvalidRequest)
-    ∷ (is_unsupported q, Refused codes.UnsupportedAssignor)
-    ∷ (nat_le GREATEST_EPOCH epoch, Refused codes.CoordinatorNotAvailable)
-    ∷ [])
+verdict_on_first q epoch = first_of (request_checks Joins q ++ (nat_le GREATEST_EPOCH epoch, Refused codes.CoordinatorNotAvailable) ∷ [])

@@ -21,6 +21,7 @@ pub fn makes_member(request: &HeartbeatRequest<'_>) -> bool
 
 /// The code that the request is refused with, whatever the group (KIP-848, "ConsumerGroupHeartbeat API").
 #[inline(always)]
+#[tactic(auto, using(crate::proofs::Verdicts::request_verdict))]
 pub fn refusal_of(request: &HeartbeatRequest<'_>) -> Option<Code>
     ensures { let q = heartbeat_of (heartbeat_request_value request.now) in
         MatchOption result (verdict_on_request q ≡ Accepted) (λ code. verdict_on_request q ≡ Refused code) }

@@ -1,9 +1,9 @@
 //! The checks of a heartbeat, in their order (KIP-848, "ConsumerGroupHeartbeat API").
-ghost use Rattle.std.specs.Prelude.{◌≡◌, ◌∷◌, ℕ, pos, [], Some, unwrap_or};
+ghost use Rattle.std.specs.Prelude.{◌≡◌, ℕ, pos, Some, unwrap_or};
 ghost use Rattle.std.specs.List.{flat_map, list_all};
 ghost use Rattle.std.specs.Option.{option_copied, option_map};
-ghost use Rattle.group_types.specs.Request.{kind_of};
-ghost use Rattle.group_types.specs.Checks.{Refused, are_granted, first_of, is_fenced, sender_of, verdict_on};
+ghost use Rattle.group_types.specs.Request.{Beats, kind_of};
+ghost use Rattle.group_types.specs.Checks.{Sender, are_granted, epoch_checks, first_of, sender_of, verdict_on};
 ghost use Rattle.group_types.specs.Sets.{has, nothing};
 ghost use Rattle.group_types.specs.Sound.{IsSound};
 ghost use Rattle.group_reconcile.specs.Holders.{pairs};
@@ -48,8 +48,8 @@ fn check_epoch(
     request: &HeartbeatRequest<'_>,
 ) -> Result<(), Refusal>
     ensures { let q = heartbeat_of (heartbeat_request_value request.now) in
-        (n : ℕ) → request.now.member_epoch ≡ pos n
-        → verdict_of result ≡ first_of ((is_fenced n (Some member.now) (are_granted (pairs grants.now) q.member q.owned), Refused Code.FencedMemberEpoch) ∷ []) }
+        (n : ℕ) (sender : Sender) → request.now.member_epoch ≡ pos n → sender.own ≡ Some member.now
+        → verdict_of result ≡ first_of (epoch_checks (Beats n) sender (pairs grants.now) q) }
 {
     let passes = Records::check_epoch(member, request.member_epoch)?;
     if passes || are_granted(grants, request.member_id, &request.topic_partitions) {

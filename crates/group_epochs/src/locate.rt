@@ -1,15 +1,16 @@
 //! Whose heartbeat it is, and the checks that look at the members' records, in their order (KIP-848, "ConsumerGroupHeartbeat API").
 
-ghost use Rattle.std.specs.Prelude.{◌≡◌, ℕ, pos, is_none, IfOk, MatchOption, None, Some};
+ghost use Rattle.std.specs.Prelude.{◌≡◌, ℕ, pos, IfOk, MatchOption, None, Some};
 ghost use Rattle.std.specs.FinMap as finite;
 ghost use Rattle.std.specs.Option.{option_copied};
-ghost use Rattle.group_types.specs.Request.{kind_of};
-ghost use Rattle.group_types.specs.Checks.{is_another, is_away, is_of_past, is_overtaken, other_with, sender_of};
+ghost use Rattle.group_types.specs.Members.{Members};
+ghost use Rattle.group_types.specs.Request.{Joins, kind_of};
+ghost use Rattle.group_types.specs.Checks.{Sender, first_of, is_another, is_away, is_of_past, is_overtaken, member_checks, sender_of};
 ghost use Rattle.group_types.specs.Sound.{IsPast};
 ghost use Rattle.kip_msgs.specs.Views.{heartbeat_request_value};
 ghost use Rattle.group_epochs.specs.Request.{heartbeat_of};
 ghost use Rattle.group_epochs.specs.Records.{members_in};
-ghost use Rattle.group_epochs.specs.Checks.{AreSound, IsCheckOfEpoch, is_unknown, verdict_of, verdict_on_join, verdict_on_member, verdict_on_own, verdict_on_place};
+ghost use Rattle.group_epochs.specs.Checks.{AreSound, IsCheckOfEpoch, verdict_of};
 
 use crate::record::Record;
 use crate::records::Records;
@@ -28,7 +29,7 @@ impl Records {
     ) -> Result<Option<&Record>, Refusal>
         requires { AreSound (members_in self.now) }
         ensures verdict { let q = heartbeat_of (heartbeat_request_value request.now) in
-            verdict_of result ≡ verdict_on_member (kind_of q.epoch) (sender_of self.now.records q) (members_in self.now) q stamp }
+            verdict_of result ≡ first_of (member_checks (kind_of q.epoch) (sender_of self.now.records q) (members_in self.now) q stamp) }
         ensures own { IfOk result (λ own. option_copied own ≡ finite.get self.now.records request.now.member_id.now) }
     {
         let own = self.get(request.member_id);
@@ -54,7 +55,6 @@ impl Records {
     }
 
     /// The checks that look at members, but for that of the member epoch.
-    #[tactic(auto, using(crate::proofs::Verdicts::of_own))]
     fn check_member(
         &self,
         own: Option<&Record>,
@@ -64,7 +64,7 @@ impl Records {
         requires sound { AreSound (members_in self.now) }
         requires own { option_copied own ≡ finite.get self.now.records request.now.member_id.now }
         ensures { let q = heartbeat_of (heartbeat_request_value request.now) in
-            verdict_of result ≡ verdict_on_member (kind_of q.epoch) (sender_of self.now.records q) (members_in self.now) q stamp }
+            verdict_of result ≡ first_of (member_checks (kind_of q.epoch) (sender_of self.now.records q) (members_in self.now) q stamp) }
     {
         if request.member_epoch == 0 {
             return self.check_join(own, request, stamp);
@@ -72,7 +72,9 @@ impl Records {
         check_own(own, request, stamp)
     }
 
-    /// The checks of a join.
+    /// The checks of a join: no later one was accepted, and it neither takes what another member has nor makes a member more than there
+    /// may be.
+    #[tactic(auto, using(crate::proofs::Verdicts::beside_other, crate::proofs::Verdicts::alone))]
     fn check_join(
         &self,
         own: Option<&Record>,
@@ -82,22 +84,12 @@ impl Records {
         requires sound { AreSound (members_in self.now) }
         requires own { option_copied own ≡ finite.get self.now.records request.now.member_id.now }
         ensures { let q = heartbeat_of (heartbeat_request_value request.now) in
-            verdict_of result ≡ verdict_on_join (sender_of self.now.records q) (members_in self.now) q.member stamp }
+            verdict_of result ≡ first_of (member_checks Joins (sender_of self.now.records q) (members_in self.now) q stamp) }
     {
         if is_overtaken(own, stamp) || self.is_of_past(request.member_id, stamp) {
             return Err(Refusal::Overtaken);
         }
-        self.check_place(own.is_none(), request)
-    }
-
-    /// The checks of a join that look at other members: it neither takes what another has, nor makes a member more than there may be.
-    #[tactic(auto, using(crate::proofs::Verdicts::beside_other, crate::proofs::Verdicts::alone))]
-    fn check_place(&self, is_new: bool, request: &HeartbeatRequest<'_>) -> Result<(), Refusal>
-        requires sound { AreSound (members_in self.now) }
-        requires new { is_new ≡ is_none (finite.get self.now.records request.now.member_id.now) }
-        ensures { let sender = sender_of self.now.records (heartbeat_of (heartbeat_request_value request.now)) in
-            verdict_of result ≡ verdict_on_place sender (finite.len self.now.records) }
-    {
+        let is_new = own.is_none();
         match self.other_of(request) {
             Some((_, other)) => {
                 if is_new && is_away(other) {
@@ -139,7 +131,9 @@ impl Records {
     }
 }
 
-/// The checks of a heartbeat that is no join, but for that of its member epoch: the member is there, and no later one was accepted.
+/// The checks of a heartbeat that is no join, but for that of its member epoch: the member is there and, where it goes away, is the one
+/// with the instance; and no later one was accepted.
+#[tactic(auto, using(crate::proofs::Verdicts::of_known))]
 fn check_own(
     own: Option<&Record>,
     request: &HeartbeatRequest<'_>,
@@ -147,27 +141,20 @@ fn check_own(
 ) -> Result<(), Refusal>
     requires { ¬ (request.now.member_epoch ≡ pos 0) }
     ensures { let q = heartbeat_of (heartbeat_request_value request.now) in
-        verdict_of result ≡ verdict_on_own (kind_of q.epoch) (option_copied own.entry) q.instance stamp }
+        (sender : Sender) (s : Members) → sender.own ≡ option_copied own.entry
+        → verdict_of result ≡ first_of (member_checks (kind_of q.epoch) sender s q stamp) }
 {
-    if is_unknown(own, request) {
+    let is_unknown = match request.member_epoch {
+        -2 => is_another(own, request.instance_id),
+        _ => own.is_none(),
+    };
+    if is_unknown {
         return Err(Refusal::Refused(Code::UnknownMemberId));
     }
     if is_overtaken(own, stamp) {
         return Err(Refusal::Overtaken);
     }
     Ok(())
-}
-
-/// Whether the member of a heartbeat that is no join isn't there or, where it goes away, isn't the one with the instance.
-fn is_unknown(own: Option<&Record>, request: &HeartbeatRequest<'_>) -> bool
-    requires { ¬ (request.now.member_epoch ≡ pos 0) }
-    ensures { let q = heartbeat_of (heartbeat_request_value request.now) in
-        result ≡ is_unknown (kind_of q.epoch) (option_copied own.entry) q.instance }
-{
-    match request.member_epoch {
-        -2 => is_another(own, request.instance_id),
-        _ => own.is_none(),
-    }
 }
 
 /// Whether the member isn't there, or isn't the one with the instance.

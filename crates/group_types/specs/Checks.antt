@@ -1,6 +1,6 @@
 -- The checks of a heartbeat (KIP-848, "ConsumerGroupHeartbeat API"; the order of the checks, the conditions of the one
 -- on the previous epoch, and which codes static members meet are ours): the first that applies is the answer.
-use Rattle.std.specs.Prelude.{ℕ, Bool, true, false, not, ◌||◌, ◌&&◌, ◌==◌, nat_le, if◌then◌else◌, is_none, List, [], ◌∷◌, Option, Some, None}
+use Rattle.std.specs.Prelude.{ℕ, Bool, true, false, not, ◌||◌, ◌&&◌, ◌==◌, nat_le, if◌then◌else◌, is_none, List, [], ◌∷◌, ◌++◌, Option, Some, None}
 use Rattle.std.specs.List.{list_any, list_all, find}
 use Rattle.std.specs.Str.{bytes_eq}
 use Rattle.std.specs.Option.{option_map_or, option_map}
@@ -18,6 +18,7 @@ use Rattle.group_types.specs.Sets.{has}
 use Rattle.group_types.specs.Stamp.{stamp_cmp}
 use Rattle.group_types.specs.Request.{Heartbeat, Kind, Joins, Beats, Leaves, GoesAway, MeansNothing, is_invalid, is_unsupported}
 use Rattle.group_types.specs.Group.{Record, Records, Grants, Past, Group}
+use Rattle.group_types.specs.Members.{Members, members_of}
 
 -- what the checks of a heartbeat come to
 pub data Verdict : Type 0 where
@@ -122,34 +123,40 @@ abbrev pub first_of : List Check → Verdict
 first_of [] = Accepted
 first_of (check ∷ checks) = if check.0 then check.1 else first_of checks
 
+-- those on the request alone
+abbrev pub request_checks : Kind → Heartbeat → List Check
+request_checks Joins q = (is_invalid q, Refused codes.InvalidRequest) ∷ (is_unsupported q, Refused codes.UnsupportedAssignor) ∷ []
+request_checks (Beats n) q = (is_invalid q, Refused codes.InvalidRequest) ∷ (is_unsupported q, Refused codes.UnsupportedAssignor) ∷ []
+request_checks Leaves q = (is_invalid q, Refused codes.InvalidRequest) ∷ []
+request_checks GoesAway q = (is_invalid q, Refused codes.InvalidRequest) ∷ []
+request_checks MeansNothing q = (true, Refused codes.InvalidRequest) ∷ []
+
+-- those on the members' records
+abbrev pub member_checks : Kind → Sender → Members → Heartbeat → Stamp → List Check
+member_checks Joins sender s q stamp =
+    (is_overtaken stamp sender.own || is_of_past s.past q.member stamp, Overtaken)
+    ∷ (is_unreleased sender.own sender.other, Refused codes.UnreleasedInstanceId)
+    ∷ (is_too_many sender.own sender.other (finite.len s.records), Refused codes.GroupMaxSizeReached)
+    ∷ []
+member_checks (Beats n) sender s q stamp = (is_none sender.own, Refused codes.UnknownMemberId) ∷ (is_overtaken stamp sender.own, Overtaken) ∷ []
+member_checks Leaves sender s q stamp = (is_none sender.own, Refused codes.UnknownMemberId) ∷ (is_overtaken stamp sender.own, Overtaken) ∷ []
+member_checks GoesAway sender s q stamp =
+    (is_another sender.own q.instance, Refused codes.UnknownMemberId) ∷ (is_overtaken stamp sender.own, Overtaken) ∷ []
+member_checks MeansNothing sender s q stamp = (is_none sender.own, Refused codes.UnknownMemberId) ∷ (is_overtaken stamp sender.own, Overtaken) ∷ []
+
+-- that on the member epoch
+abbrev pub epoch_checks : Kind → Sender → Grants → Heartbeat → List Check
+epoch_checks (Beats n) sender grants q = (is_fenced n sender.own (are_granted grants q.member q.owned), Refused codes.FencedMemberEpoch) ∷ []
+epoch_checks Joins sender grants q = []
+epoch_checks Leaves sender grants q = []
+epoch_checks GoesAway sender grants q = []
+epoch_checks MeansNothing sender grants q = []
+
 -- By the kind of heartbeat. The last check of a join or a beat, COORDINATOR_NOT_AVAILABLE, stands where each of its
 -- reasons is known: the serial and the epoch in HeartbeatStep, the number of groups at the node.
 abbrev pub checks_of : Kind → Sender → Group → Heartbeat → Stamp → List Check
-checks_of Joins sender g q stamp =
-    (is_invalid q, Refused codes.InvalidRequest)
-    ∷ (is_unsupported q, Refused codes.UnsupportedAssignor)
-    ∷ (is_overtaken stamp sender.own || is_of_past g.past q.member stamp, Overtaken)
-    ∷ (is_unreleased sender.own sender.other, Refused codes.UnreleasedInstanceId)
-    ∷ (is_too_many sender.own sender.other (finite.len g.records), Refused codes.GroupMaxSizeReached)
-    ∷ []
-checks_of (Beats n) sender g q stamp =
-    (is_invalid q, Refused codes.InvalidRequest)
-    ∷ (is_unsupported q, Refused codes.UnsupportedAssignor)
-    ∷ (is_none sender.own, Refused codes.UnknownMemberId)
-    ∷ (is_overtaken stamp sender.own, Overtaken)
-    ∷ (is_fenced n sender.own (are_granted g.grants q.member q.owned), Refused codes.FencedMemberEpoch)
-    ∷ []
-checks_of Leaves sender g q stamp =
-    (is_invalid q, Refused codes.InvalidRequest)
-    ∷ (is_none sender.own, Refused codes.UnknownMemberId)
-    ∷ (is_overtaken stamp sender.own, Overtaken)
-    ∷ []
-checks_of GoesAway sender g q stamp =
-    (is_invalid q, Refused codes.InvalidRequest)
-    ∷ (is_another sender.own q.instance, Refused codes.UnknownMemberId)
-    ∷ (is_overtaken stamp sender.own, Overtaken)
-    ∷ []
-checks_of MeansNothing sender g q stamp = (true, Refused codes.InvalidRequest) ∷ []
+checks_of kind sender g q stamp =
+    request_checks kind q ++ member_checks kind sender (members_of g) q stamp ++ epoch_checks kind sender g.grants q
 
 abbrev pub verdict_on : Kind → Sender → Group → Heartbeat → Stamp → Verdict
 verdict_on kind sender g q stamp = first_of (checks_of kind sender g q stamp)
