@@ -12,7 +12,7 @@ use std::marker::Model;
 
 /// A frame's body that has been read, with the request that it is, if any. Callers see its bytes.
 ///
-/// Who has to know the group of a frame before the frame is answered reads the body once, and has the same request answered.
+/// Who has to know of the request before it is answered reads the body once, and has the same request answered.
 #[derive(Drop)]
 pub struct ParsedBody<'a> {
     bytes: &'a [u8],
@@ -67,7 +67,7 @@ impl<'a> ParsedBody<'a> {
     }
 
     /// The request, where the bytes are one.
-    pub(crate) fn request(&self) -> Option<&Request<'a>>
+    pub fn request(&self) -> Option<&Request<'a>>
         ensures { IsRequestOf self.now (option_map request_value (option_copied result)) }
     {
         self.request.as_ref()
