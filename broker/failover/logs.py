@@ -57,17 +57,16 @@ class Logs:
                     self.watch(port)
 
     def watch(self, port: int) -> None:
-        # (Where there is nothing later than what was taken, all is known up to now: etcd may have forgotten the revisions between.)
-        last, now = self.last(call(port, "kv/range", **LATEST))
-        self.revision = now if last <= self.revision else self.revision
+        # (etcd may have forgotten revisions. What no snapshot stands for yet is still there as keys.)
+        found = call(port, "kv/range", min_mod_revision=str(self.revision + 1), sort_order="ASCEND", sort_target="MOD", **KEYS)
+        for pair in found.get("kvs", []):
+            self.take(pair, False)
+        self.revision = max(self.revision, int(found["header"]["revision"]))
         with opened(port, "watch", SILENT_SECONDS, {"create_request": {**KEYS, "start_revision": str(self.revision + 1)}}) as lines:
             for line in lines:
                 result = json.loads(line).get("result")
-                if result is None:
+                if result is None or result.get("canceled"):
                     raise OSError(line)
-                if result.get("canceled"):
-                    self.faults.append(f"the logs can't be followed from revision {self.revision + 1} on: {result}")
-                    self.ends = True
                 for event in result.get("events", []):
                     self.take(event["kv"], event.get("type") == "DELETE")
                 if self.ends:
