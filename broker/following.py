@@ -31,6 +31,8 @@ class Follower:
         # The last place that is applied, and the last that the log is known to have; how many bytes the batches up to there have; whether all
         # that the log had at the start is applied.
         self.place = self.head = self.logged = 0
+        # The place of the snapshot that it last went on from; 0 where it has met none.
+        self.restored = 0
         self.has_read_up = asyncio.Event()
         # Which kinds there have been among the applied entries.
         self.has_topics = self.has_frames = False
@@ -104,7 +106,8 @@ class Follower:
                 value = last and last.value
             except MemoryError:
                 raise Stopped("there is no memory for the snapshot") from None
-        self.place, self.logged, self.head = it.place, it.logged, max(self.head, it.place)
+        self.place = self.restored = it.place
+        self.logged, self.head = it.logged, max(self.head, it.place)
         self.has_topics = self.has_frames = True
         self.feed.restored()
         return True

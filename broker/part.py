@@ -228,6 +228,7 @@ class Part:
             "is_led_here": self.serves,
             "entry": self.follower.place,
             "behind": max(0, self.follower.head - self.follower.place),
+            "restored": self.follower.restored,
             "snapshot": {"entry": self.snapshot.place, "bytes": self.snapshot.size, "seconds": self.snapshot.seconds},
             "fault": self.fault,
         }

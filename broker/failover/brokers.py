@@ -8,8 +8,9 @@ import pathlib
 import random
 import sys
 import urllib.request
-from typing import List, Optional, Set
+from typing import Dict, List, Optional, Set
 
+from broker.snapshots import LAST, decoded
 from broker.streams import within
 from clients.relay import read_frame
 from clients.stand import HOST, Failed, Ports, Programs, Topic
@@ -165,6 +166,14 @@ class Brokers(Programs):
     def page(self, slot: int) -> str:
         with urllib.request.urlopen(f"http://{HOST}:{self.pages[slot]}/groups", timeout=PAGE_SECONDS) as page:
             return page.read().decode()
+
+    def snapshots(self) -> Dict[int, int]:
+        """The place of each part's last snapshot."""
+        return {int(key[len(LAST) :]): decoded(value).place for key, value in self.etcds.pairs(LAST).items()}
+
+    def restored(self, slot: int) -> Dict[int, int]:
+        """The place of the snapshot that a broker's replica of each part went on from, where it has met one."""
+        return {part["part"]: part["restored"] for part in json.loads(self.page(slot))["parts"] if part["restored"]}
 
     def stopped(self) -> List[str]:
         """The parts that have stopped in a broker, and why."""

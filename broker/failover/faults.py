@@ -6,7 +6,7 @@ import signal
 import time
 from typing import Awaitable, Callable, Dict, List, NamedTuple, Sequence
 
-from broker.snapshots import LAST, PIECES, decoded, folder
+from broker.snapshots import LAST, PIECES, folder
 from clients.stand import Failed, Programs
 from broker.failover.brokers import Brokers
 from broker.failover.etcds import text
@@ -62,8 +62,8 @@ async def kill_writer(it: Brokers, slot: int) -> None:
 
 def unnamed(it: Brokers) -> List[str]:
     """The pieces of snapshots but the last of each part."""
-    pieces, named = it.etcds.pairs(PIECES), it.etcds.pairs(LAST)
-    folders = tuple(folder(int(key[len(LAST) :]), decoded(value).place) + "/" for key, value in named.items())
+    pieces = it.etcds.pairs(PIECES)
+    folders = tuple(folder(part, place) + "/" for part, place in it.snapshots().items())
     return [key for key in pieces if not key.startswith(folders)]
 
 
@@ -118,11 +118,22 @@ async def restart_all(it: Brokers, _: int) -> None:
     await asyncio.gather(*map(it.start_one, slots))
 
 
+def begun_without(it: Brokers, slot: int, snapshots: Dict[int, int]) -> List[int]:
+    """The parts of which a broker hasn't met these snapshots, nor later ones."""
+    restored = it.restored(slot)
+    return [part for part, place in snapshots.items() if restored.get(part, 0) < place]
+
+
 async def replace(it: Brokers, slot: int) -> None:
+    before = await asyncio.to_thread(it.snapshots)
     new, until = await it.add_one(), time.monotonic() + SPREAD_SECONDS
     while not await it.leads(new):
         if time.monotonic() > until:
             raise Failed(f"no leadership comes to a new broker within {SPREAD_SECONDS} s")
+        await asyncio.sleep(0.5)
+    while late := await asyncio.to_thread(begun_without, it, new, before):
+        if time.monotonic() > until:
+            raise Failed(f"a new broker doesn't begin part {late[0]} with its snapshot of entry {before[late[0]]}")
         await asyncio.sleep(0.5)
     await asyncio.to_thread(it.send_signal, str(slot), signal.SIGTERM)
 
