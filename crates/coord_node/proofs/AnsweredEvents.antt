@@ -24,7 +24,7 @@ use Rattle.group_types.specs.Code.{code_number, code_text}
 use Rattle.group_types.specs.Limits.{LARGEST_BODY, LONGEST_STRING, MOST_PARTITIONS, SMALLEST_BODY}
 use Rattle.group_types.specs.Text.{Text}
 use Rattle.group_types.specs.Images.{AreImageTopics}
-use Rattle.group_types.specs.Sets.{has, in_order, size}
+use Rattle.group_types.specs.Sets.{in_order, size}
 use Rattle.group_types.specs.Partition.{partition_cmp, Partitions}
 use Rattle.group_types.specs.Group.{Group, new_group}
 use Rattle.group_types.specs.Sound.{IsSound}

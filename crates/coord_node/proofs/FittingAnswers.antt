@@ -16,7 +16,7 @@ use Rattle.group_types.specs.declared.code.Code.TheVariants as codes
 use Rattle.group_types.specs.declared.partition.Partition.{Partition}
 use Rattle.group_types.specs.Limits.{GREATEST_EPOCH, MOST_PARTITIONS, MOST_TOPIC_PARTITIONS}
 use Rattle.group_types.specs.Text.{Text}
-use Rattle.group_types.specs.Sets.{common, has, size}
+use Rattle.group_types.specs.Sets.{has, size}
 use Rattle.group_types.specs.Partition.{Partitions}
 use Rattle.group_types.specs.Topics.{Topics}
 use Rattle.group_types.specs.Images.{AreImageTopics}

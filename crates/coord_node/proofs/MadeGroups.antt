@@ -1,15 +1,14 @@
 -- Which groups there are after a step.
-use Rattle.std.proofs.Common.{◌≡◌, ◌≢◌, ℕ, Bool, true, false, Option, Some, None, refl, sym, ap, subst, ◌∙◌, true≢false}
+use Rattle.std.proofs.Common.{◌≡◌, ◌≢◌, Bool, true, false, refl, sym, ap, ◌∙◌, true≢false}
 use Rattle.std.specs.FinMap as finite
 use Rattle.group_types.specs.declared.code.Code.{Code}
 use Rattle.group_types.specs.declared.code.Code.TheVariants as codes
 use Rattle.group_types.specs.Text.{Text}
 use Rattle.group_types.specs.Group.{Group}
-use Rattle.group_types.specs.HeartbeatStep.{Arrival}
 use Rattle.group_types.specs.HeartbeatStep as group
 use Rattle.group_types.proofs.Lookups.{get-inserted}
 use Rattle.coord_node.specs.Coordinator.{Coordinator}
-use Rattle.coord_node.specs.Steps.{HeartbeatAt, Makes, MakesBy, Opening, has_room, is_success, with_group, Step}
+use Rattle.coord_node.specs.Steps.{Makes, MakesBy, Opening, has_room, is_success, with_group, Step}
 use Rattle.coord_node.specs.EachGroup.{GroupsAreMadeBySuccess, IsMadeBySuccess, Succeeds, TicksAreOfAllGroups}
 use Rattle.coord_node.proofs.TickLemmas.{get-all_ticked}
 

@@ -1,5 +1,5 @@
 -- What a node's steps do to each of its groups.
-use Rattle.std.specs.Prelude.{◌≡◌, ◌≢◌, ℕ, Some, None, sum_by}
+use Rattle.std.specs.Prelude.{◌≡◌, ℕ, Some, None, sum_by}
 use Rattle.std.specs.Option.{option_map}
 use Rattle.std.specs.FinMap as finite
 use Rattle.group_types.specs.declared.code.Code.TheVariants.{NoError}
@@ -9,7 +9,7 @@ use Rattle.group_types.specs.Tick.{removed_by_tick, ticked}
 use Rattle.group_types.specs.HeartbeatStep.{Arrival}
 use Rattle.group_types.specs.HeartbeatStep as group
 use Rattle.coord_node.specs.Coordinator.{Coordinator, Tick, Answer, Done}
-use Rattle.coord_node.specs.Steps.{EventRelation, HeartbeatAt, Step}
+use Rattle.coord_node.specs.Steps.{EventRelation, HeartbeatAt}
 
 -- KIP-848, "Session Management": a node's tick is a tick of each of its groups; it answers how many members they lost together,
 -- and nothing else differs
