@@ -1,21 +1,20 @@
 -- A commit that is brought twice, and accepted both times.
-use Rattle.std.proofs.Common.{◌≡◌, ◌^◌, pos, true, false, List, [], ◌∷◌, ◌++◌, ℕ, length, nat_le, nat_lt, Option, Some, None, if◌then◌else◌, inl, refl, sym, ap, subst, ◌∙◌, arith, ltb-true}
+use Rattle.std.proofs.Common.{◌≡◌, ◌^◌, pos, true, false, List, [], ◌∷◌, ℕ, length, nat_le, nat_lt, Option, Some, None, if◌then◌else◌, inl, refl, sym, ap, subst, ◌∙◌, arith, ltb-true}
 use Rattle.std.proofs.lemmas.Bool.{leb-true}
 use Rattle.std.specs.FinMap as finite
 use Rattle.std.specs.Option.{option_map_or}
 use Rattle.uuid.specs.Text.{by_index}
-use Rattle.flex_wire.specs.Spelling.{signed, int32, varint, varint_groups, compact_string, compact_nullable_string, nullable_string, tagged_fields, array_count, nullable_array_count}
+use Rattle.flex_wire.specs.Spelling.{signed, varint, varint_groups, compact_string, compact_nullable_string, nullable_string, tagged_fields, array_count, nullable_array_count}
 use Rattle.kip_msgs.specs.Values.{CommitRequestPartitionValue, CommitRequestTopicValue, CommitReplyPartitionValue, CommitReplyTopicValue, CommitReplyValue, RequestValue, ResponseHeaderValue, commit_reply}
 use Rattle.kip_msgs.specs.Spelling.{FitsCommitReplyPartition, FitsCommitReplyTopic, FitsCommitRequestPartition, FitsCommitRequestTopic, SpellsReply, SpellsRequest, request_body, reply_body, request_header_fields, response_header_fields, commit_request_fields, commit_request_topic_fields, commit_request_partition_fields, commit_reply_fields, commit_reply_topic_fields, commit_reply_partition_fields}
 use Rattle.group_types.specs.declared.code.Code.TheVariants as codes
 use Rattle.group_types.specs.Commit as group
 use Rattle.group_types.specs.HeartbeatStep.{Replied}
 use Rattle.group_types.specs.Laws.{GroupEvent, OfCommit, OfHeartbeat}
-use Rattle.group_types.specs.Commit.{CommitReply, CommitStep, commit_reply as answer_to, offsets_after, refusal_of_commit, refusal_of_member, is_there}
+use Rattle.group_types.specs.Commit.{CommitReply, commit_reply as answer_to, offsets_after, refusal_of_commit, refusal_of_member, is_there}
 use Rattle.group_types.specs.Frames.{IsFrame, frame_of}
 use Rattle.group_types.specs.Limits.{LARGEST_BODY}
 use Rattle.group_types.specs.Owners.{is_index}
-use Rattle.group_types.specs.Text.{text_cmp}
 use Rattle.group_types.specs.Topics.{Topic, Topics}
 use Rattle.group_types.specs.Group.{Group, Record, Records}
 use Rattle.group_types.proofs.Orders.{text_cmp_total}

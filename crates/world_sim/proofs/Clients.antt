@@ -3,7 +3,6 @@ use Rattle.std.proofs.Common.{◌≡◌, ℕ, suc, ◌+◌, Bool, true, false, L
 use Rattle.kip_msgs.specs.Values.{CommitRequestTopicValue}
 use Rattle.kip_msgs.specs.Spelling.{SpellsRequest}
 use Rattle.group_types.specs.Text.{Text}
-use Rattle.member_core.specs.Asking as asking
 use Rattle.member_core.specs.Committing.{commit_for, may_commit_at}
 use Rattle.group_types.proofs.FrameLemmas.{frame_body}
 use Rattle.member_core.specs.Framing.{IsRequestFrame}

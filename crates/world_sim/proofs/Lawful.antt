@@ -1,35 +1,21 @@
 -- A renewed target is lawful, also once its member has settled.
-use Rattle.std.proofs.Common.{◌≡◌, ◌≢◌, ℕ, suc, ◌==◌, Bool, true, false, cond, ◌&&◌, nat_le, max, List, [], ◌∷◌, map, Option, Some, None, refl, sym, ap, subst, ◌∙◌, inl, inr}
-use Rattle.std.specs.List.{All, AllByRecursion, Contains}
-use Rattle.std.specs.Option.{MatchOption, option_map}
-use Rattle.std.specs.Ordering.{eq_by_cmp}
+use Rattle.std.proofs.Common.{◌≡◌, ◌≢◌, suc, ◌==◌, Bool, true, false, cond, ◌&&◌, nat_le, max, Option, Some, None, refl, sym, ap, subst, ◌∙◌}
+use Rattle.std.specs.Option.{MatchOption}
 use Rattle.std.specs.FinMap as finite
-use Rattle.std.specs.FinMap.{find}
-use Rattle.std.proofs.lemmas.List.Elements.{All-contains, All-from_recursion, All-map}
-use Rattle.std.proofs.lemmas.List.Sorted.{All-permutation, Contains-permutation}
 use Rattle.group_types.specs.Limits.{GREATEST_EPOCH}
-use Rattle.group_types.specs.declared.assignor_name.AssignorName.{AssignorName}
-use Rattle.group_types.specs.declared.assignor_name.AssignorName.TheVariants.{Range, Uniform}
 use Rattle.group_types.specs.declared.code.Code.TheVariants as codes
-use Rattle.group_types.specs.declared.epoch.Epoch.{Epoch}
-use Rattle.group_types.specs.declared.epoch.Epoch.TheVariants.{At, Away}
-use Rattle.group_types.specs.declared.partition.Partition.{Partition}
-use Rattle.group_types.specs.Text.{Text, text_cmp}
-use Rattle.group_types.specs.Partition.{Partitions}
 use Rattle.group_types.specs.Topics.{Topics}
-use Rattle.group_types.specs.Assignors.{Subscriber, assignor_of}
-use Rattle.group_types.specs.Owners.{Spread, IsLawful, IsSubscribed, IsSubscriber}
 use Rattle.group_types.specs.Request.{Heartbeat, Kind, Joins, Beats, Leaves, GoesAway, MeansNothing, kind_of, reported}
-use Rattle.group_types.specs.Group.{Group, Record, Records, Target, wanted}
-use Rattle.group_types.specs.Settle.{arrived, asked, may_settle, settled, settled_by, settled_record}
-use Rattle.group_types.specs.Renewal.{AreOwners, IsTarget, RenewsWhere, changed_if, subscriber_of, view_for}
+use Rattle.group_types.specs.Group.{Group, Record, Target, wanted}
+use Rattle.group_types.specs.Settle.{may_settle, settled}
+use Rattle.group_types.specs.Renewal.{RenewsWhere, changed_if, view_for}
 use Rattle.group_types.specs.Join.{Name}
 use Rattle.group_types.specs.Checks.{Verdict, Accepted, Refused, Overtaken, Member, Sender, sender_of, verdict_on}
 use Rattle.group_types.specs.HeartbeatStep.{Answer, Arrival, Draft, BeatsWith, ByVerdict, GoesAwayWith, HeartbeatStep, IsRefused, Stages, StepOf, TakesIn, draft_of_beat, draft_of_join, draft_under, sent_after}
 use Rattle.group_types.specs.Sound.{IsSound}
 use Rattle.group_types.specs.Targets.{AssignorsAreLawful, IsLawfulFor}
 use Rattle.group_types.proofs.LawfulTargets.{Settles, lawful_by_members, lawful_renamed, same_name, same_owners, sent_lawfully, sent_names, settles_by, target_lawful}
-use Rattle.world_sim.specs.Exclusivity.{HasLawfulTarget, subscribers}
+use Rattle.world_sim.specs.Exclusivity.{HasLawfulTarget}
 
 -- ---- the stages
 

@@ -1,6 +1,6 @@
 -- What lists contain, by recursion.
-use Rattle.std.proofs.Common.{◌≡◌, ◌⊎◌, ℕ, zero, suc, Bool, true, false, cond, List, [], ◌∷◌, ◌++◌, length, drop, map, refl, sym, ap, ◌∙◌, inl, inr, le_of_suc-le-suc, suc-le-suc, not-suc-le-zero, zero-lt-suc}
-use Rattle.std.specs.List.{Contains, filter}
+use Rattle.std.proofs.Common.{◌≡◌, ◌⊎◌, ℕ, zero, suc, Bool, true, false, cond, List, [], ◌∷◌, ◌++◌, drop, map, refl, sym, ap, ◌∙◌, inl, inr}
+use Rattle.std.specs.List.{filter}
 pub use Rattle.group_types.proofs.ListLemmas.{In, from_in, to_in}
 
 module _ {X : Type 0} where

@@ -13,7 +13,7 @@ use Rattle.kip_msgs.specs.Spelling.{FitsAssignment, FitsTopicPartitions, SpellsR
 use Rattle.group_types.specs.Limits.{LARGEST_BODY}
 use Rattle.group_types.specs.declared.partition.Partition.{Partition}
 use Rattle.group_types.specs.Text.{Text}
-use Rattle.group_types.specs.Sets.{has, nothing, union, without}
+use Rattle.group_types.specs.Sets.{has, nothing, union}
 use Rattle.group_types.specs.Partition.{partition_cmp, Partitions}
 use Rattle.group_types.proofs.Lookups.{some_is}
 use Rattle.group_types.proofs.Orders.{partition_cmp-IsAntisymmetric, partition_cmp_total}

@@ -1,6 +1,6 @@
 -- A new world is live.
 use Rattle.std.proofs.Common.{◌≡◌, ℕ, zero, suc, List, [], map, All, Some, sym, subst, ◌∙◌, arith, true≢false}
-use Rattle.std.specs.List.{Contains, slice_get}
+use Rattle.std.specs.List.{Contains}
 use Rattle.std.proofs.lemmas.Option.{slice_get_within, get_or_from_slice_get}
 use Rattle.group_types.specs.Partition.{partition_cmp}
 use Rattle.group_types.proofs.SetLemmas.{has-nothing}

@@ -9,7 +9,6 @@ use Rattle.coord_node.specs.Coordinator.{Coordinator, Frame}
 use Rattle.coord_node.specs.Answers as node
 use Rattle.member_core.specs.Asking.{header_of}
 use Rattle.member_core.specs.Committing.{commit_value}
-use Rattle.world_sim.specs.declared.mail.Request as mail
 use Rattle.world_sim.specs.declared.mail.Reply as answer
 use Rattle.world_sim.specs.declared.scene.Scene.{Scene}
 use Rattle.world_sim.specs.declared.shown.Shown.TheVariants as shows

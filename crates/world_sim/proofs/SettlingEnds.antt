@@ -11,7 +11,7 @@ use Rattle.world_sim.specs.Acting.{IsTooLarge}
 use Rattle.world_sim.specs.Exclusivity.{Always}
 use Rattle.world_sim.specs.Existence.{ActsHaveAnOutcome, ActsLeaveLiveWorlds, BeatsFit, IsLive, SettlingEnds}
 use Rattle.world_sim.specs.Rounds.{ComesTo, HasTurn, IsHeard, IsTold, Round, Rounds, TurnsFrom}
-use Rattle.world_sim.specs.Convergence.{CanSettle, Convergence}
+use Rattle.world_sim.specs.Convergence.{Convergence}
 use Rattle.world_sim.specs.Underway.{RoundsGo, RoundsKeepClients, TurnGoes}
 use Rattle.world_sim.proofs.NewWorlds.{new_worlds_are_live}
 use Rattle.world_sim.proofs.Turning.{one_more_round, one_more_turn, told_there}
