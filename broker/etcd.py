@@ -241,7 +241,7 @@ class _Node:
             answer = json.loads(b"".join([line async for line in connection.lines()]))
         except (ValueError, LookupError, EOFError, asyncio.LimitOverrunError) as why:
             connection.close()
-            raise _Broken(f"no answer of etcd: {why}") from None
+            raise _Broken(f"no answer of etcd 3.4 or later: {why}") from None
         except BaseException:
             connection.close()
             raise

@@ -8,7 +8,7 @@ _FUNCTION() {
         COMPREPLY=($(compgen -f -- "$word"))
         return
     fi
-    words=${words:-$(printf '%s\n' "$help" | sed -n '/^Commands:/,/^$/s/^  \([a-z]*\).*/\1/p; /^[Oo]ptions:/,$p' | grep -o -- '^[a-z][a-z]*$\|--[a-z][a-z-]*' | sort -u)}
+    words=${words:-$(printf '%s\n' "$help" | sed -n '/^Commands:/,/^$/s/^  \([a-z]*\).*/\1/p; /^[Oo]ption[a-z ]*:/,$p' | grep -o -- '^[a-z][a-z]*$\|--[a-z][a-z-]*' | sort -u)}
     COMPREPLY=($(compgen -W "$words" -- "$word"))
 }
 complete -F _FUNCTION COMMAND
