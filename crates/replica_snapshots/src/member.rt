@@ -3,6 +3,7 @@
 ghost use Rattle.std.specs.Prelude.{◌≡◌, map, All, IfSome, unwrap_or};
 ghost use Rattle.std.specs.List.{flat_map};
 ghost use Rattle.flex_wire.specs.Composed.{array, FitsArray};
+ghost use Rattle.group_types.specs.Owners.{share_of};
 ghost use Rattle.group_types.specs.Sets.{in_order};
 ghost use Rattle.group_reconcile.specs.Holders.{granted_at};
 ghost use Rattle.replica_snapshots.specs.Parts.{grant_of, grants_of, member_part};
@@ -18,7 +19,15 @@ use crate::fields::{
 use group_epochs::Record;
 use group_reconcile::Grants;
 use group_target::Target;
-use group_types::{AssignorName, EpochNumber, MemberId, PartSet, Partition, Wanted};
+use group_types::{AssignorName, EpochNumber, MemberId, PartSet, Partition};
+
+/// The places where a member's grants and its share are looked for first: members that come in the order of their ids are found
+/// there.
+#[derive(Clone, Copy)]
+pub struct Near {
+    pub grants: usize,
+    pub share: usize,
+}
 
 /// A member.
 #[tactic(auto, unfolding(crate::specs::Spelling::member_fields))]
@@ -28,14 +37,15 @@ pub fn put_member(
     kept: &Record,
     grants: &Grants,
     target: &Target,
+    near: &mut Near,
 ) -> Result<(), SnapshotFault>
     ensures { let m = member_part grants.now target.now.owners (id.now, kept.now) in
         PutsUpTo result out.old.items out.new.items (FitsMember m) (member_fields m) }
 {
     put_text(out, id.as_str())?;
     put_record(out, kept)?;
-    put_grants(out, grants, id.as_str())?;
-    put_share(out, &target.of(id.as_str()))
+    put_grants(out, grants, id.as_str(), &mut near.grants)?;
+    put_share(out, target, id.as_str(), &mut near.share)
 }
 
 /// A member's record.
@@ -104,11 +114,18 @@ fn put_optional_assignor(
 }
 
 /// What a member may read, and since when.
-fn put_grants(out: &mut Vec<u8>, grants: &Grants, id: &str) -> Result<(), SnapshotFault>
+fn put_grants(
+    out: &mut Vec<u8>,
+    grants: &Grants,
+    id: &str,
+    near: &mut usize,
+) -> Result<(), SnapshotFault>
     ensures { let list = grants_of grants.now id.now in
         PutsUpTo result out.old.items out.new.items (FitsArray FitsGrant list) (array grant_fields list) }
 {
-    match grants.held(id) {
+    let (held, next) = grants.held_near(id, *near);
+    *near = next;
+    match held {
         None => put_size(out, 0),
         Some(set) => {
             put_size(out, set.len())?;
@@ -146,9 +163,17 @@ fn since(grants: &Grants, p: &Partition) -> EpochNumber
 }
 
 /// What a member is to own.
-fn put_share(out: &mut Vec<u8>, wanted: &Wanted<'_>) -> Result<(), SnapshotFault>
-    ensures { PutsUpTo result out.old.items out.new.items (FitsPartitions wanted.now.partitions) (partitions_field wanted.now.partitions) }
+fn put_share(
+    out: &mut Vec<u8>,
+    target: &Target,
+    id: &str,
+    near: &mut usize,
+) -> Result<(), SnapshotFault>
+    ensures { let share = share_of target.now.owners id.now in
+        PutsUpTo result out.old.items out.new.items (FitsPartitions share) (partitions_field share) }
 {
+    let (wanted, next) = target.of_near(id, *near);
+    *near = next;
     match wanted.set() {
         None => put_size(out, 0),
         Some(set) => put_partitions(out, set),

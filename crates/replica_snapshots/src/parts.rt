@@ -17,7 +17,7 @@ use crate::fault::SnapshotFault;
 use crate::fields::{
     put_id, put_int32, put_int64, put_optional_text, put_size, put_stamp, put_text,
 };
-use crate::member::put_member;
+use crate::member::{Near, put_member};
 use group_epochs::Records;
 use group_reconcile::Grants;
 use group_target::Target;
@@ -134,9 +134,13 @@ fn put_each_member(
     ensures { let members = map (member_part grants.now target.now.owners) (finite.entries records.now.records) in
         PutsUpTo result out.old.items out.new.items (All FitsMember members) (flat_map member_fields members) }
 {
+    let mut near = Near {
+        grants: 0,
+        share: 0,
+    };
     for rank in 0..records.len() {
         match records.member_at(rank) {
-            Some((id, kept)) => put_member(out, id, kept, grants, target)?,
+            Some((id, kept)) => put_member(out, id, kept, grants, target, &mut near)?,
             None => return Ok(()),
         }
     }
