@@ -150,15 +150,12 @@ class Captured:
         return Step(f"{moment / 1_000:.3f}", f"{moment / 1_000:.3f} s", event, self.standings)
 
     def ask(self, it: Exchange, person: int) -> None:
-        """A heartbeat, and what is answered. A member of which no join is recorded is one from its first heartbeat on."""
+        """A heartbeat, and what is answered."""
         asked, client, kind = it.asked, self.clients[person], kind_of(it.asked)
         self.number += 1
         it.number, held = self.number, frozenset(client.own)
         self.replay.ask(it)
-        client.id = asked.member or client.id
-        if asked.epoch > 0 and client.place != INSIDE:
-            client.place, client.epoch = INSIDE, asked.epoch
-            self.unknown.add(person)
+        self.is_there(asked, person)
         if kind == "join" or asked.owned is not None:
             client.own = set(asked.owned or ())
             client.shown = set(client.own) if person in self.unknown else client.shown
@@ -174,6 +171,14 @@ class Captured:
             code, _, epoch, assignment = it.told
             reply = events.Reply(it.number, code, epoch, None if assignment is None else frozenset(assignment))
             self.step(it.came, events.Delivered(person, it.number, reply, events.AT_ONCE))
+
+    def is_there(self, asked: Heartbeat | Commit, person: int) -> None:
+        """A member of which no join is recorded is one from its first heartbeat on, or from its first commit, where that is accepted."""
+        client = self.clients[person]
+        client.id = asked.member or client.id
+        if asked.epoch > 0 and client.place != INSIDE:
+            client.place, client.epoch = INSIDE, asked.epoch
+            self.unknown.add(person)
 
     @staticmethod
     def brings_news(it: Exchange, client: Client) -> bool:
@@ -195,6 +200,8 @@ class Captured:
 
     def commit(self, it: Exchange, person: int) -> None:
         self.replay.ask(it)
+        if self.clients[person].id is None and 0 in it.codes:
+            self.is_there(it.asked, person)
         self.commits += 1
         parts = [(name, part) for name, topic in it.asked.topics for part in topic]
         it.number = self.commits

@@ -64,6 +64,7 @@ draw-run no-such-file | 2 | tools/draw-run: no-such-file: No such file or direct
 tell-capture README.md | 2 | neither like "record 1 SECONDS TOPIC.." nor a packet capture
 tell-capture --group h examples/capture/fenced.record | 2 | no heartbeat in it of the group h
 tell-capture <(awk 'NR == 1 || $1 > 5' examples/capture/fenced.record) orders:aaaaaaaa-0000-4000-8000-000000000001:4 | 0 | left out: 3
+tell-capture <(awk 'NR == 1 || $1 > 8' examples/capture/two-holders.record)|sed -n 5p | 0 | unknown         outside
 tell-capture --strict examples/capture/two-holders.record | 1 | heartbeats that bring nothing new
 tell-run --strict examples/run/rebalance.txt <(sed '6s,-$,11111111-1111-1111-1111-111111111111/1,' examples/run/rebalance.out) | 1 | b is steady
 tell-run --lines 5 <(printf 't: 2 partitions\\na: group g\\njoin a, deliver, lose\\njoin a, deliver, take\\nwait 45 s\\n') | 0 | 2 members removed, 1 of them no client's
