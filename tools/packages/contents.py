@@ -82,7 +82,9 @@ def files_of(program: pathlib.Path, library: pathlib.Path, version: str, seconds
         "share/migwelun/out/libmigwelun.so": Entry(link="../../../lib/libmigwelun.so"),
         "share/migwelun/out/libmigwelun.a": Entry(link="../../../lib/libmigwelun.a"),
         "share/migwelun/tools/rules": Entry(link="../conformance/rules"),
+        # The documents name each other by their paths here.
         "share/doc/migwelun/examples": Entry(link="../../migwelun/examples"),
+        **{f"share/doc/migwelun/{it}/README.md": Entry(link=f"../../../migwelun/{it}/README.md") for it in PROGRAMS},
     }
     shared = [*(it for each in EXAMPLES for it in (TOP / "examples").glob(each)), *(TOP / "stories").glob("*.py")]
     for name in PROGRAMS:
