@@ -2,8 +2,8 @@
 ghost use Rattle.std.specs.Prelude.{◌≡◌, ◌+◌, ◌*◌, ◌≤◌, ◌<◌, true, IfOk};
 
 use coord_server::{
-    AlwaysOpen, Announce, ClockMoments, EndLog, Moments, Plan, Runtime, Server, ServerFault, Shards,
-    ShardsDesk,
+    AlwaysOpen, Announce, ClockMoments, EndLog, Moments, Plan, Runtime, Server, ServerFault,
+    Shards, ShardsDesk,
 };
 use scenario_text::service::Service;
 use std::alloc::{AllocGlobal, Global};
