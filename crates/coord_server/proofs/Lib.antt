@@ -1,3 +1,3 @@
-pub mod AddedLemmas
+pub mod ListLemmas
 pub mod DeskLemmas
-pub mod PostLemmas
+pub mod SenderLemmas

@@ -2,9 +2,9 @@ pub mod Desks
 pub mod Ends
 pub mod Interrupted
 pub mod Plans
-pub mod Posts
 pub mod Reasons
 pub mod Resumes
 pub mod Rounds
+pub mod Senders
 pub mod Silences
 pub mod Ticks

@@ -1,47 +1,49 @@
-//! Who numbers the connections.
+//! Who accepts the connections, and numbers them.
 ghost use Rattle.std.specs.Prelude.{◌≡◌, ◌+◌, ◌<◌, ◌≤◌, vec_len, IfOk, OnOk};
-ghost use Rattle.coord_server.specs.Posts.{ArePosts};
+ghost use Rattle.coord_server.specs.Senders.{AreSenders};
 
-use crate::bell::Bell;
-use crate::entrance::{Accepted, Entrance, Incoming, Watch};
+use crate::channel::{AssignedConnection, WorkerSender};
 use crate::fault::ServerFault;
-use crate::handed::{Handed, Post};
+use crate::listener::{Accepted, Listener};
+use crate::poller::{AcceptorWaker, Poller};
 use std::sync::Wait;
-use std::time::Duration;
 
-/// Numbers the connections from 1, and hands connection `k`, of `n` workers, to the worker with number `k` modulo `n`.
+/// Numbers the connections from 1, and sends connection `k`, of `n` workers, to the worker with number `k` modulo `n`.
 #[derive(Drop)]
-pub struct Acceptor<'a, S, K: Drop> {
-    entrance: Entrance<S>,
-    posts: Vec<Post<K>>,
+pub struct Acceptor<'a, L, K: Drop> {
+    poller: Poller,
+    listener: L,
+    senders: Vec<WorkerSender<K>>,
     /// How many connections have come.
     accepted: u64,
     /// How many may come.
     most: u64,
-    bell: &'a Bell,
-    ghost some: { 0 < vec_len posts },
+    waker: &'a AcceptorWaker,
+    ghost some: { 0 < vec_len senders },
     ghost few: { accepted ≤ most },
-    ghost placed: { ArePosts (vec_len posts) posts.items },
+    ghost placed: { AreSenders (vec_len senders) senders.items },
 }
 
-impl<'a, S: Incoming<K>, K: Drop> Acceptor<'a, S, K> {
-    /// An acceptor before the first connection, whose bell is that of its entrance.
+impl<'a, L: Listener<K>, K: Drop> Acceptor<'a, L, K> {
+    /// An acceptor before the first connection, whose waker is that of its poller.
     pub fn new(
-        entrance: Entrance<S>,
-        posts: Vec<Post<K>>,
+        poller: Poller,
+        listener: L,
+        senders: Vec<WorkerSender<K>>,
         most: u64,
-        bell: &'a Bell,
-    ) -> Acceptor<'a, S, K>
-        requires some { 0 < vec_len posts }
-        requires placed { ArePosts (vec_len posts) posts.items }
-        ensures { (result.posts ≡ posts) × (result.accepted ≡ 0) × (result.most ≡ most) }
+        waker: &'a AcceptorWaker,
+    ) -> Acceptor<'a, L, K>
+        requires some { 0 < vec_len senders }
+        requires placed { AreSenders (vec_len senders) senders.items }
+        ensures { (result.senders ≡ senders) × (result.accepted ≡ 0) × (result.most ≡ most) }
     {
         Acceptor {
-            entrance,
-            posts,
+            poller,
+            listener,
+            senders,
             accepted: 0,
             most,
-            bell,
+            waker,
         }
     }
 
@@ -54,17 +56,17 @@ impl<'a, S: Incoming<K>, K: Drop> Acceptor<'a, S, K> {
         let mut acceptor = self;
         acceptor.accept_all(rt)?;
         let Acceptor {
-            entrance,
-            posts,
+            poller,
+            listener,
+            senders,
             accepted,
             most: _,
-            bell,
+            waker,
         } = acceptor;
-        let Entrance { watch, incoming } = entrance;
-        let workers = posts.len();
-        drop(incoming);
-        drop(posts);
-        wait_for_workers(rt, watch, bell, workers)?;
+        let workers = senders.len();
+        drop(listener);
+        drop(senders);
+        wait_for_workers(rt, poller, waker, workers)?;
         Ok(accepted)
     }
 
@@ -74,63 +76,49 @@ impl<'a, S: Incoming<K>, K: Drop> Acceptor<'a, S, K> {
         ensures most { self.new.most ≡ self.old.most }
     {
         for _ in rt.forever() {
-            let wait = self.take_all(rt);
             if self.accepted >= self.most {
                 return Ok(());
             }
-            if self.bell.has_failed() {
+            if self.waker.has_failed() {
                 return Err(ServerFault::Stopped);
             }
-            self.entrance.watch.wait(wait)?;
-        }
-        unreachable!()
-    }
-
-    /// Takes the connections that wait, up to the last one that may come. Says for how long to wait for the next.
-    fn take_all<R: Wait>(&mut self, rt: &R) -> Option<Duration>
-        ensures { self.new.most ≡ self.old.most }
-    {
-        for _ in rt.forever() {
-            if self.accepted >= self.most || self.bell.has_failed() {
-                return None;
-            }
-            match self.entrance.accept() {
+            match Accepted::of(self.listener.accept()) {
                 Accepted::One(connection) => self.hand_out(connection),
                 Accepted::Again => {}
-                other => return other.wait(),
+                other => self.poller.wait(other.wait())?,
             }
         }
         unreachable!()
     }
 
-    /// Hands the next connection, whose number is one above the last, to its worker.
+    /// Sends the next connection, whose number is one above the last, to its worker.
     fn hand_out(&mut self, connection: K)
         requires { self.old.accepted < self.old.most }
         ensures counted { self.new.accepted ≡ self.old.accepted + 1 }
-        ensures others { (self.new.posts ≡ self.old.posts) × (self.new.most ≡ self.old.most) }
+        ensures others { (self.new.senders ≡ self.old.senders) × (self.new.most ≡ self.old.most) }
     {
         self.accepted += 1;
-        let handed = Handed::new(connection, self.accepted, self.posts.len());
-        self.posts[handed.worker].send(handed);
+        let assigned = AssignedConnection::new(connection, self.accepted, self.senders.len());
+        self.senders[assigned.worker].send(assigned);
     }
 }
 
 /// Waits until `workers` workers have ended.
 fn wait_for_workers<R: Wait>(
     rt: &R,
-    watch: Watch,
-    bell: &Bell,
+    poller: Poller,
+    waker: &AcceptorWaker,
     workers: usize,
 ) -> Result<(), ServerFault> {
-    let mut watch = watch;
+    let mut poller = poller;
     for _ in rt.forever() {
-        if bell.has_failed() {
+        if waker.has_failed() {
             return Err(ServerFault::Stopped);
         }
-        if bell.ended() >= workers as u64 {
+        if waker.ended() >= workers as u64 {
             return Ok(());
         }
-        watch.wait(None)?;
+        poller.wait(None)?;
     }
     unreachable!()
 }

@@ -5,8 +5,8 @@ ghost use Rattle.coord_shards.specs.Calls.{IsTaken, SeatCalls};
 ghost use Rattle.coord_shards.specs.Seat.{IsNewSeat};
 ghost use Rattle.coord_server.specs.Rounds.{CallsEach, TellsEach};
 
+use crate::expiry::Timed;
 use crate::log::EndLog;
-use crate::timed::Timed;
 use coord_node::Answered;
 use coord_shards::{Answer, Event, Gate, Image, Moment, Seat, ShardFault, Shards, Stamp};
 use link_futures::{Desk, End, Moments};

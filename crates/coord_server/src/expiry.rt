@@ -1,13 +1,12 @@
 //! Who lets the time of the shards go on.
-ghost use Rattle.std.specs.Prelude.{◌≡◌, ◌⊎◌, ◌+◌, ◌<◌, ◌≤◌, ◌↔◌, ◌*◌, IsTrue, IfOk, IsErr};
+ghost use Rattle.std.specs.Prelude.{◌≡◌, ◌⊎◌, ◌+◌, ◌<◌, ◌≤◌, ◌↔◌, ◌*◌, ℕ, IsTrue, IfOk, IsErr};
 ghost use Rattle.std.specs.Duration.{as_nanos};
 ghost use Rattle.futures.specs.Task.{Covers, Keeps};
 ghost use Rattle.futures.specs.Poll.{IfReady, OnPending};
 ghost use Rattle.tokio.specs.Timers.{sleep_source, interval_delay, interval_period, missed_tick_behavior as behavior_of};
 
+use crate::event_loop::Resumable;
 use crate::fault::ServerFault;
-use crate::resumable::Resumable;
-use crate::timed::Timed;
 use coord_shards::Moment;
 use futures::Future;
 use futures::task::{Context, Poll};
@@ -20,6 +19,23 @@ const TICK: u64 = 500;
 
 /// After more than this number of milliseconds without a round the process was paused, and what waits for it goes first.
 const LONGEST_ROUND: u64 = 5_000;
+
+/// A desk over shards whose time goes on.
+pub trait Timed: Drop {
+    /// In the first state it may give this as the present moment, and be in the second.
+    ghost hands: { Self → ℕ → Self → Type 0 };
+
+    /// What it comes to that the time of the shards goes on to a moment.
+    ghost ticks: { Self → ℕ → Self → Type 0 };
+
+    /// The present moment.
+    fn moment(&mut self) -> Moment
+        ensures { hands self.old result self.new };
+
+    /// Lets the time of the shards go on to a moment.
+    fn tick(&mut self, moment: Moment)
+        ensures { ticks self.old moment self.new };
+}
 
 /// Lets the time of a desk's shards go on in rounds, one at each instant of an interval. The round after a pause, as where the
 /// process was stopped or the machine suspended, lets it stand: the frames that wait are to be answered before members are taken
@@ -78,7 +94,7 @@ impl<D: Timed> Expiry<D> {
 
 impl<D: Timed> Future for Expiry<D> {
     ghost use Rattle.coord_server.specs.Ticks.{IsRound};
-    ghost use Rattle.std.specs.Prelude.{ℕ, Result, ⊤};
+    ghost use Rattle.std.specs.Prelude.{Result, ⊤};
     ghost use Rattle.coord_server.specs.declared.fault.ServerFault.{ServerFault};
 
     type Output = Result<u64, ServerFault>;

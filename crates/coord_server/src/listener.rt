@@ -1,16 +1,68 @@
-//! A listening socket.
-use crate::connection::Socket;
-use crate::entrance::Incoming;
+//! Where connections come from.
+ghost use Rattle.std.specs.Prelude.{◌≡◌, ◌*◌, IfOk, IsSomeAnd};
+ghost use Rattle.std.specs.Duration.{as_nanos};
+
 use crate::log::EndLog;
+use crate::socket::Socket;
 use mio::net::TcpListener;
 use mio::{Interest, Registry, Token};
 use std::io;
 use std::net::TcpStream;
 use std::os::fd::OwnedFd;
+use std::time::Duration;
+
+/// After how many milliseconds the acceptor looks again after a refused accept, as where the process has no descriptor left.
+const PAUSE: u64 = 50;
+
+/// Where connections come from, none of which is at an event loop yet.
+pub trait Listener<K>: Drop {
+    /// Has the registry tell when a connection comes.
+    fn register(&mut self, registry: &Registry, token: Token) -> io::Result<()>;
+
+    /// The next connection. `WouldBlock` where none waits.
+    fn accept(&mut self) -> io::Result<K>;
+}
+
+/// What an accept came to.
+#[derive(Drop)]
+pub enum Accepted<K> {
+    One(K),
+    /// One went away, or the accept was interrupted: there may be another.
+    Again,
+    Nothing,
+    /// The system refused it.
+    Refused,
+}
+
+impl<K> Accepted<K> {
+    /// What this result of an accept says.
+    pub fn of(accepted: io::Result<K>) -> Accepted<K>
+        ensures { IfOk accepted (λ connection. result ≡ Accepted.One connection) }
+    {
+        match accepted {
+            Ok(connection) => Accepted::One(connection),
+            Err(error) => match error.kind() {
+                io::ErrorKind::WouldBlock => Accepted::Nothing,
+                io::ErrorKind::Interrupted | io::ErrorKind::ConnectionAborted => Accepted::Again,
+                _ => Accepted::Refused,
+            },
+        }
+    }
+
+    /// For how long to wait for the next connection: for a short while after a refused accept, and else until one comes.
+    pub fn wait(&self) -> Option<Duration>
+        ensures { self.now ≡ Accepted.Refused → IsSomeAnd result (λ wait. as_nanos wait ≡ 50 * 1_000_000) }
+    {
+        match self {
+            Accepted::Refused => Some(Duration::from_millis(PAUSE)),
+            Accepted::One(_) | Accepted::Again | Accepted::Nothing => None,
+        }
+    }
+}
 
 /// A listening socket. What it accepts is at no event loop, so that it may be handed to any thread.
 #[derive(Drop)]
-pub struct Listener<'a, R> {
+pub struct SocketListener<'a, R> {
     listener: TcpListener,
     clock: &'a R,
     log: &'a EndLog,
@@ -18,16 +70,16 @@ pub struct Listener<'a, R> {
     idle: Option<u64>,
 }
 
-impl<'a, R> Listener<'a, R> {
+impl<'a, R> SocketListener<'a, R> {
     /// A socket that listens, whose connections are closed after `idle` seconds without a byte, where it says any. The log says so.
     pub fn of(
         clock: &'a R,
         socket: std::net::TcpListener,
         idle: Option<u64>,
         log: &'a EndLog,
-    ) -> io::Result<Listener<'a, R>> {
+    ) -> io::Result<SocketListener<'a, R>> {
         socket.set_nonblocking(true)?;
-        Ok(Listener {
+        Ok(SocketListener {
             listener: TcpListener::from_std(socket),
             clock,
             log,
@@ -36,7 +88,7 @@ impl<'a, R> Listener<'a, R> {
     }
 }
 
-impl<'a, R> Incoming<Socket<'a, R>> for Listener<'a, R> {
+impl<'a, R> Listener<Socket<'a, R>> for SocketListener<'a, R> {
     fn register(&mut self, registry: &Registry, token: Token) -> io::Result<()> {
         registry.register(&mut self.listener, token, Interest::READABLE)
     }

@@ -17,11 +17,11 @@ pub struct Plan {
 
 impl Plan {
     ghost use Rattle.std.specs.Prelude.{◌≡◌};
-    ghost use Rattle.coord_server.specs.Plans.{clock_count};
+    ghost use Rattle.coord_server.specs.Plans.{expiry_worker_count};
 
     /// How many expiry workers run.
-    pub fn clocks(self) -> usize
-        ensures { result ≡ clock_count self.expires }
+    pub fn expiry_workers(self) -> usize
+        ensures { result ≡ expiry_worker_count self.expires }
     {
         if self.expires { 1 } else { 0 }
     }

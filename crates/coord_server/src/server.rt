@@ -1,162 +1,204 @@
 //! A server from its start to its end.
-ghost use Rattle.std.specs.Prelude.{◌≡◌, vec_len, IfOk};
-ghost use Rattle.coord_server.specs.Plans.{IsPlanned};
+ghost use Rattle.std.specs.Prelude.{◌≡◌, ◌+◌, [], vec_len, IfOk, OnOk};
+ghost use Rattle.coord_server.specs.Plans.{IsPlanned, expiry_worker_count};
+ghost use Rattle.coord_server.specs.Senders.{AreSenders};
 
 use crate::acceptor::Acceptor;
-use crate::announce::Announce;
-use crate::bell::Bell;
-use crate::connection::Connection;
-use crate::crew::{Crew, crew_of};
-use crate::desks::{Desks, desks_of};
-use crate::entrance::{Entrance, Incoming};
-use crate::expiry::Expiry;
+use crate::channel::WorkerSender;
+use crate::desk::ShardsDesk;
+use crate::event_loop::EventLoop;
+use crate::event_loops::{Announce, EventLoops, run_beside};
+use crate::expiry::{Expiry, ticks_of};
 use crate::fault::ServerFault;
-use crate::listener::Listener;
+use crate::listener::{Listener, SocketListener};
 use crate::log::EndLog;
 use crate::plan::Plan;
-use crate::threads::run_beside;
-use crate::timed::Timed;
-use crate::works::Works;
+use crate::poller::{AcceptorWaker, Poller};
+use crate::runtime::Runtime;
+use crate::socket::Connection;
+use crate::worker_task::{IncomingLines, WorkerTask};
 use coord_shards::{Gate, Shards};
-use link_futures::{Desk, Moments, ReadPart, WriteParts};
-use std::alloc::AllocGlobal;
-use std::net::{Net, TcpListener};
-use std::random::RandomSource;
-use std::sync::Wait;
+use link_futures::{Moments, ReadPart, WriteParts};
+use std::net::TcpListener;
 use std::sync::ledger::Ledger;
-use std::thread::Threads;
-use std::time::Clock;
+use tokio::runtime::LocalRuntime;
 
-/// Serves the connections of a listening socket over shards, until as many have ended as the plan says. Gives their number.
-///
-/// It announces that it serves once all its threads are there, and logs each end of a connection.
-pub fn serve_sockets<A, C, G, M, R, N>(
-    rt: &R,
-    shards: &Shards<A, C, G>,
-    socket: TcpListener,
-    moments: &M,
-    plan: Plan,
-    announce: N,
-    log: &EndLog,
-) -> Result<u64, ServerFault>
+/// A server over shards.
+#[derive(Drop)]
+pub struct Server<'a, A: Ledger, C: Ledger, G, M, R> {
+    pub rt: &'a R,
+    pub shards: &'a Shards<A, C, G>,
+    /// Those of each worker go on from these.
+    pub moments: &'a M,
+    pub plan: Plan,
+    /// Where each end of a connection is noted.
+    pub log: &'a EndLog,
+}
+
+/// The event loop of a worker.
+type WorkerLoop<'w, 'a, A, C, G, M, R, K, I, O> = EventLoop<
+    'w,
+    WorkerTask<K, I, O, ShardsDesk<'a, A, C, G, M, R>>,
+>;
+
+/// The event loop of an expiry worker.
+type ExpiryLoop<'w, 'a, A, C, G, M, R> = EventLoop<'w, Expiry<ShardsDesk<'a, A, C, G, M, R>>>;
+
+/// Those of a server.
+type Loops<'w, 'a, A, C, G, M, R, K, I, O> = EventLoops<
+    'w,
+    WorkerTask<K, I, O, ShardsDesk<'a, A, C, G, M, R>>,
+    Expiry<ShardsDesk<'a, A, C, G, M, R>>,
+>;
+
+impl<'a, A, C, G, M, R> Server<'a, A, C, G, M, R>
 where
     A: Ledger + Send + Sync,
     C: Ledger + Send + Sync,
     G: Gate + Sync,
     M: Moments + Clone + Send,
-    R: Wait + Threads + Clock + Net + RandomSource + AllocGlobal + Sync,
-    N: Announce,
-    ensures { IfOk result (λ served. served ≡ plan.connections) }
+    R: Runtime + Sync,
 {
-    let incoming = Listener::of(rt, socket, plan.idle, log)?;
-    serve(rt, shards, incoming, moments, plan, announce, log)
-}
+    /// Serves the connections of a listening socket, as [`Server::run`] does.
+    pub fn serve_sockets<N: Announce>(
+        &self,
+        socket: TcpListener,
+        announce: N,
+    ) -> Result<u64, ServerFault>
+        ensures { IfOk result (λ served. served ≡ self.now.plan.connections) }
+    {
+        let listener = SocketListener::of(self.rt, socket, self.plan.idle, self.log)?;
+        self.run(listener, announce)
+    }
 
-/// Serves connections over shards, until as many have ended as the plan says. Gives their number.
-pub fn serve<A, C, G, M, R, S, K, I, O, N>(
-    rt: &R,
-    shards: &Shards<A, C, G>,
-    incoming: S,
-    moments: &M,
-    plan: Plan,
-    announce: N,
-    log: &EndLog,
-) -> Result<u64, ServerFault>
-where
-    A: Ledger + Send + Sync,
-    C: Ledger + Send + Sync,
-    G: Gate + Sync,
-    M: Moments + Clone + Send,
-    R: Wait + Threads + Clock + Net + RandomSource + AllocGlobal + Sync,
-    S: Incoming<K>,
-    K: Connection<I, O> + Send,
-    I: ReadPart + Send,
-    O: WriteParts + Send,
-    N: Announce,
-    ensures { IfOk result (λ served. served ≡ plan.connections) }
-{
-    let desks = desks_of(rt, shards, moments, plan, log)?;
-    serve_at(rt, plan, desks, incoming, announce)
-}
+    /// Serves the connections of a listener until as many have ended as the plan says. Gives their number.
+    ///
+    /// It announces that it serves once all its threads are there.
+    pub fn run<L, K, I, O, N>(&self, listener: L, announce: N) -> Result<u64, ServerFault>
+    where
+        L: Listener<K>,
+        K: Connection<I, O> + Send,
+        I: ReadPart + Send,
+        O: WriteParts + Send,
+        N: Announce,
+        ensures { IfOk result (λ served. served ≡ self.now.plan.connections) }
+    {
+        let mut listener = listener;
+        let poller = Poller::new(self.rt, &mut listener)?;
+        let waker = poller.waker()?;
+        let (senders, loops) = self.event_loops::<K, I, O>(&waker)?;
+        let acceptor = Acceptor::new(poller, listener, senders, self.plan.connections, &waker);
+        run_beside(self.rt, self.plan, loops, acceptor, announce)
+    }
 
-/// Serves connections with a worker at each of the workers' desks, and lets the time of the shards of the others go on.
-fn serve_at<D, R, S, K, I, O, N>(
-    rt: &R,
-    plan: Plan,
-    desks: Desks<D>,
-    incoming: S,
-    announce: N,
-) -> Result<u64, ServerFault>
-where
-    D: Desk + Timed + Send,
-    R: Wait + Threads + Clock + Net + RandomSource + AllocGlobal + Sync,
-    S: Incoming<K>,
-    K: Connection<I, O> + Send,
-    I: ReadPart + Send,
-    O: WriteParts + Send,
-    N: Announce,
-    requires { IsPlanned plan (vec_len desks.workers) (vec_len desks.clocks) }
-    ensures { IfOk result (λ served. served ≡ plan.connections) }
-{
-    let (entrance, bell) = entrance_of(rt, incoming)?;
-    serve_by(rt, plan, desks, entrance, &bell, announce)
-}
+    /// The senders to the workers, and the event loops of the workers and of the expiry workers.
+    fn event_loops<'w, K, I, O>(
+        &self,
+        waker: &'w AcceptorWaker,
+    ) -> Result<(Vec<WorkerSender<K>>, Loops<'w, 'a, A, C, G, M, R, K, I, O>), ServerFault>
+    where
+        K: Connection<I, O>,
+        I: ReadPart,
+        O: WriteParts,
+        ensures senders { IfOk result (λ made. vec_len made.0 ≡ self.now.plan.workers) }
+        ensures placed { IfOk result (λ made. AreSenders self.now.plan.workers made.0.items) }
+        ensures all { IfOk result (λ made. IsPlanned self.now.plan (vec_len made.1.workers) (vec_len made.1.expiry)) }
+    {
+        let mut senders = Vec::new(self.rt.alloc());
+        let workers = self.worker_loops(&mut senders, waker)?;
+        let expiry = self.expiry_loops(waker)?;
+        Ok((senders, EventLoops { workers, expiry }))
+    }
 
-/// The place where what comes from there comes in, and its bell.
-fn entrance_of<K, R, S>(rt: &R, incoming: S) -> Result<(Entrance<S>, Bell), ServerFault>
-where
-    R: Net + AllocGlobal,
-    S: Incoming<K>,
-{
-    let entrance = Entrance::new(rt, incoming)?;
-    let bell = entrance.bell()?;
-    Ok((entrance, bell))
-}
+    /// The event loops of the workers. The senders to them are put where there is none yet.
+    fn worker_loops<'w, K, I, O>(
+        &self,
+        senders: &mut Vec<WorkerSender<K>>,
+        waker: &'w AcceptorWaker,
+    ) -> Result<Vec<WorkerLoop<'w, 'a, A, C, G, M, R, K, I, O>>, ServerFault>
+    where
+        K: Connection<I, O>,
+        I: ReadPart,
+        O: WriteParts,
+        requires { senders.old.items ≡ [] }
+        ensures senders { OnOk result (vec_len senders.new ≡ self.now.plan.workers) }
+        ensures placed { OnOk result (AreSenders self.now.plan.workers senders.new.items) }
+        ensures workers { IfOk result (λ workers. vec_len workers ≡ self.now.plan.workers) }
+    {
+        let mut workers = Vec::new(self.rt.alloc());
+        for _ in 0..self.plan.workers {
+            let worker = self.worker_loop(senders, waker)?;
+            workers.push(worker)?;
+        }
+        Ok(workers)
+    }
 
-/// Who takes the connections that come in there, and the workers and expiry workers at these desks.
-fn hire<'a, D, R, S, K, I, O>(
-    rt: &R,
-    plan: Plan,
-    desks: Desks<D>,
-    entrance: Entrance<S>,
-    bell: &'a Bell,
-) -> Result<(Acceptor<'a, S, K>, Crew<'a, Works<K, I, O, D>, Expiry<D>>), ServerFault>
-where
-    D: Desk + Timed,
-    R: Clock + Net + RandomSource + AllocGlobal,
-    S: Incoming<K>,
-    K: Connection<I, O>,
-    I: ReadPart,
-    O: WriteParts,
-    requires { IsPlanned plan (vec_len desks.workers) (vec_len desks.clocks) }
-    ensures all { IfOk result (λ hired. IsPlanned plan (vec_len hired.1.workers) (vec_len hired.1.clocks)) }
-    ensures most { IfOk result (λ hired. hired.0.most ≡ plan.connections) }
-{
-    let (posts, crew) = crew_of(rt, desks, bell)?;
-    let acceptor = Acceptor::new(entrance, posts, plan.connections, bell);
-    Ok((acceptor, crew))
-}
+    /// The event loop of the worker that follows those that `senders` send to. The sender to it is put behind theirs.
+    fn worker_loop<'w, K, I, O>(
+        &self,
+        senders: &mut Vec<WorkerSender<K>>,
+        waker: &'w AcceptorWaker,
+    ) -> Result<WorkerLoop<'w, 'a, A, C, G, M, R, K, I, O>, ServerFault>
+    where
+        K: Connection<I, O>,
+        I: ReadPart,
+        O: WriteParts,
+        ensures more { OnOk result (vec_len senders.new ≡ vec_len senders.old + 1) }
+        ensures placed { AreSenders self.now.plan.workers senders.old.items → OnOk result (AreSenders self.now.plan.workers senders.new.items) }
+    {
+        let desk = self.desk()?;
+        let runtime = LocalRuntime::new(self.rt)?;
+        match IncomingLines::new(self.rt, runtime.handle(), senders, self.plan.workers) {
+            Ok(lines) => Ok(EventLoop {
+                runtime,
+                future: WorkerTask::new(self.rt.alloc(), lines, desk),
+                waker,
+            }),
+            Err(fault) => {
+                drop(runtime);
+                Err(fault)
+            }
+        }
+    }
 
-/// Serves the connections that come in there, whose bell this is.
-fn serve_by<D, R, S, K, I, O, N>(
-    rt: &R,
-    plan: Plan,
-    desks: Desks<D>,
-    entrance: Entrance<S>,
-    bell: &Bell,
-    announce: N,
-) -> Result<u64, ServerFault>
-where
-    D: Desk + Timed + Send,
-    R: Wait + Threads + Clock + Net + RandomSource + AllocGlobal + Sync,
-    S: Incoming<K>,
-    K: Connection<I, O> + Send,
-    I: ReadPart + Send,
-    O: WriteParts + Send,
-    N: Announce,
-    requires { IsPlanned plan (vec_len desks.workers) (vec_len desks.clocks) }
-    ensures { IfOk result (λ served. served ≡ plan.connections) }
-{
-    let (acceptor, crew) = hire(rt, plan, desks, entrance, bell)?;
-    run_beside(rt, plan, crew, acceptor, announce)
+    /// The event loops of the expiry workers.
+    fn expiry_loops<'w>(
+        &self,
+        waker: &'w AcceptorWaker,
+    ) -> Result<Vec<ExpiryLoop<'w, 'a, A, C, G, M, R>>, ServerFault>
+        ensures { IfOk result (λ expiry. vec_len expiry ≡ expiry_worker_count self.now.plan.expires) }
+    {
+        let mut expiry = Vec::new(self.rt.alloc());
+        for _ in 0..self.plan.expiry_workers() {
+            let event_loop = self.expiry_loop(waker)?;
+            expiry.push(event_loop)?;
+        }
+        Ok(expiry)
+    }
+
+    /// The event loop of an expiry worker.
+    fn expiry_loop<'w>(
+        &self,
+        waker: &'w AcceptorWaker,
+    ) -> Result<ExpiryLoop<'w, 'a, A, C, G, M, R>, ServerFault> {
+        let desk = self.desk()?;
+        let runtime = LocalRuntime::new(self.rt)?;
+        match ticks_of(self.rt, runtime.handle().time()) {
+            Ok(ticks) => Ok(EventLoop {
+                runtime,
+                future: Expiry::new(desk, ticks),
+                waker,
+            }),
+            Err(error) => {
+                drop(runtime);
+                Err(error.into())
+            }
+        }
+    }
+
+    /// A desk over the shards, with a seat of its own.
+    fn desk(&self) -> Result<ShardsDesk<'a, A, C, G, M, R>, ServerFault> {
+        let moments = self.moments.clone()?;
+        Ok(ShardsDesk::new(self.rt, self.rt.alloc(), self.shards, moments, self.log)?)
+    }
 }

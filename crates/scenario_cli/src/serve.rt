@@ -2,8 +2,8 @@
 ghost use Rattle.std.specs.Prelude.{◌≡◌, ◌+◌, ◌*◌, ◌≤◌, ◌<◌, true, IfOk};
 
 use coord_server::{
-    AlwaysOpen, Announce, ClockMoments, EndLog, Moments, Plan, ServerFault, Shards, ShardsDesk,
-    serve_sockets,
+    AlwaysOpen, Announce, ClockMoments, EndLog, Moments, Plan, Runtime, Server, ServerFault,
+    Shards, ShardsDesk,
 };
 use scenario_text::service::Service;
 use std::alloc::{AllocGlobal, Global};
@@ -12,11 +12,9 @@ use std::io;
 use std::io::Write;
 use std::marker::Brand;
 use std::net::{Ipv4Addr, Net, SocketAddr, SocketAddrV4, TcpListener};
-use std::random::RandomSource;
 use std::sync::Wait;
 use std::sync::ledger::{Blank, Ledger};
 use std::thread::Threads;
-use std::time::Clock;
 use thiserror::Error;
 use topic_meta::Image;
 
@@ -42,7 +40,7 @@ pub enum ServeFault {
 /// the ends of connections, where that is asked for. Gives the program's status: 0 once the connections have ended, 1 after a fault (ours).
 pub fn serve<R, W, E>(rt: &R, service: Service, writer: &mut W, errors: E) -> u8
 where
-    R: Wait + Threads + Clock + Net + RandomSource + AllocGlobal + Copy + Send + Sync + 'static,
+    R: Runtime + Copy + Send + Sync + 'static,
     W: Write,
     E: Write + Copy + Send + 'static,
     ensures { result ≤ 1 }
@@ -92,7 +90,7 @@ fn serve_port<R, W: Write>(
     log: &EndLog,
 ) -> Result<(), ServeFault>
 where
-    R: Wait + Threads + Clock + Net + RandomSource + AllocGlobal + Sync,
+    R: Runtime + Sync,
 {
     let keys = RandomState::new(rt).map_err(ServeFault::Keys)?;
     let socket = listen(rt, service.port)?;
@@ -113,7 +111,7 @@ fn serve_listening<R, W: Write>(
     log: &EndLog,
 ) -> Result<(), ServeFault>
 where
-    R: Wait + Threads + Clock + Net + RandomSource + AllocGlobal + Sync,
+    R: Runtime + Sync,
 {
     let listening = Listening {
         writer: &mut *writer,
@@ -143,7 +141,7 @@ fn serve_socket<R, N>(
     log: &EndLog,
 ) -> Result<u64, ServerFault>
 where
-    R: Wait + Threads + Clock + Net + RandomSource + AllocGlobal + Sync,
+    R: Runtime + Sync,
     N: Announce,
     ensures { IfOk result (λ served. served ≡ service.now.connections) }
 {
@@ -171,7 +169,7 @@ where
     A: Ledger + Send + Sync,
     C: Ledger + Send + Sync,
     M: Moments + Clone + Send,
-    R: Wait + Threads + Clock + Net + RandomSource + AllocGlobal + Sync,
+    R: Runtime + Sync,
     N: Announce,
     requires entries { (entries.name ≡ A.name) × (entries.parts ≡ A.parts) × (entries.parts ≡ 2 * service.now.shards) }
     requires calls { (calls.name ≡ C.name) × (calls.parts ≡ C.parts) × (calls.parts ≡ 256 + service.now.shards) }
@@ -197,13 +195,19 @@ where
     A: Ledger + Send + Sync,
     C: Ledger + Send + Sync,
     M: Moments + Clone + Send,
-    R: Wait + Threads + Clock + Net + RandomSource + AllocGlobal + Sync,
+    R: Runtime + Sync,
     N: Announce,
     ensures { IfOk result (λ served. served ≡ service.now.connections) }
 {
     set_image(rt, shards, moments, &service.image, log)?;
-    let plan = plan_of(service);
-    serve_sockets(rt, shards, socket, moments, plan, announce, log)
+    let server = Server {
+        rt,
+        shards,
+        moments,
+        plan: plan_of(service),
+        log,
+    };
+    server.serve_sockets(socket, announce)
 }
 
 /// How large the server is: as many workers and connections as are asked for, and an expiry worker; and after what silence a connection

@@ -5,7 +5,8 @@ use crate::gates::Watched;
 use crate::server::{Told, Unheard, shards_over};
 use bytes::BytesMut;
 use coord_server::{
-    ClockMoments, EndLog, Incoming, Moments, Plan, Registry, ServerFault, Shards, Token, serve,
+    ClockMoments, EndLog, Listener, Moments, Plan, Registry, Runtime, Server, ServerFault, Shards,
+    Token,
 };
 use futures::task::Poll;
 use futures::test::MockTask;
@@ -14,12 +15,8 @@ use std::alloc::{AllocError, AllocGlobal, Global};
 use std::collections::VecDeque;
 use std::io;
 use std::marker::Brand;
-use std::net::Net;
 use std::random::RandomSource;
-use std::sync::Wait;
 use std::sync::ledger::{Blank, Ledger};
-use std::thread::Threads;
-use std::time::Clock;
 use test_support::frames::{JOINED, frame_of};
 use tokio::io::{DuplexStream, duplex, read_to_end};
 
@@ -32,7 +29,7 @@ pub fn over_memory<G, R>(
 ) -> Result<Told, ServerFault>
 where
     G: Watched,
-    R: Wait + Threads + Clock + Net + RandomSource + AllocGlobal + Sync,
+    R: Runtime + Sync,
 {
     let moments = match ClockMoments::start(rt) {
         Ok(moments) => moments,
@@ -57,7 +54,7 @@ where
     C: Ledger + Send + Sync,
     G: Watched,
     M: Moments + Clone + Send,
-    R: Wait + Threads + Clock + Net + RandomSource + AllocGlobal + Sync,
+    R: Runtime + Sync,
     requires entries { (entries.name ≡ A.name) × (entries.parts ≡ A.parts) × (entries.parts ≡ 4) }
     requires calls { (calls.name ≡ C.name) × (calls.parts ≡ C.parts) × (calls.parts ≡ 258) }
 {
@@ -80,19 +77,18 @@ where
     C: Ledger + Send + Sync,
     G: Watched,
     M: Moments + Clone + Send,
-    R: Wait + Threads + Clock + Net + RandomSource + AllocGlobal + Sync,
+    R: Runtime + Sync,
 {
     let (lines, far_ends) = lines_of(rt.alloc(), frames)?;
-    let incoming = Listed { lines };
-    let served = serve(
+    let log = EndLog::none();
+    let server = Server {
         rt,
         shards,
-        incoming,
         moments,
         plan,
-        Unheard,
-        &EndLog::none(),
-    )?;
+        log: &log,
+    };
+    let served = server.run(Listed { lines }, Unheard)?;
     let right = right_replies(rt, far_ends)?;
     Ok((served, right, shards.gate().was_late()))
 }
@@ -131,7 +127,7 @@ struct Listed {
     lines: VecDeque<MemoryLine>,
 }
 
-impl Incoming<MemoryLine> for Listed {
+impl Listener<MemoryLine> for Listed {
     fn register(&mut self, _registry: &Registry, _token: Token) -> io::Result<()> {
         Ok(())
     }

@@ -4,8 +4,8 @@ ghost use Rattle.std.specs.Prelude.{◌≡◌, ◌<◌};
 use crate::gates::{Crossing, Meeting, Watched};
 use crate::memory::over_memory;
 use coord_server::{
-    AlwaysOpen, Announce, ClockMoments, EndLog, Gate, Moments, Plan, ServerFault, Shards,
-    ShardsDesk, serve_sockets,
+    AlwaysOpen, Announce, ClockMoments, EndLog, Gate, Moments, Plan, Runtime, Server, ServerFault,
+    Shards, ShardsDesk,
 };
 use std::alloc::{AllocError, AllocGlobal, Global};
 use std::collections::hash_map::RandomState;
@@ -16,7 +16,6 @@ use std::random::RandomSource;
 use std::sync::Wait;
 use std::sync::ledger::{Blank, Ledger};
 use std::test::Fail;
-use std::thread::Threads;
 use std::time::{Clock, Duration};
 use std::{io, thread};
 use test_support::frames::{JOIN, JOINED, frame_of};
@@ -132,13 +131,7 @@ fn joins(alloc: Global, groups: &str) -> Result<Vec<Vec<u8>>, AllocError> {
 fn over_sockets<G, R>(rt: &R, gate: G, plan: Plan, client: Client<'_>) -> Result<Told, ServerFault>
 where
     G: Watched,
-    R: Wait
-        + Threads
-        + Clock
-        + Net<Listener = TcpListener, Stream = TcpStream>
-        + RandomSource
-        + AllocGlobal
-        + Sync,
+    R: Runtime + Net<Listener = TcpListener, Stream = TcpStream> + Sync,
 {
     let moments = match ClockMoments::start(rt) {
         Ok(moments) => moments,
@@ -163,13 +156,7 @@ where
     C: Ledger + Send + Sync,
     G: Watched,
     M: Moments + Clone + Send + Sync,
-    R: Wait
-        + Threads
-        + Clock
-        + Net<Listener = TcpListener, Stream = TcpStream>
-        + RandomSource
-        + AllocGlobal
-        + Sync,
+    R: Runtime + Net<Listener = TcpListener, Stream = TcpStream> + Sync,
     requires entries { (entries.name ≡ A.name) × (entries.parts ≡ A.parts) × (entries.parts ≡ 4) }
     requires calls { (calls.name ≡ C.name) × (calls.parts ≡ C.parts) × (calls.parts ≡ 258) }
 {
@@ -192,23 +179,43 @@ where
     C: Ledger + Send + Sync,
     G: Watched,
     M: Moments + Clone + Send + Sync,
-    R: Wait
-        + Threads
-        + Clock
-        + Net<Listener = TcpListener, Stream = TcpStream>
-        + RandomSource
-        + AllocGlobal
-        + Sync,
+    R: Runtime + Net<Listener = TcpListener, Stream = TcpStream> + Sync,
 {
     let socket = TcpListener::bind(rt, (Ipv4Addr::LOCALHOST, 0))?;
     let connections = connect_all(rt, rt.alloc(), &socket, client.frames)?;
     let (alloc, gate, order) = (rt.alloc(), shards.gate(), client.order);
     let (served, right) = thread::join(
         rt,
-        move || serve_sockets(rt, shards, socket, moments, plan, Unheard, &EndLog::none()),
+        move || serve_on(rt, shards, socket, moments, plan),
         move || read_all(alloc, gate, connections, order),
     );
     Ok((served?, right?, gate.was_late()))
+}
+
+/// Serves the connections of a socket over shards, and tells nobody.
+fn serve_on<A, C, G, M, R>(
+    rt: &R,
+    shards: &Shards<A, C, G>,
+    socket: TcpListener,
+    moments: &M,
+    plan: Plan,
+) -> Result<u64, ServerFault>
+where
+    A: Ledger + Send + Sync,
+    C: Ledger + Send + Sync,
+    G: Watched,
+    M: Moments + Clone + Send,
+    R: Runtime + Sync,
+{
+    let log = EndLog::none();
+    let server = Server {
+        rt,
+        shards,
+        moments,
+        plan,
+        log: &log,
+    };
+    server.serve_sockets(socket, Unheard)
 }
 
 /// Two shards over a topic `t` of two partitions, whose gate holds threads up from now on.
