@@ -17,7 +17,7 @@ pub returns-in-Err-clause-whole : goal.returns-in-Err-clause-whole
 returns-in-Err-clause-whole c = λ groups rest fits can is.
     let fault = c.in-Err.fault in
     same_want fault c.behind.result c.behind.ensures
-    (each_stopped FitsNamed named_fields CanKeep keeping c.loop.node c.loop.rest (Err fault) fault fault c.loop-test.true c.loop.invariant.1 c.in-Err.ensures.whole refl refl groups rest fits can is)
+    (each_stopped FitsNamed named_fields CanKeep keeping c.loop.node c.loop.rest.now (Err fault) fault fault c.loop-test.true c.loop.invariant.1 c.in-Err.ensures.whole refl refl groups rest fits can is)
 
 pub returns-clause-whole : goal.returns-clause-whole
 returns-clause-whole c = each_added FitsNamed named_fields CanKeep keeping c.loop-test.false c.loop.invariant.1
