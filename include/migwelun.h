@@ -199,8 +199,9 @@ int32_t migwelun_restore(migwelun_slot *slot, const uint8_t *snapshot, size_t le
  * byte: so a snapshot needs no more memory than its largest part. `place` is that of migwelun_place when it was begun: between its parts
  * the replica applies nothing.
  *
- * Returns DONE; OUT_OF_PLACE where the replica has applied an entry meanwhile: begin anew; TOO_LONG; NO_MEMORY; or EMPTY. Unless it is
- * DONE, `next` is as it was.
+ * Returns DONE; OUT_OF_PLACE where the replica has applied an entry meanwhile: begin anew; TOO_LONG where a text has over 32,767 bytes,
+ * where there is more of something than a count can say, or where a partition's index is outside 0 to 99,999, or metadata has over 4,096
+ * bytes; NO_MEMORY; or EMPTY. Unless it is DONE, `next` is as it was.
  */
 int32_t migwelun_snapshot(migwelun_slot *slot, uint64_t place, size_t from, size_t size, size_t *next);
 

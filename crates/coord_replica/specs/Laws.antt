@@ -10,6 +10,7 @@ use Rattle.coord_replica.specs.Histories.{Act, Cluster, FollowsLog, Given, Histo
 use Rattle.coord_replica.specs.Proposing.{IsAboveEarlier, Proposes}
 use Rattle.replica_snapshots.specs.Nodes.{FitsSection, sections_of}
 use Rattle.replica_snapshots.specs.Places.{FitsPlace}
+use Rattle.replica_snapshots.specs.Restoring.{CanBeNode}
 use Rattle.coord_replica.specs.Replicas.{LogState, ReplicaState, log_opening}
 use Rattle.coord_replica.specs.Snapshots.{IsSnapshotOf, SnapshotValue, SpellsLog, part, sections_in}
 
@@ -81,6 +82,13 @@ OneAnswerAPlace =
 -- bytes are the snapshot of at most one state: so what is restored of a snapshot that was written is what it was written of
 abbrev pub OneStateASnapshot : Type 0
 OneStateASnapshot = (s t : LogState) (bytes : List ℕ) → SpellsLog s bytes → SpellsLog t bytes → s ≡ t
+
+-- whatever log a replica has applied since its opening, a node can be what it comes to: so another replica is restored of a snapshot of
+-- it, unless memory is short (`whole` of Replica::restore), and is then the same
+abbrev pub LogsCanBeRestored : Type 0
+LogsCanBeRestored =
+    (salt : ℕ) (entries : List EntryValue) (answers : List (Option Answer)) (s : LogState)
+    → LogRun (log_opening salt) entries answers s → CanBeNode s.coordinator
 
 -- all sections are the snapshot
 abbrev pub SectionsMakeASnapshot : Type 0

@@ -1,5 +1,5 @@
 //! Laws of logs and replicas, proved where nothing runs.
-ghost use Rattle.coord_replica.specs.Laws.{AnswersAreTheLogs, LogsNeverFall, OneAnswerAPlace, OneStateAPlace, ProposalsAreTaken, ReplicasAreRuns};
+ghost use Rattle.coord_replica.specs.Laws.{AnswersAreTheLogs, LogsCanBeRestored, LogsNeverFall, OneAnswerAPlace, OneStateAPlace, ProposalsAreTaken, ReplicasAreRuns};
 ghost use Rattle.coord_replica.specs.Laws.{OneStateASnapshot, PartsFollow, ReplicasFollowTheLog, SameEntriesSameReplica, SectionsMakeASnapshot, StampsRise};
 
 use coord_node::one_answer;
@@ -61,6 +61,11 @@ pub fn one_answer_a_place()
 /// Bytes are the snapshot of at most one state: so what is restored of a snapshot that was written is what it was written of.
 pub fn one_state_a_snapshot()
     ensures { OneStateASnapshot }
+{}
+
+/// Whatever log a replica has applied since its opening, another is restored of its snapshot, unless memory is short.
+pub fn logs_can_be_restored()
+    ensures { LogsCanBeRestored }
 {}
 
 /// All sections of a replica, one behind the other, are its snapshot.

@@ -1,10 +1,13 @@
 //! A replica's snapshot, written part by part, and the replica that is restored of one.
 
-ghost use Rattle.std.specs.Prelude.{◌≡◌, ℕ, IfOk};
+ghost use Rattle.std.specs.Prelude.{◌≡◌, ℕ, IfErr, IfOk};
+ghost use Rattle.coord_node.specs.Coordinator.{Coordinator};
 ghost use Rattle.replica_snapshots.specs.Nodes.{SpellsNode};
 ghost use Rattle.replica_snapshots.specs.Places.{FitsPlace};
+ghost use Rattle.replica_snapshots.specs.Restoring.{CanBeNode};
 ghost use Rattle.replica_snapshots.specs.Views.{place_value};
 ghost use Rattle.replica_snapshots.specs.Writing.{Puts};
+ghost use Rattle.replica_snapshots.specs.declared.fault.SnapshotFault.TheVariants.{NoMemory};
 ghost use Rattle.coord_replica.specs.Replicas.{LogState, following};
 ghost use Rattle.coord_replica.specs.Snapshots.{IsSnapshotOf, PutsPart, SpellsLog, in_front, place_of, sections_in, snapshot_value};
 
@@ -32,8 +35,9 @@ impl Snapshot<'_> {
     /// Appends sections from one number on, until there are `size` bytes of them or none is left: at least one, where one is left. Gives
     /// the number of the next one. The place stands in front of section 0. All parts, one behind the other, are the snapshot.
     ///
-    /// Refused, with no byte changed: `TooLong` only where a text has over 32,767 bytes, or where there is more of something than
-    /// a count can say; `NoMemory`.
+    /// Refused, with no byte changed: `TooLong` only where a text has over 32,767 bytes, where there is more of something than a
+    /// count can say, or where a partition's index is outside 0 to 99,999, or metadata has over 4,096 bytes, as in no group that
+    /// requests lead to; `NoMemory`.
     pub fn put(&self, from: usize, size: usize, out: &mut Vec<u8>) -> Result<usize, SnapshotFault>
         ensures { PutsPart result out.old.items out.new.items (snapshot_value self.now) from size }
     {
@@ -75,7 +79,7 @@ impl Replica {
     }
 
     /// A replica restored of a snapshot's bytes: it has applied just what the one had that it was written of, and doesn't lead. Whatever the
-    /// bytes are, it is sound, or there is a fault. That a snapshot that was written is refused only for want of memory isn't proved.
+    /// bytes are, it is sound, or there is a fault. A snapshot that was written is never refused but for want of memory.
     pub fn restore(
         alloc: Global,
         hasher: RandomState,
@@ -83,6 +87,7 @@ impl Replica {
     ) -> Result<Replica, SnapshotFault>
         ensures found { IfOk result (λ replica. SpellsLog replica.log bytes.now × (replica ≡ following replica.log)) }
         ensures only { (s : LogState) → SpellsLog s bytes.now → IfOk result (λ replica. replica ≡ following s) }
+        ensures whole { (s : LogState) → SpellsLog s bytes.now → CanBeNode s.coordinator → IfErr result (λ fault. fault ≡ NoMemory) }
     {
         match read_place(alloc, bytes) {
             Ok((place, written)) => match Replica::at_place(alloc, hasher, place, written) {
@@ -101,8 +106,9 @@ impl Replica {
         written: &[u8],
     ) -> Result<Replica, SnapshotFault>
         requires { FitsPlace (place_value place) }
-        ensures { IfOk result (λ replica. (place_of replica.log ≡ place_value place)
+        ensures found { IfOk result (λ replica. (place_of replica.log ≡ place_value place)
             × SpellsNode replica.log.coordinator written.now × (replica ≡ following replica.log)) }
+        ensures whole { (c : Coordinator) → SpellsNode c written.now → CanBeNode c → IfErr result (λ fault. fault ≡ NoMemory) }
     {
         let (node, rest) = read_node(alloc, hasher, written)?;
         if !rest.is_empty() {

@@ -1,6 +1,7 @@
 -- No field of a snapshot begins another of its kind.
-use Rattle.std.proofs.Common.{◌≡◌, ℕ, ℤ, pos, ◌+◌, List, ◌++◌, length, refl, sym, ap, ◌∙◌, arith}
-use Rattle.std.specs.Prelude.{IfSome, FitsSigned}
+use Rattle.std.proofs.Common.{◌≡◌, ℕ, ℤ, pos, ◌+◌, ◌<◌, List, ◌++◌, length, refl, sym, ap, ◌∙◌, arith}
+use Rattle.std.specs.Prelude.{negsuc, IfSome, FitsSigned}
+use Rattle.std.proofs.lemmas.Bool.{ltb-true}
 use Rattle.std.specs.Int.{w32, w64, from_be_bytes}
 use Rattle.std.specs.FinMap as finite
 use Rattle.std.specs.declared.cmp.Ordering.{Ordering}
@@ -18,6 +19,7 @@ use Rattle.group_types.specs.declared.partition.Partition.{Partition}
 use Rattle.group_types.specs.declared.stamp.Stamp.{Stamp}
 use Rattle.group_types.specs.AssignorName.{assignor_text}
 use Rattle.group_types.specs.Epoch.{number_of}
+use Rattle.group_types.specs.Limits.{MOST_TOPIC_PARTITIONS}
 use Rattle.group_types.specs.Sets.{FinSet, in_order, of_list}
 use Rattle.group_types.specs.Text.{Text}
 use Rattle.group_types.specs.Topics.{Topic, Names}
@@ -27,7 +29,7 @@ use Rattle.group_types.proofs.ListSets.{of_list-in_order}
 use Rattle.group_types.proofs.Orders.{text_cmp_total, text_cmp-IsAntisymmetric, partition_cmp_total, partition_cmp-IsAntisymmetric}
 use Rattle.replica_snapshots.specs.declared.numbers.Numbers.{Numbers}
 use Rattle.replica_snapshots.specs.Parts.{MemberPart, GroupParts}
-use Rattle.replica_snapshots.specs.Spelling.{number64, FitsNumber, epoch_field, FitsEpoch, optional, stamp_fields, FitsStamp, partition_fields, FitsPartition, partitions_field, FitsPartitions, names_field, FitsNames, assignor_field, FitsAssignor, identity_fields, wishes_fields, progress_fields, deadlines_fields, record_fields, FitsRecord, grant_fields, FitsGrant, member_fields, FitsMember, topic_fields, FitsTopic, former_fields, FitsFormer, committed_fields, offset_fields, FitsOffset, epochs_fields, numbers_fields, FitsNumbers, lists_fields, parts_fields, FitsParts}
+use Rattle.replica_snapshots.specs.Spelling.{number64, FitsNumber, FitsMillis, FitsIndex, FitsMetadata, epoch_field, FitsEpoch, optional, stamp_fields, FitsStamp, partition_fields, FitsPartition, partitions_field, FitsPartitions, names_field, FitsNames, assignor_field, FitsAssignor, identity_fields, wishes_fields, progress_fields, deadlines_fields, record_fields, FitsRecord, grant_fields, FitsGrant, member_fields, FitsMember, topic_fields, FitsTopic, former_fields, FitsFormer, committed_fields, offset_fields, FitsOffset, epochs_fields, numbers_fields, FitsNumbers, lists_fields, parts_fields, FitsParts}
 use Rattle.replica_snapshots.proofs.Begins.{Begins, of_field, nothing_begins, pair_begins, made_begins, optional_begins, array_begins}
 
 -- ---- numbers and texts
@@ -56,11 +58,27 @@ text_begins = of_field compact_string_is_field
 pub same_pos : (m n : ℕ) → pos m ≡ pos n → m ≡ n
 same_pos m n e = cc
 
-epoch_fits : (n : ℕ) → FitsEpoch n → FitsSigned w32 (pos n)
+pub epoch_fits : (n : ℕ) → FitsEpoch n → FitsSigned w32 (pos n)
 epoch_fits n lt = record { sfits = omega (arith, lt) }
 
 pub epoch_begins : Begins FitsEpoch epoch_field
 epoch_begins = made_begins pos same_pos epoch_fits (λ w. refl) int32_begins
+
+pub millis_fit : (n : ℕ) → FitsMillis n → FitsNumber n
+millis_fit n lt = omega (arith, lt)
+
+pub millis_begin : Begins FitsMillis number64
+millis_begin = made_begins (λ (n : ℕ). n) (λ m n e. e) millis_fit (λ w. refl) number_begins
+
+pub index_fits : (i : ℤ) → FitsIndex i → FitsSigned w32 i
+index_fits (pos n) is = let lt : n < MOST_TOPIC_PARTITIONS = ltb-true n MOST_TOPIC_PARTITIONS is in record { sfits = omega (arith, lt) }
+index_fits (negsuc n) is = absurd cc
+
+pub index_begins : Begins FitsIndex int32
+index_begins = made_begins (λ (i : ℤ). i) (λ m n e. e) index_fits (λ w. refl) int32_begins
+
+pub metadata_begins : Begins FitsMetadata compact_string
+metadata_begins = made_begins (λ (t : Text). t) (λ m n e. e) (λ w f. f.text) (λ w. refl) text_begins
 
 -- ---- stamps and sets
 
@@ -74,7 +92,7 @@ pub partition_begins : Begins FitsPartition partition_fields
 unfolding partition_fields
 partition_begins =
     made_begins (λ (p : Partition). (p.topic, (p.index, tt))) (λ v w e i. record { topic = (e i).0; index = (e i).1.0 }) (λ w f. (f.topic, (f.index, tt))) (λ w. refl)
-    (pair_begins uuid_begins (pair_begins int32_begins nothing_begins))
+    (pair_begins uuid_begins (pair_begins index_begins nothing_begins))
 
 same_order : {K : Type 0} {R : K → K → Ordering} → IsTotalOrder R → finite.IsAntisymmetric R → (s t : FinSet R) → in_order s ≡ in_order t → s ≡ t
 same_order total exact s t e = sym (of_list-in_order total exact s) ∙ (ap of_list e ∙ of_list-in_order total exact t)
@@ -129,7 +147,7 @@ record_begins =
     (λ r f. ((f.identity.instance, (f.identity.rack, tt)), ((f.wishes.names, (f.wishes.assignor, (f.wishes.rebalance_timeout, tt))), ((f.progress.epoch, (f.progress.previous_epoch, (f.progress.stamp, tt))), ((f.deadlines.sent, (f.deadlines.session_deadline, (f.deadlines.release_deadline, tt))), tt)))))
     (λ r. refl)
     (pair_begins (pair_begins (optional_begins text_begins) (pair_begins (optional_begins text_begins) nothing_begins))
-    (pair_begins (pair_begins names_begin (pair_begins (optional_begins assignor_begins) (pair_begins number_begins nothing_begins)))
+    (pair_begins (pair_begins names_begin (pair_begins (optional_begins assignor_begins) (pair_begins millis_begin nothing_begins)))
     (pair_begins (pair_begins member_epoch_begins (pair_begins epoch_begins (pair_begins stamp_begins nothing_begins)))
     (pair_begins (pair_begins (optional_begins partitions_begin) (pair_begins number_begins (pair_begins (optional_begins number_begins) nothing_begins))) nothing_begins))))
 
@@ -169,7 +187,7 @@ offset_begins =
     made_begins (λ (o : (Text × ℤ) × Committed). (o.0.0, (o.0.1, ((o.1.offset, (o.1.leader_epoch, (o.1.metadata, tt))), tt))))
     (λ v w e i. (((e i).0, (e i).1.0), record { offset = (e i).1.1.0.0; leader_epoch = (e i).1.1.0.1.0; metadata = (e i).1.1.0.1.1.0 }))
     (λ w f. (f.name, (f.index, ((f.committed.offset, (f.committed.leader_epoch, (f.committed.metadata, tt))), tt)))) (λ w. refl)
-    (pair_begins text_begins (pair_begins int32_begins (pair_begins (pair_begins int64_begins (pair_begins int32_begins (pair_begins (optional_begins text_begins) nothing_begins))) nothing_begins)))
+    (pair_begins text_begins (pair_begins index_begins (pair_begins (pair_begins int64_begins (pair_begins int32_begins (pair_begins (optional_begins metadata_begins) nothing_begins))) nothing_begins)))
 
 -- ---- a group
 

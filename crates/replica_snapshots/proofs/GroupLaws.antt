@@ -24,10 +24,10 @@ use Rattle.replica_snapshots.proofs.Told.{HoldersHaveRecords, OwnersHaveRecords,
 
 -- ---- a group
 
-holders_have : (g : Group) (h : Holders) → IsSound g → g.grants ≡ pairs h → HoldersHaveRecords g.records h
+pub holders_have : (g : Group) (h : Holders) → IsSound g → g.grants ≡ pairs h → HoldersHaveRecords g.records h
 holders_have g h sound same = λ p d is. sound.holders d.member p (ap (λ (grants : Grants). has grants (d.member, p)) same ∙ (has-pairs h d.member p ∙ holds_own h p d is))
 
-owners_have : (g : Group) → IsSound g → OwnersHaveRecords g.records g.target
+pub owners_have : (g : Group) → IsSound g → OwnersHaveRecords g.records g.target
 owners_have g sound = λ p m is. sound.owners m p is
 
 same_serial : (m n : ℕ) → 0 < m → 0 < n → m - 1 ≡ n - 1 → m ≡ n

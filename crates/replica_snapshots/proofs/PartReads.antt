@@ -44,6 +44,10 @@ unfolding image_at
 image_again image rest fits sound =
     rw (list_again {F = FitsTopic} topic_fields entry_for entry_at entry_again (finite.entries image) rest fits, image_without_fault image sound) (ap (λ (i : Topics). Some (i, rest)) (image_of_topics image))
 
+-- the topics of a view that is an image's
+pub view_is_read : IsRead (λ (view : Topics). FitsArray FitsTopic (finite.entries view) × AreImageTopics view) (λ view. array topic_fields (finite.entries view)) image_at
+view_is_read = record { again = λ view rest fits. image_again view rest fits.0 fits.1 }
+
 pub head_is_read : IsRead (λ h. FitsHead h × AreImageTopics h.image) head_fields head_at
 unfolding head_fields head_at
 head_is_read = record {

@@ -76,7 +76,7 @@ same_part : (h k : Holders) (t u : Target) (r : Records) → map (member_part h 
 same_part h k t u r e m kept is =
     at_key (λ x. member_part h t x ≡ member_part k u x) (finite.entries r) (agree (member_part h t) (member_part k u) (finite.entries r) e) m kept (sym (finite.get-entries r m) ∙ is)
 
-some_value : {A : Type 0} (o : Option A) → IsTrue (is_some o) → (a : A) × (o ≡ Some a)
+pub some_value : {A : Type 0} (o : Option A) → IsTrue (is_some o) → (a : A) × (o ≡ Some a)
 some_value None so = absurd cc
 some_value (Some a) so = (a, refl)
 
@@ -85,7 +85,7 @@ some_value (Some a) so = (a, refl)
 pub holds_own : (h : Holders) (p : Partition) (d : Held) → finite.get h p ≡ Some d → holds h d.member p ≡ true
 holds_own h p d is = ap (λ (o : Option Held). option_map_or (λ d'. eq_by_cmp text_cmp d.member d'.member) o false) is ∙ ap is_eq (text_cmp-itself d.member)
 
-held_by : (m : Text) (o : Option Held) → option_map_or (λ d. eq_by_cmp text_cmp m d.member) o false ≡ true → (d : Held) × (o ≡ Some d) × (d.member ≡ m)
+pub held_by : (m : Text) (o : Option Held) → option_map_or (λ d. eq_by_cmp text_cmp m d.member) o false ≡ true → (d : Held) × (o ≡ Some d) × (d.member ≡ m)
 held_by m None e = absurd cc
 held_by m (Some d) e = (d, refl, sym (same_text m d.member e))
 
@@ -93,7 +93,7 @@ partitions_of_grants : (h : Holders) (ps : List Partition) → map (λ (g : Part
 partitions_of_grants h [] = refl
 partitions_of_grants h (p ∷ ps) = ap (λ (l : List Partition). p ∷ l) (partitions_of_grants h ps)
 
-abbrev since_in : Option Held → ℕ
+abbrev pub since_in : Option Held → ℕ
 since_in o = unwrap_or (option_map (λ d. d.since) o) 0
 
 -- where a member's grants are the same, it holds the same partition since the same epoch
@@ -119,7 +119,7 @@ same_own t u p m same is =
 
 -- ---- maps that have the same at each key
 
-one_answer : {A : Type 0} (x y : Option A) → ((a : A) → x ≡ Some a → y ≡ Some a) → ((a : A) → y ≡ Some a → x ≡ Some a) → x ≡ y
+pub one_answer : {A : Type 0} (x y : Option A) → ((a : A) → x ≡ Some a → y ≡ Some a) → ((a : A) → y ≡ Some a → x ≡ Some a) → x ≡ y
 one_answer None None there back = refl
 one_answer None (Some b) there back = back b refl
 one_answer (Some a) y there back = sym (there a refl)

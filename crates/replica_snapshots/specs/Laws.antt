@@ -2,10 +2,12 @@
 use Rattle.std.specs.Prelude.{◌≡◌, ℕ, List, ◌++◌, All}
 use Rattle.std.specs.List.{flat_map}
 use Rattle.flex_wire.specs.Laws.{BeginsNoOther}
-use Rattle.coord_node.specs.Coordinator.{Coordinator}
+use Rattle.coord_node.specs.Coordinator.{Answer, Coordinator, Event, opening}
+use Rattle.coord_node.specs.Steps.{Run}
 use Rattle.replica_snapshots.specs.Groups.{named_fields, FitsNamed}
 use Rattle.replica_snapshots.specs.Nodes.{head_fields, FitsHead, NodeValue, node_fields, FitsNode, SpellsNode, section_fields, FitsSection, sections_of}
 use Rattle.replica_snapshots.specs.Places.{place_fields, FitsPlace}
+use Rattle.replica_snapshots.specs.Restoring.{CanBeNode}
 
 -- Bytes begin with at most one group under its name.
 abbrev pub OneGroupARun : Type 0
@@ -32,3 +34,7 @@ OnePlaceARun = BeginsNoOther FitsPlace place_fields
 abbrev pub SectionsMakeTheNode : Type 0
 SectionsMakeTheNode =
     (n : NodeValue) → (flat_map section_fields (sections_of n) ≡ node_fields n) × (All FitsSection (sections_of n) → FitsNode n)
+
+-- Whatever came to a coordinator since its opening, a node can be it: so a snapshot of it is never refused but for want of memory.
+abbrev pub RunsCanBeNodes : Type 0
+RunsCanBeNodes = (salt : ℕ) (events : List Event) (answers : List Answer) (c : Coordinator) → Run (opening salt) events answers c → CanBeNode c

@@ -5,6 +5,7 @@ pub mod Nodes
 pub mod Places
 pub mod Reading
 pub mod Restoring
+pub mod Building
 pub mod Views
 pub mod Faults
 pub mod Writing

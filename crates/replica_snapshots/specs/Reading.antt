@@ -1,20 +1,25 @@
 -- Reading what a snapshot is made of from the front of bytes: its value and the bytes behind it, or none. That what is spelled
 -- is read is a law of each reader; in what is promised of whole parts only the spelling is named.
-use Rattle.std.specs.Prelude.{◌≡◌, ◌≢◌, ℕ, zero, suc, ℤ, pos, negsuc, ◌^◌, ◌≤◌, nat_lt, Bool, true, false, List, [], ◌∷◌, Option, Some, None, Result, Ok, Err, if◌then◌else◌}
+use Rattle.std.specs.Prelude.{◌≡◌, ◌≢◌, ℕ, zero, suc, ℤ, pos, negsuc, ◌^◌, ◌≤◌, nat_lt, Bool, true, false, List, [], ◌∷◌, length, Option, Some, None, Result, Ok, Err, if◌then◌else◌}
 use Rattle.std.specs.Int.{w16, w32, w64, from_be_bytes}
 use Rattle.std.specs.Ordering.{int_eq}
 use Rattle.flex_wire.specs.Reading.{Read, bytes_at, signed_at, uuid_at, array_count_at, mark_at, compact_string_at}
 use Rattle.group_types.specs.declared.assignor_name.AssignorName.{AssignorName}
+use Rattle.group_types.specs.declared.epoch.Epoch.{Epoch}
+use Rattle.group_types.specs.declared.epoch.Epoch.TheVariants.{At, Away}
 use Rattle.group_types.specs.declared.partition.Partition.{Partition}
 use Rattle.group_types.specs.declared.stamp.Stamp.{Stamp}
 use Rattle.group_types.specs.AssignorName.{assignor_named}
-use Rattle.group_types.specs.Limits.{MOST_TOPIC_PARTITIONS}
+use Rattle.group_types.specs.Limits.{LONGEST_METADATA, MOST_TOPIC_PARTITIONS}
+use Rattle.group_types.specs.Group.{Committed, Record}
+use Rattle.group_types.specs.Owners.{is_index}
 use Rattle.group_types.specs.Partition.{Partitions}
 use Rattle.group_types.specs.Sets.{nothing, of_list, with_one}
 use Rattle.group_types.specs.Text.{Text}
 use Rattle.group_types.specs.Topics.{Topics, Names}
 use Rattle.topic_meta.specs.Images.{Entry, topics_of, first_fault}
 use Rattle.topic_meta.specs.declared.image_fault.ImageFault.{ImageFault}
+use Rattle.replica_snapshots.specs.declared.numbers.Numbers.{Numbers}
 use Rattle.replica_snapshots.specs.Nodes.{VERSION, HeadValue, head_with}
 use Rattle.replica_snapshots.specs.Places.{PLACE_VERSION, PlaceValue}
 use Rattle.replica_snapshots.specs.declared.fault.SnapshotFault.{SnapshotFault}
@@ -113,6 +118,14 @@ natural_at read bytes = read bytes >>= λ number. natural number.0 number.1
 unfoldable pub epoch_at : List ℕ → Found ℕ
 epoch_at bytes = natural_at int32_at bytes
 
+-- The epoch of a member, which is missing where the member is away.
+abbrev pub marked_epoch_at : Bool → List ℕ → Found Epoch
+marked_epoch_at false bytes = Some (Away, bytes)
+marked_epoch_at true bytes = epoch_at bytes >>= λ epoch. Some (At epoch.0, epoch.1)
+
+unfoldable pub member_epoch_at : List ℕ → Found Epoch
+member_epoch_at bytes = present_at bytes >>= λ there. marked_epoch_at there.0 there.1
+
 -- A time of 32 bits.
 unfoldable pub timeout_at : List ℕ → Found ℕ
 timeout_at bytes = number_at bytes >>= λ n. if nat_lt n.0 (2 ^ 32) then Some n else None
@@ -124,8 +137,7 @@ stamp_at bytes =
 
 -- An index that a partition of a topic can have.
 abbrev pub index_of : ℤ → List ℕ → Found ℤ
-index_of (pos n) rest = if nat_lt n MOST_TOPIC_PARTITIONS then Some (pos n, rest) else None
-index_of (negsuc n) rest = None
+index_of index rest = if is_index index MOST_TOPIC_PARTITIONS then Some (index, rest) else None
 
 unfoldable pub index_at : List ℕ → Found ℤ
 index_at bytes = int32_at bytes >>= λ number. index_of number.0 number.1
@@ -152,6 +164,61 @@ found_in_front (Some v) rest = Some (v, rest)
 
 unfoldable pub assignor_at : List ℕ → Found AssignorName
 assignor_at bytes = text_at bytes >>= λ text. found_in_front (assignor_named text.0) text.1
+
+-- ---- the parts of a group
+
+-- The numbers of a group.
+unfoldable pub numbers_at : List ℕ → Found Numbers
+numbers_at bytes =
+    number_at bytes >>= λ salt. epoch_at salt.1 >>= λ epoch. epoch_at epoch.1 >>= λ target_epoch.
+    number_at target_epoch.1 >>= λ clock. number_at clock.1 >>= λ ids_made.
+    Some (record { salt = salt.0; epoch = epoch.0; target_epoch = target_epoch.0; clock = clock.0; ids_made = ids_made.0 }, ids_made.1)
+
+-- A former member, with its last stamp.
+unfoldable pub former_at : List ℕ → Found (Text × Stamp)
+former_at bytes = text_at bytes >>= λ id. stamp_at id.1 >>= λ stamp. Some ((id.0, stamp.0), stamp.1)
+
+-- A member's record.
+unfoldable pub record_at : List ℕ → Found Record
+record_at bytes =
+    optional_at text_at bytes >>= λ instance. optional_at text_at instance.1 >>= λ rack.
+    names_at rack.1 >>= λ names. optional_at assignor_at names.1 >>= λ assignor. timeout_at assignor.1 >>= λ timeout.
+    member_epoch_at timeout.1 >>= λ epoch. epoch_at epoch.1 >>= λ previous. stamp_at previous.1 >>= λ stamp.
+    optional_at partitions_at stamp.1 >>= λ sent. number_at sent.1 >>= λ session. optional_at number_at session.1 >>= λ release.
+    Some (
+      record {
+        instance = instance.0;
+        rack = rack.0;
+        names = names.0;
+        assignor = assignor.0;
+        rebalance_timeout = timeout.0;
+        epoch = epoch.0;
+        previous_epoch = previous.0;
+        stamp = stamp.0;
+        sent = sent.0;
+        session_deadline = session.0;
+        release_deadline = release.0;
+      },
+      release.1,
+    )
+
+-- A partition that a member may read, and the epoch of the target since which it may.
+unfoldable pub grant_at : List ℕ → Found (Partition × ℕ)
+grant_at bytes = partition_at bytes >>= λ p. epoch_at p.1 >>= λ since. Some ((p.0, since.0), since.1)
+
+-- The metadata of a commit, which are no longer than they may be.
+abbrev pub short_metadata : Option Text → List ℕ → Found (Option Text)
+short_metadata None rest = Some (None, rest)
+short_metadata (Some text) rest = if nat_lt LONGEST_METADATA (length text) then None else Some (Some text, rest)
+
+unfoldable pub metadata_at : List ℕ → Found (Option Text)
+metadata_at bytes = optional_at text_at bytes >>= λ metadata. short_metadata metadata.0 metadata.1
+
+-- What is committed.
+unfoldable pub committed_at : List ℕ → Found Committed
+committed_at bytes =
+    int64_at bytes >>= λ offset. int32_at offset.1 >>= λ leader_epoch. metadata_at leader_epoch.1 >>= λ metadata.
+    Some (record { offset = offset.0; leader_epoch = leader_epoch.0; metadata = metadata.0 }, metadata.1)
 
 -- ---- heads and places
 

@@ -1,8 +1,13 @@
 -- Groups that are read into a node, one behind the other.
-use Rattle.std.specs.Prelude.{◌≡◌, ℕ, List, [], ◌∷◌, ◌++◌, length, All}
+use Rattle.std.specs.Prelude.{◌≡◌, ◌≤◌, ℕ, List, [], ◌∷◌, ◌++◌, length, Some, All}
+use Rattle.std.specs.FinMap as finite
 use Rattle.std.specs.List.{flat_map}
+use Rattle.group_types.specs.Group.{Group}
+use Rattle.group_types.specs.Images.{AreImageTopics}
+use Rattle.group_types.specs.Limits.{MOST_GROUPS}
+use Rattle.group_types.specs.Text.{Text}
 use Rattle.coord_node.specs.Coordinator.{Coordinator}
-use Rattle.coord_node.specs.Restored.{CanBeKept}
+use Rattle.coord_node.specs.Restored.{CanBeKept, IsGroupId}
 use Rattle.coord_node.specs.Steps.{with_group}
 use Rattle.replica_snapshots.specs.Groups.{Named, named_fields, FitsNamed}
 
@@ -26,3 +31,18 @@ pub record ReadsGroups (count : ℕ) (bytes rest : List ℕ) (old new : Coordina
   pub fits : All FitsNamed read
   pub spelled : bytes ≡ flat_map named_fields read ++ rest
   pub added : AddsEach old read new
+
+-- ---- what can be restored
+
+-- What a node can be: its topics are an image's, its groups have names that a join may have, and it has no more than it may have.
+pub record CanBeNode (c : Coordinator) : Type 0 where
+  pub image : AreImageTopics c.image
+  pub ids : (name : Text) (g : Group) → finite.get c.groups name ≡ Some g → IsGroupId name
+  pub few : finite.len c.groups ≤ MOST_GROUPS
+
+-- one group more can be kept
+abbrev pub CanKeep : Coordinator → Named → Type 0
+CanKeep c g = CanBeKept c.groups g.0
+
+abbrev pub keeping : Coordinator → Named → Coordinator
+keeping c g = with_group c g.0 g.1.0

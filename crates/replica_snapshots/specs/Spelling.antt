@@ -1,6 +1,6 @@
 -- The one spelling of each part of a group, and which parts have one: a column of fields for each (ours). The fields are
 -- those of the Kafka protocol guide, section "Protocol Primitive Types", but for the unsigned number.
-use Rattle.std.specs.Prelude.{ℕ, ℤ, pos, ◌<◌, ◌^◌, true, false, List, [], ◌∷◌, ◌++◌, Option, Some, None, IfSome, FitsSigned}
+use Rattle.std.specs.Prelude.{ℕ, ℤ, pos, ◌<◌, ◌≤◌, ◌^◌, length, true, false, List, [], ◌∷◌, ◌++◌, Option, Some, None, IfSome, FitsSigned}
 use Rattle.std.specs.Int.{w32, w64, to_be_bytes}
 use Rattle.flex_wire.specs.Spelling.{int32, int64, uuid, FitsUuid, compact_string, FitsText, mark}
 use Rattle.flex_wire.specs.Composed.{array, FitsArray}
@@ -10,6 +10,8 @@ use Rattle.group_types.specs.declared.partition.Partition.{Partition}
 use Rattle.group_types.specs.declared.stamp.Stamp.{Stamp}
 use Rattle.group_types.specs.AssignorName.{assignor_text}
 use Rattle.group_types.specs.Epoch.{number_of}
+use Rattle.group_types.specs.Limits.{LONGEST_METADATA, MOST_TOPIC_PARTITIONS}
+use Rattle.group_types.specs.Owners.{IsIndex}
 use Rattle.group_types.specs.Text.{Text}
 use Rattle.group_types.specs.Topics.{Topic, Names}
 use Rattle.group_types.specs.Sets.{in_order}
@@ -27,6 +29,10 @@ number64 n = to_be_bytes w64 n
 -- An unsigned number of 64 bits.
 abbrev pub FitsNumber : ℕ → Type 0
 FitsNumber n = n < 2 ^ 64
+
+-- A time in milliseconds, of 32 bits. It is spelled as an unsigned number.
+abbrev pub FitsMillis : ℕ → Type 0
+FitsMillis millis = millis < 2 ^ 32
 
 -- An epoch, as an INT32.
 abbrev pub epoch_field : ℕ → List ℕ
@@ -54,6 +60,10 @@ pub record FitsStamp (stamp : Stamp) : Type 0 where
   pub connection : FitsNumber stamp.connection
   pub frame : FitsNumber stamp.frame
 
+-- An index that a partition of a topic can have. It is spelled as an INT32.
+abbrev pub FitsIndex : ℤ → Type 0
+FitsIndex index = IsIndex index MOST_TOPIC_PARTITIONS
+
 -- A partition.
 unfoldable pub partition_fields : Partition → List ℕ
 partition_fields p = fields (
@@ -63,7 +73,7 @@ partition_fields p = fields (
 
 pub record FitsPartition (p : Partition) : Type 0 where
   pub topic : FitsUuid p.topic
-  pub index : FitsSigned w32 p.index
+  pub index : FitsIndex p.index
 
 -- A set of partitions, rising.
 abbrev pub partitions_field : Partitions → List ℕ
@@ -110,7 +120,7 @@ wishes_fields r = fields (
 pub record FitsWishes (r : Record) : Type 0 where
   pub names : FitsNames r.names
   pub assignor : IfSome r.assignor FitsAssignor
-  pub rebalance_timeout : FitsNumber r.rebalance_timeout
+  pub rebalance_timeout : FitsMillis r.rebalance_timeout
 
 -- How far a member has come. The epoch of one that is away is missing.
 unfoldable pub progress_fields : Record → List ℕ
@@ -205,6 +215,11 @@ pub record FitsFormer (former : Text × Stamp) : Type 0 where
   pub id : FitsText former.0
   pub stamp : FitsStamp former.1
 
+-- The metadata of a commit: a text that is no longer than a commit may have.
+pub record FitsMetadata (metadata : Text) : Type 0 where
+  pub text : FitsText metadata
+  pub short : length metadata ≤ LONGEST_METADATA
+
 -- What is committed.
 unfoldable pub committed_fields : Committed → List ℕ
 committed_fields c = fields (
@@ -216,7 +231,7 @@ committed_fields c = fields (
 pub record FitsCommitted (c : Committed) : Type 0 where
   pub offset : FitsSigned w64 c.offset
   pub leader_epoch : FitsSigned w32 c.leader_epoch
-  pub metadata : IfSome c.metadata FitsText
+  pub metadata : IfSome c.metadata FitsMetadata
 
 -- What is committed for a topic's name and an index.
 unfoldable pub offset_fields : (Text × ℤ) × Committed → List ℕ
@@ -228,7 +243,7 @@ offset_fields e = fields (
 
 pub record FitsOffset (e : (Text × ℤ) × Committed) : Type 0 where
   pub name : FitsText e.0.0
-  pub index : FitsSigned w32 e.0.1
+  pub index : FitsIndex e.0.1
   pub committed : FitsCommitted e.1
 
 -- ---- a group

@@ -1,21 +1,20 @@
 //! Fields, read one after the other from the front of bytes. Whatever is spelled as a snapshot spells it is read; what was read
 //! is looked at as a whole, once it is read.
 
-ghost use Rattle.std.specs.Prelude.{◌≡◌, ◌≤◌, length, IfOk};
+ghost use Rattle.std.specs.Prelude.{◌≡◌, ◌≤◌, length, IfOk, IsOk, IsTrue};
 ghost use Rattle.std.specs.Option.{option_map};
 ghost use Rattle.std.specs.String.{string_bytes};
-ghost use Rattle.group_types.specs.Epoch.{number_of};
 ghost use Rattle.group_types.specs.Limits.{LONGEST_STRING};
 ghost use Rattle.group_types.specs.Sets.{nothing};
 ghost use Rattle.topic_meta.specs.Images.{entry_of, entries_of};
-ghost use Rattle.replica_snapshots.specs.Reading.{Gives, number_at, int16_at, int32_at, int64_at, id_at, count_at, present_at, text_at, optional_at, epoch_at, timeout_at, stamp_at, index_at, partition_at, partitions_at, names_into, names_at, entry_at, each_at, image_at, assignor_at};
+ghost use Rattle.replica_snapshots.specs.Reading.{Gives, number_at, int16_at, int32_at, int64_at, id_at, count_at, present_at, text_at, optional_at, epoch_at, member_epoch_at, timeout_at, stamp_at, index_at, partition_at, partitions_at, names_into, names_at, entry_at, each_at, image_at, assignor_at};
 ghost use Rattle.replica_snapshots.specs.Views.{unread};
 
 use crate::fault::SnapshotFault;
+use crate::fields::is_index;
 use flex_wire::{
     WireFault, take_compact_str, take_count, take_i16, take_i32, take_i64, take_mark, take_uuid,
 };
-use group_types::limits::MOST_TOPIC_PARTITIONS;
 use group_types::{
     AssignorName, Epoch, EpochNumber, MemberId, Moment, NameSet, PartSet, Partition, Stamp,
 };
@@ -64,7 +63,9 @@ impl<'a> Cursor<'a> {
     }
 
     /// Whether a step was taken; else what was read isn't sound.
-    pub fn sound(&self, is_taken: bool) -> Result<(), SnapshotFault> {
+    pub fn sound(&self, is_taken: bool) -> Result<(), SnapshotFault>
+        ensures { IsTrue is_taken → IsOk result }
+    {
         if !is_taken {
             return Err(self.unsound());
         }
@@ -204,9 +205,9 @@ impl<'a> Cursor<'a> {
     }
 
     /// The epoch of a member, which is missing where the member is away.
-    #[tactic(auto, unfolding(crate::specs::Reading::optional_at))]
+    #[tactic(auto, unfolding(crate::specs::Reading::member_epoch_at))]
     pub fn member_epoch(&mut self) -> Result<Epoch, SnapshotFault>
-        ensures { Gives number_of result (unread self.new) (optional_at epoch_at (unread self.old)) }
+        ensures { Gives (λ epoch. epoch) result (unread self.new) (member_epoch_at (unread self.old)) }
     {
         if !self.is_present()? {
             return Ok(Epoch::Away);
@@ -257,7 +258,7 @@ impl<'a> Cursor<'a> {
         ensures { Gives (λ index. index) result (unread self.new) (index_at (unread self.old)) }
     {
         let index = self.int32()?;
-        if index < 0 || MOST_TOPIC_PARTITIONS as i32 <= index {
+        if !is_index(index) {
             return Err(self.bad_value());
         }
         Ok(index)

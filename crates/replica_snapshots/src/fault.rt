@@ -23,7 +23,8 @@ pub enum SnapshotFault {
     /// The state is spelled otherwise from this place on, or before it.
     #[error("byte {0}: spelled otherwise")]
     Respelled(usize),
-    /// A text has over 32,767 bytes, or there is more of something than a count can say.
+    /// A text has over 32,767 bytes, there is more of something than a count can say, a partition's index is outside 0 to 99,999,
+    /// or metadata has over 4,096 bytes.
     #[error("too long for its field")]
     TooLong,
     /// A growth was refused.

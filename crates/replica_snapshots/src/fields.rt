@@ -1,16 +1,19 @@
 //! The fields of a snapshot, written at the end of a `Vec`. What is too long for its field is refused.
 
-ghost use Rattle.std.specs.Prelude.{pos, length, true, false, All, FitsSigned, IfSome};
+ghost use Rattle.std.specs.Prelude.{◌≡◌, pos, length, true, false, All, FitsSigned, IfSome};
 ghost use Rattle.std.specs.Int.{w32, w64};
 ghost use Rattle.std.specs.List.{flat_map};
 ghost use Rattle.std.specs.Option.{option_copied};
 ghost use Rattle.flex_wire.specs.Spelling.{array_count, compact_string, int32, int64, mark, uuid, FitsCount, FitsText, FitsUuid};
+ghost use Rattle.group_types.specs.Limits.{MOST_TOPIC_PARTITIONS as MOST};
+ghost use Rattle.group_types.specs.Owners.{is_index};
 ghost use Rattle.group_types.specs.Sets.{in_order};
-ghost use Rattle.replica_snapshots.specs.Spelling.{number64, FitsNumber, epoch_field, FitsEpoch, optional, stamp_fields, FitsStamp, partition_fields, FitsPartition, partitions_field, FitsPartitions, names_field, FitsNames};
+ghost use Rattle.replica_snapshots.specs.Spelling.{number64, FitsNumber, FitsMillis, FitsIndex, epoch_field, FitsEpoch, optional, stamp_fields, FitsStamp, partition_fields, FitsPartition, partitions_field, FitsPartitions, names_field, FitsNames};
 ghost use Rattle.replica_snapshots.specs.Writing.{PutsUpTo};
 
 use crate::fault::SnapshotFault;
 use flex_wire::{LONGEST_STRING, put_compact_str, put_count, put_i32, put_i64, put_mark, put_uuid};
+use group_types::limits::MOST_TOPIC_PARTITIONS;
 use group_types::{EpochNumber, Moment, NameSet, PartSet, Partition, Stamp};
 use uuid::Uuid;
 
@@ -41,6 +44,23 @@ pub fn put_int32(out: &mut Vec<u8>, number: i32) -> Result<(), SnapshotFault>
     Ok(())
 }
 
+/// Whether a partition of a topic can have the index.
+pub fn is_index(index: i32) -> bool
+    ensures { result ≡ is_index index MOST }
+{
+    0 <= index && index < MOST_TOPIC_PARTITIONS as i32
+}
+
+/// An index that a partition of a topic can have.
+pub fn put_index(out: &mut Vec<u8>, index: i32) -> Result<(), SnapshotFault>
+    ensures { PutsUpTo result out.old.items out.new.items (FitsIndex index) (int32 index) }
+{
+    if !is_index(index) {
+        return Err(SnapshotFault::TooLong);
+    }
+    put_int32(out, index)
+}
+
 /// An INT64.
 pub fn put_int64(out: &mut Vec<u8>, number: i64) -> Result<(), SnapshotFault>
     ensures { PutsUpTo result out.old.items out.new.items (FitsSigned w64 number) (int64 number) }
@@ -51,7 +71,7 @@ pub fn put_int64(out: &mut Vec<u8>, number: i64) -> Result<(), SnapshotFault>
 
 /// A number of milliseconds.
 pub fn put_millis(out: &mut Vec<u8>, millis: u32) -> Result<(), SnapshotFault>
-    ensures { PutsUpTo result out.old.items out.new.items (FitsNumber millis) (number64 millis) }
+    ensures { PutsUpTo result out.old.items out.new.items (FitsMillis millis) (number64 millis) }
 {
     put_number(out, u64::from(millis))
 }
@@ -101,7 +121,7 @@ pub fn put_partition(out: &mut Vec<u8>, p: &Partition) -> Result<(), SnapshotFau
     ensures { PutsUpTo result out.old.items out.new.items (FitsPartition p.now) (partition_fields p.now) }
 {
     put_id(out, &p.topic)?;
-    put_int32(out, p.index)
+    put_index(out, p.index)
 }
 
 /// A set of partitions, rising.

@@ -1,10 +1,11 @@
 //! A group under its name, written and read.
 
-ghost use Rattle.std.specs.Prelude.{◌≡◌, ◌++◌, ℕ, List, IfOk};
+ghost use Rattle.std.specs.Prelude.{◌≡◌, ◌++◌, ℕ, List, IfErr, IfOk};
 ghost use Rattle.replica_snapshots.specs.Spelling.{parts_fields, FitsParts};
 ghost use Rattle.replica_snapshots.specs.Groups.{numbers_of, parts_of, group_fields, FitsGroup, Named, named_fields, FitsNamed};
 ghost use Rattle.replica_snapshots.specs.Views.{held_of, named_of};
 ghost use Rattle.replica_snapshots.specs.Writing.{Puts, PutsUpTo};
+ghost use Rattle.replica_snapshots.specs.declared.fault.SnapshotFault.TheVariants.{NoMemory};
 
 use crate::cursor::Cursor;
 use crate::fault::SnapshotFault;
@@ -26,8 +27,9 @@ pub struct ReadGroup<'a> {
 
 /// Appends the one spelling of a group under its name.
 ///
-/// Refused, with no byte changed: `TooLong` only where a text has over 32,767 bytes, or where there is more of something than
-/// a count can say; `NoMemory`.
+/// Refused, with no byte changed: `TooLong` only where a text has over 32,767 bytes, where there is more of something than a count
+/// can say, or where a partition's index is outside 0 to 99,999, or metadata has over 4,096 bytes, as in no group that requests lead
+/// to; `NoMemory`.
 pub fn put_group(out: &mut Vec<u8>, name: &str, group: &Group) -> Result<(), SnapshotFault>
     ensures { let g : Named = (name.now, held_of group.now) in
         Puts result out.old.items out.new.items (FitsNamed g) (named_fields g) }
@@ -86,8 +88,7 @@ fn numbers_of(group: &Group) -> Numbers
 }
 
 /// Reads a group under its name from the front of bytes, and gives the bytes behind it: the one group that they begin with, or
-/// a fault. Whatever the bytes are, the group is sound. That a group that was written is refused only for want of memory isn't
-/// proved.
+/// a fault. Whatever the bytes are, the group is sound. A group that was written is never refused but for want of memory.
 pub fn read_group<'a>(
     alloc: Global,
     hasher: RandomState,
@@ -96,6 +97,8 @@ pub fn read_group<'a>(
     ensures found { IfOk result (λ x. FitsNamed (named_of x.0) × (bytes.now ≡ named_fields (named_of x.0) ++ x.1.now)) }
     ensures only { (g : Named) (rest : List ℕ) → FitsNamed g → bytes.now ≡ named_fields g ++ rest
         → IfOk result (λ x. (named_of x.0 ≡ g) × (x.1.now ≡ rest)) }
+    ensures whole { (g : Named) (rest : List ℕ) → FitsNamed g → bytes.now ≡ named_fields g ++ rest
+        → IfErr result (λ fault. fault ≡ NoMemory) }
 {
     read_again(alloc, hasher, bytes)
 }
@@ -106,15 +109,28 @@ fn read_again<'a>(
     hasher: RandomState,
     bytes: &'a [u8],
 ) -> Result<(ReadGroup<'a>, &'a [u8]), SnapshotFault>
-    ensures { IfOk result (λ x. FitsNamed (named_of x.0) × (bytes.now ≡ named_fields (named_of x.0) ++ x.1.now)) }
+    ensures found { IfOk result (λ x. FitsNamed (named_of x.0) × (bytes.now ≡ named_fields (named_of x.0) ++ x.1.now)) }
+    ensures whole { (g : Named) (rest : List ℕ) → FitsNamed g → bytes.now ≡ named_fields g ++ rest
+        → IfErr result (λ fault. fault ≡ NoMemory) }
 {
     let mut cursor = Cursor::new(alloc, bytes);
     let name = cursor.text()?;
     let group = group_of(alloc, hasher, &mut cursor)?;
-    let mut again = Vec::with_capacity(alloc, cursor.place())?;
-    put_group(&mut again, name, &group)?;
+    let again = spelled(alloc, cursor.place(), name, &group)?;
     match behind(bytes, &again) {
         Ok(rest) => Ok((ReadGroup { name, group }, rest)),
         Err(fault) => Err(fault),
     }
+}
+
+/// The spelling of a group under its name, whose size is known.
+fn spelled(alloc: Global, size: usize, name: &str, group: &Group) -> Result<Vec<u8>, SnapshotFault>
+    ensures ok { let g : Named = (name.now, held_of group.now) in
+        IfOk result (λ bytes. FitsNamed g × (bytes.items ≡ named_fields g)) }
+    ensures fitting { let g : Named = (name.now, held_of group.now) in
+        FitsNamed g → IfErr result (λ fault. fault ≡ NoMemory) }
+{
+    let mut bytes = Vec::with_capacity(alloc, size)?;
+    put_group(&mut bytes, name, group)?;
+    Ok(bytes)
 }

@@ -1,6 +1,6 @@
 //! Laws of the spelling, proved where nothing runs.
 
-ghost use Rattle.replica_snapshots.specs.Laws.{OneCoordinatorARun, OneGroupARun, OneHeadARun, OneNodeARun, OnePlaceARun, SectionsMakeTheNode};
+ghost use Rattle.replica_snapshots.specs.Laws.{OneCoordinatorARun, OneGroupARun, OneHeadARun, OneNodeARun, OnePlaceARun, RunsCanBeNodes, SectionsMakeTheNode};
 
 /// Bytes begin with at most one group under its name.
 pub fn one_group_a_run()
@@ -30,4 +30,9 @@ pub fn one_place_a_run()
 /// The sections of a node, one behind the other, are the node.
 pub fn sections_make_the_node()
     ensures { SectionsMakeTheNode }
+{}
+
+/// Whatever came to a coordinator since its opening, a node can be it.
+pub fn runs_can_be_nodes()
+    ensures { RunsCanBeNodes }
 {}

@@ -1,8 +1,9 @@
 //! The state of a node as bytes: group by group, and the place of the log at which it was.
 //!
 //! A state has one spelling, and bytes begin with at most one state ([`one_group_a_run`], [`one_coordinator_a_run`]). A node is read
-//! from any bytes: it is sound, and the bytes are just its spelling, or there is a fault with its number and place. Start from
-//! [`Sections`], by which a node is written, and [`read_node`]; `specs/Spelling.antt` has the layout.
+//! from any bytes: it is sound, and the bytes are just its spelling, or there is a fault with its number and place. One that was
+//! written is never refused but for want of memory ([`runs_can_be_nodes`]). Start from [`Sections`], by which a node is written, and
+//! [`read_node`]; `specs/Spelling.antt` has the layout.
 #![tactic(auto)]
 
 mod cursor;
@@ -26,7 +27,7 @@ pub use group::{ReadGroup, put_group, read_group};
 pub use head::{Head, put_head, read_head};
 pub use laws::{
     one_coordinator_a_run, one_group_a_run, one_head_a_run, one_node_a_run, one_place_a_run,
-    sections_make_the_node,
+    runs_can_be_nodes, sections_make_the_node,
 };
 pub use node::{Sections, read_node};
 pub use place::{Place, put_place, read_place};

@@ -1,11 +1,15 @@
 //! A node, written section by section, and read.
 
-ghost use Rattle.std.specs.Prelude.{◌≡◌, ◌++◌, ℕ, List, IfOk, IfSome, length, slice_get};
+ghost use Rattle.std.specs.Prelude.{◌≡◌, ◌++◌, ℕ, List, IfErr, IfOk, IfSome, MatchResult, length, slice_get};
+ghost use Rattle.std.specs.List.{AllByRecursion, flat_map};
 ghost use Rattle.coord_node.specs.Coordinator.{Coordinator};
+ghost use Rattle.replica_snapshots.specs.Building.{CanEach, with_each};
+ghost use Rattle.replica_snapshots.specs.Groups.{FitsNamed, Named, named_fields};
 ghost use Rattle.replica_snapshots.specs.Nodes.{FitsSection, IsOf, SpellsNode, section_fields, sections_of};
-ghost use Rattle.replica_snapshots.specs.Restoring.{ReadsGroup, ReadsGroups};
+ghost use Rattle.replica_snapshots.specs.Restoring.{CanBeNode, CanKeep, keeping, ReadsGroup, ReadsGroups};
 ghost use Rattle.replica_snapshots.specs.Views.{listed_node};
 ghost use Rattle.replica_snapshots.specs.Writing.{PutsSections, PutsUpTo};
+ghost use Rattle.replica_snapshots.specs.declared.fault.SnapshotFault.TheVariants.{NoMemory};
 
 use crate::fault::SnapshotFault;
 use crate::group::{put_group, read_group};
@@ -49,8 +53,9 @@ impl<'a> Sections<'a> {
     /// Appends sections from one number on, until there are `size` bytes of them or none is left: at least one, where one is left. Gives
     /// the number of the next one. All sections, one behind the other, are the one spelling of the node.
     ///
-    /// Refused, with no byte changed: `TooLong` only where a text has over 32,767 bytes, or where there is more of something than
-    /// a count can say; `NoMemory`.
+    /// Refused, with no byte changed: `TooLong` only where a text has over 32,767 bytes, where there is more of something than a
+    /// count can say, or where a partition's index is outside 0 to 99,999, or metadata has over 4,096 bytes, as in no group that
+    /// requests lead to; `NoMemory`.
     pub fn put(&self, from: usize, size: usize, out: &mut Vec<u8>) -> Result<usize, SnapshotFault>
         ensures { PutsSections result out.old.items out.new.items (sections_of (listed_node self.now)) from size }
     {
@@ -84,7 +89,7 @@ impl<'a> Sections<'a> {
 }
 
 /// Reads a node from the front of bytes, and gives the bytes behind it: the one node that they begin with, or a fault. Whatever the bytes
-/// are, the node is sound. That a node that was written is refused only for want of memory isn't proved.
+/// are, the node is sound. A node that was written is never refused but for want of memory.
 pub fn read_node(
     alloc: Global,
     hasher: RandomState,
@@ -93,6 +98,8 @@ pub fn read_node(
     ensures found { IfOk result (λ x. (written : List ℕ) × SpellsNode x.0 written × (bytes.now ≡ written ++ x.1.now)) }
     ensures only { (c : Coordinator) (written rest : List ℕ) → SpellsNode c written → bytes.now ≡ written ++ rest
         → IfOk result (λ x. (x.0 ≡ c) × (x.1.now ≡ rest)) }
+    ensures whole { (c : Coordinator) (written rest : List ℕ) → SpellsNode c written → CanBeNode c → bytes.now ≡ written ++ rest
+        → IfErr result (λ fault. fault ≡ NoMemory) }
 {
     let (head, rest) = read_head(alloc, bytes)?;
     let mut node = Node::new(alloc, head.salt, hasher);
@@ -110,7 +117,10 @@ fn read_groups<'a>(
     bytes: &'a [u8],
     size: usize,
 ) -> Result<&'a [u8], SnapshotFault>
-    ensures { IfOk result (λ rest. ReadsGroups count bytes.now rest.now node.old node.new) }
+    ensures found { IfOk result (λ rest. ReadsGroups count bytes.now rest.now node.old node.new) }
+    ensures whole { (groups : List Named) (rest : List ℕ) → (length groups ≡ count) × AllByRecursion FitsNamed groups → CanEach CanKeep keeping node.old groups
+        → bytes.now ≡ flat_map named_fields groups ++ rest
+        → MatchResult result (λ left. (node.new ≡ with_each keeping node.old groups) × (left.now ≡ rest)) (λ fault. fault ≡ NoMemory) }
 {
     let mut rest = bytes;
     for _ in 0..count {
@@ -129,7 +139,9 @@ fn add_group<'a>(
     node: &mut Node,
     bytes: &'a [u8],
 ) -> Result<&'a [u8], SnapshotFault>
-    ensures { IfOk result (λ rest. ReadsGroup bytes.now rest.now node.old node.new) }
+    ensures found { IfOk result (λ rest. ReadsGroup bytes.now rest.now node.old node.new) }
+    ensures whole { (g : Named) (rest : List ℕ) → FitsNamed g → CanKeep node.old g → bytes.now ≡ named_fields g ++ rest
+        → MatchResult result (λ left. (node.new ≡ keeping node.old g) × (left.now ≡ rest)) (λ fault. fault ≡ NoMemory) }
 {
     let (read, rest) = read_group(alloc, hasher, bytes)?;
     if !node.restore_group(read.name, read.group)? {

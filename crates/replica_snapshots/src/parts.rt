@@ -1,26 +1,28 @@
 //! The lists of a group, written at the end of a `Vec`: the topics of its view, its former members, its members and the
 //! offsets.
 
-ghost use Rattle.std.specs.Prelude.{map, pos, All, FitsSigned};
+ghost use Rattle.std.specs.Prelude.{map, pos, All, FitsSigned, IfSome};
 ghost use Rattle.std.specs.Int.{w32};
 ghost use Rattle.std.specs.List.{flat_map};
+ghost use Rattle.std.specs.Option.{option_copied};
 ghost use Rattle.std.specs.FinMap as finite;
-ghost use Rattle.flex_wire.specs.Spelling.{int32};
+ghost use Rattle.flex_wire.specs.Spelling.{compact_string, int32};
 ghost use Rattle.flex_wire.specs.Composed.{array, FitsArray};
 ghost use Rattle.topic_meta.specs.Views.{all_named, named};
 ghost use Rattle.offset_guard.specs.Listing.{entry_of};
 ghost use Rattle.replica_snapshots.specs.Parts.{member_part};
-ghost use Rattle.replica_snapshots.specs.Spelling.{topic_fields, FitsTopic, former_fields, FitsFormer, member_fields, FitsMember, committed_fields, FitsCommitted, offset_fields, FitsOffset, lists_fields, FitsLists};
+ghost use Rattle.replica_snapshots.specs.Spelling.{topic_fields, FitsTopic, former_fields, FitsFormer, member_fields, FitsMember, committed_fields, FitsCommitted, FitsMetadata, optional, offset_fields, FitsOffset, lists_fields, FitsLists};
 ghost use Rattle.replica_snapshots.specs.Writing.{PutsUpTo};
 
 use crate::fault::SnapshotFault;
 use crate::fields::{
-    put_id, put_int32, put_int64, put_optional_text, put_size, put_stamp, put_text,
+    put_absent, put_id, put_index, put_int32, put_int64, put_present, put_size, put_stamp, put_text,
 };
 use crate::member::{Near, put_member};
 use group_epochs::Records;
 use group_reconcile::Grants;
 use group_target::Target;
+use group_types::limits::LONGEST_METADATA;
 use group_types::{MemberId, Stamp};
 use offset_guard::{Committed, CommittedAt, Offsets};
 use topic_meta::{View, ViewTopic};
@@ -176,7 +178,7 @@ fn put_offset(out: &mut Vec<u8>, at: &CommittedAt<'_>) -> Result<(), SnapshotFau
     ensures { PutsUpTo result out.old.items out.new.items (FitsOffset (entry_of at.now)) (offset_fields (entry_of at.now)) }
 {
     put_text(out, at.name)?;
-    put_int32(out, at.index)?;
+    put_index(out, at.index)?;
     put_committed(out, at.committed)
 }
 
@@ -186,5 +188,28 @@ fn put_committed(out: &mut Vec<u8>, committed: &Committed) -> Result<(), Snapsho
 {
     put_int64(out, committed.offset())?;
     put_int32(out, committed.leader_epoch())?;
-    put_optional_text(out, committed.metadata())
+    put_metadata(out, committed.metadata())
+}
+
+/// The metadata of a commit, if there are any.
+fn put_metadata(out: &mut Vec<u8>, metadata: Option<&str>) -> Result<(), SnapshotFault>
+    ensures { let text = option_copied metadata.entry in
+        PutsUpTo result out.old.items out.new.items (IfSome text FitsMetadata) (optional compact_string text) }
+{
+    match metadata {
+        None => put_absent(out),
+        Some(text) => {
+            put_present(out)?;
+            put_metadata_text(out, text)
+        }
+    }
+}
+
+fn put_metadata_text(out: &mut Vec<u8>, text: &str) -> Result<(), SnapshotFault>
+    ensures { PutsUpTo result out.old.items out.new.items (FitsMetadata text.now) (compact_string text.now) }
+{
+    if LONGEST_METADATA < text.len() {
+        return Err(SnapshotFault::TooLong);
+    }
+    put_text(out, text)
 }

@@ -5,4 +5,4 @@ use Rattle.replica_snapshots.proofs.group.read_group.Goals as goal
 
 pub returns-clause-only : goal.returns-clause-only
 returns-clause-only c = λ g rest fits is.
-    only_by named_begins (λ x. (named_of x.0, x.1.now)) c.args.bytes.now c.read_again.result c.read_again.ensures g rest fits is
+    only_by named_begins (λ x. (named_of x.0, x.1.now)) c.args.bytes.now c.read_again.result c.read_again.ensures.found g rest fits is

@@ -1,7 +1,7 @@
 use Rattle.std.proofs.Common.{[], ◌++◌}
 use Rattle.std.specs.Prelude.{IfSome}
 use Rattle.std.proofs.lemmas.Result.{err_from_is_err_and}
-use Rattle.replica_snapshots.specs.Spelling.{number64, FitsNumber, optional, assignor_field, FitsAssignor, wishes_fields}
+use Rattle.replica_snapshots.specs.Spelling.{number64, FitsMillis, optional, assignor_field, FitsAssignor, wishes_fields}
 use Rattle.replica_snapshots.proofs.Puts.{both, last, refitted, stopped}
 use Rattle.replica_snapshots.proofs.member.put_wishes.Goals as goal
 
@@ -12,7 +12,7 @@ returns-in_err-put_names c =
     let kept = c.args.kept.now in
     let p = err_from_is_err_and r c.from_residual.ensures.1 in
     let names = rw c.names.ensures at c.in_err-put_names.ensures in
-    let put = stopped (IfSome kept.assignor FitsAssignor × FitsNumber kept.rebalance_timeout) (optional assignor_field kept.assignor ++ (number64 kept.rebalance_timeout ++ [])) r names p.1 p.2 in
+    let put = stopped (IfSome kept.assignor FitsAssignor × FitsMillis kept.rebalance_timeout) (optional assignor_field kept.assignor ++ (number64 kept.rebalance_timeout ++ [])) r names p.1 p.2 in
     refitted r put (λ f. record { names = f.0; assignor = f.1.0; rebalance_timeout = f.1.1 }) (λ f. (f.names, (f.assignor, f.rebalance_timeout)))
 
 pub returns : goal.returns

@@ -9,5 +9,5 @@ unfolding offset_fields
 returns c =
     let r = c.put_committed.result in
     let back : to_z w32 (of_z w32 c.args.at.now.index) ≡ c.args.at.now.index = search rules in
-    let put = both r c.in_ok-put_text.ensures (both r (rw back at c.in_ok-put_int32.ensures) (last r c.put_committed.ensures)) in
+    let put = both r c.in_ok-put_text.ensures (both r (rw back at c.in_ok-put_index.ensures) (last r c.put_committed.ensures)) in
     refitted r put (λ f. record { name = f.0; index = f.1.0; committed = f.1.1 }) (λ f. (f.name, (f.index, f.committed)))

@@ -1,0 +1,146 @@
+-- The groups of a node that was written can be kept again, one after the other.
+use Rattle.std.proofs.Common.{◌≡◌, ◌≢◌, ℕ, suc, ◌+◌, ◌<◌, ◌≤◌, Bool, true, false, cond, List, [], ◌∷◌, ◌++◌, length, length-append, map, is_some, Option, Some, None, refl, sym, ap, subst, ◌∙◌, append_assoc, arith}
+use Rattle.std.specs.List.{flat_map, AllByRecursion}
+use Rattle.std.specs.Ordering.{eq_by_cmp}
+use Rattle.std.specs.Cmp.{Equal-is, eq_by_cmp_equiv}
+use Rattle.std.specs.FinMap as finite
+use Rattle.std.specs.FinMap.Entries.{find}
+use Rattle.std.proofs.lemmas.List.{length-map}
+use Rattle.std.proofs.lemmas.List.Elements.{recursion_from_All}
+use Rattle.group_types.specs.Group.{Group}
+use Rattle.group_types.specs.Images.{AreImageTopics}
+use Rattle.group_types.specs.Limits.{MOST_GROUPS}
+use Rattle.group_types.specs.Text.{Text, text_cmp}
+use Rattle.group_types.specs.Topics.{Topics}
+use Rattle.group_types.proofs.Lookups.{no_tie, text_ties}
+use Rattle.group_types.proofs.Orders.{text_cmp_total, text_cmp-IsAntisymmetric}
+use Rattle.coord_node.specs.Coordinator.{Coordinator, Groups}
+use Rattle.coord_node.specs.Restored.{CanBeKept, IsGroupId}
+use Rattle.coord_node.specs.Steps.{with_group}
+use Rattle.replica_snapshots.specs.declared.fault.SnapshotFault.{SnapshotFault}
+use Rattle.replica_snapshots.specs.declared.fault.SnapshotFault.TheVariants.{Wire, BadValue, Unsound, Respelled, TooLong, NoMemory}
+use Rattle.replica_snapshots.specs.Building.{CanEach, with_each}
+use Rattle.replica_snapshots.specs.Faults.{fault_number}
+use Rattle.replica_snapshots.specs.Groups.{Named, named_fields, FitsNamed}
+use Rattle.replica_snapshots.specs.Nodes.{NodeValue, head_fields, head_of, node_fields, state_of, IsOf, SpellsNode}
+use Rattle.replica_snapshots.specs.Restoring.{CanBeNode, CanKeep, keeping}
+use Rattle.replica_snapshots.proofs.Inserted.{KeysApart, none_found, still_none}
+use Rattle.replica_snapshots.proofs.NodeLaws.{bare}
+
+-- the number of a fault tells whether memory is wanted
+pub same_want : (fault other : SnapshotFault) → fault_number other ≡ fault_number fault → fault ≡ NoMemory → other ≡ NoMemory
+same_want fault other numbers wants = by other (numbers ∙ ap fault_number wants)
+  where
+    by : (other : SnapshotFault) → fault_number other ≡ 6 → other ≡ NoMemory
+    by (Wire fault place) six = absurd (omega (arith, six))
+    by (BadValue place) six = absurd (omega (arith, six))
+    by (Unsound place) six = absurd (omega (arith, six))
+    by (Respelled place) six = absurd (omega (arith, six))
+    by TooLong six = absurd (omega (arith, six))
+    by NoMemory six = refl
+
+abbrev States : Type 0
+States = List (Text × Group)
+
+abbrev map_of : States → Groups
+map_of es = finite.from_entries es
+
+more_keys : (b : Bool) (n : ℕ) → cond b n (n + 1) ≤ n + 1
+more_keys true n = omega arith
+more_keys false n = omega arith
+
+-- a map has no more keys than the list that it is of
+pub few_keys : (es : States) → finite.len (map_of es) ≤ length es
+few_keys [] = omega (arith, finite.len-empty text_cmp Group)
+few_keys (e ∷ es) =
+    omega (arith, few_keys es, finite.len-insert text_cmp_total (map_of es) e.0 e.1, more_keys (finite.contains_key (map_of es) e.0) (finite.len (map_of es)))
+
+none_there : (b : Bool) (n k : ℕ) → k ≤ n → cond b k (k + 1) ≡ suc n → (b ≡ false) × (k ≡ n)
+none_there true n k le is = absurd (omega (arith, le, is))
+none_there false n k le is = (refl, omega (arith, is))
+
+not_found : (o : Option Group) → is_some o ≡ false → o ≡ None
+not_found None is = refl
+not_found (Some g) is = absurd cc
+
+other_keys : (k : Text) (es : States) → find text_cmp k es ≡ None → AllByRecursion (λ (f : Text × Group). eq_by_cmp text_cmp f.0 k ≡ false) es
+other_keys k [] none = tt
+other_keys k (e ∷ es) none =
+    elim (eq_by_cmp text_cmp k e.0) as (λ b. eq_by_cmp text_cmp k e.0 ≡ b → cond b (Some e.1) (find text_cmp k es) ≡ None → AllByRecursion (λ (f : Text × Group). eq_by_cmp text_cmp f.0 k ≡ false) (e ∷ es)) [
+      | true ↦ λ so is. absurd cc
+      | false ↦ λ so is. ((eq_by_cmp_equiv text_cmp_total).symm e.0 k ∙ so, other_keys k es is)
+    ] refl none
+
+-- where the map has as many keys as the list, none stands there twice
+once_apart : (es : States) → length es ≡ finite.len (map_of es) → KeysApart text_cmp es
+once_apart [] once = tt
+once_apart (e ∷ es) once =
+    let parts = none_there (finite.contains_key (map_of es) e.0) (length es) (finite.len (map_of es)) (few_keys es) (sym (finite.len-insert text_cmp_total (map_of es) e.0 e.1) ∙ sym once) in
+    let none = sym (finite.get-from_entries text_cmp_total es e.0) ∙ not_found (finite.get (map_of es) e.0) parts.0 in
+    (other_keys e.0 es none, once_apart es (sym parts.1))
+
+-- each is found under its name
+found_there : (es : States) → KeysApart text_cmp es → AllByRecursion (λ (f : Text × Group). find text_cmp f.0 es ≡ Some f.1) es
+found_there es apart = all es es apart (λ q x is. is)
+  where
+    behind : (e : Text × Group) (q : Text) (x : Group) (es : States) → AllByRecursion (λ (f : Text × Group). eq_by_cmp text_cmp f.0 e.0 ≡ false) es → find text_cmp q es ≡ Some x → find text_cmp q (e ∷ es) ≡ Some x
+    behind e q x es apart is =
+        elim (eq_by_cmp text_cmp q e.0) as (λ b. eq_by_cmp text_cmp q e.0 ≡ b → cond b (Some e.1) (find text_cmp q es) ≡ Some x) [
+          | true ↦ λ so.
+              let same : q ≡ e.0 = text_cmp-IsAntisymmetric q e.0 ((Equal-is (text_cmp q e.0)).0 so) in
+              let none = ap (λ (k : Text). find text_cmp k es) same ∙ none_found text_cmp_total e.0 es apart in
+              absurd cc
+          | false ↦ λ so. is
+        ] refl
+
+    all : (left whole : States) → KeysApart text_cmp left → ((q : Text) (x : Group) → find text_cmp q left ≡ Some x → find text_cmp q whole ≡ Some x)
+        → AllByRecursion (λ (f : Text × Group). find text_cmp f.0 whole ≡ Some f.1) left
+    all [] whole apart among = tt
+    all (e ∷ left) whole apart among = (
+      among e.0 e.1 (ap (λ (b : Bool). cond b (Some e.1) (find text_cmp e.0 left)) (text_ties e.0)),
+      all left whole apart.1 (λ q x is. among q x (behind e q x left apart.0 is)),
+    )
+
+module _ (c : Coordinator) (can : CanBeNode c) where
+  ids : (groups : List Named) → AllByRecursion (λ (f : Text × Group). finite.get c.groups f.0 ≡ Some f.1) (map state_of groups) → AllByRecursion (λ (g : Named). IsGroupId g.0) groups
+  ids [] found = tt
+  ids (g ∷ groups) found = (can.ids g.0 g.1.0 found.0, ids groups found.1)
+
+  keep_each : (groups : List Named) (d : Coordinator) → KeysApart text_cmp (map state_of groups) → AllByRecursion (λ (f : Text × Group). finite.get d.groups f.0 ≡ None) (map state_of groups)
+      → AllByRecursion (λ (g : Named). IsGroupId g.0) groups → finite.len d.groups + length groups ≤ MOST_GROUPS → CanEach CanKeep keeping d groups
+  keep_each [] d apart none named few = tt
+  keep_each (g ∷ groups) d apart none named few =
+      let more : finite.len (finite.insert d.groups g.0 g.1.0) ≡ finite.len d.groups + 1 =
+      finite.len-insert text_cmp_total d.groups g.0 g.1.0 ∙ ap (λ (o : Option Group). cond (is_some o) (finite.len d.groups) (finite.len d.groups + 1)) none.0 in (
+        record { id = named.0; absent = none.0; few = omega (arith, few) },
+        keep_each groups (keeping d g) apart.1 (still_none text_cmp_total d.groups g.0 g.1.0 (map state_of groups) apart.0 none.1) named.1 (omega (arith, few, more)),
+      )
+
+  none_in_bare : (salt : ℕ) (image : Topics) (es : States) → AllByRecursion (λ (f : Text × Group). finite.get (bare salt image).groups f.0 ≡ None) es
+  none_in_bare salt image [] = tt
+  none_in_bare salt image (e ∷ es) = (finite.get-empty text_cmp e.0, none_in_bare salt image es)
+
+  all_found : (es whole : States) → finite.from_entries whole ≡ c.groups → AllByRecursion (λ (f : Text × Group). find text_cmp f.0 whole ≡ Some f.1) es → AllByRecursion (λ (f : Text × Group). finite.get c.groups f.0 ≡ Some f.1) es
+  all_found [] whole same found = tt
+  all_found (e ∷ es) whole same found =
+      (ap (λ (m : Groups). finite.get m e.0) (sym same) ∙ (finite.get-from_entries text_cmp_total whole e.0 ∙ found.0), all_found es whole same found.1)
+
+  -- the groups of a node of the coordinator can be kept, one after the other
+  pub groups_can : (n : NodeValue) → IsOf c n → CanEach CanKeep keeping (bare n.salt n.image) n.groups
+  groups_can n of =
+      let es = map state_of n.groups in
+      let same : finite.from_entries es ≡ c.groups = ap (λ (d : Coordinator). d.groups) of.coordinator in
+      let once : length es ≡ finite.len (map_of es) = length-map n.groups state_of ∙ (of.once ∙ ap finite.len (sym same)) in
+      let apart = once_apart es once in
+      let few : finite.len (bare n.salt n.image).groups + length n.groups ≤ MOST_GROUPS = omega (arith, finite.len-empty text_cmp Group, of.once, can.few) in
+      keep_each n.groups (bare n.salt n.image) apart (none_in_bare n.salt n.image es) (ids n.groups (all_found es es same (found_there es apart))) few
+
+-- ---- a node that was written
+
+pub spelled_node : (c : Coordinator) (written rest bytes : List ℕ) (spells : SpellsNode c written) → bytes ≡ written ++ rest
+    → bytes ≡ head_fields (head_of spells.node) ++ (flat_map named_fields spells.node.groups ++ rest)
+spelled_node c written rest bytes spells is =
+    is ∙ (ap (λ (l : List ℕ). l ++ rest) spells.spelled ∙ append_assoc (head_fields (head_of spells.node)) (flat_map named_fields spells.node.groups) rest)
+
+pub image_of : (c : Coordinator) (written : List ℕ) (spells : SpellsNode c written) → CanBeNode c → AreImageTopics spells.node.image
+image_of c written spells can = subst AreImageTopics (sym (ap (λ (d : Coordinator). d.image) spells.of.coordinator)) can.image
