@@ -1,4 +1,4 @@
-use Rattle.std.proofs.Common.{◌≡◌, [], ◌++◌, append-nil, length, None, refl, sym, ◌∙◌, eqb-true}
+use Rattle.std.proofs.Common.{◌≡◌, ℕ, List, [], append-nil, true, eqb, length, None, refl, sym, ap, ◌∙◌, eqb-true, true≢false}
 use Rattle.std.proofs.lemmas.List.{nil_from_length}
 use Rattle.std.proofs.lemmas.Result.{err_from_is_err_and}
 use Rattle.replica_snapshots.specs.Views.{place_value}
@@ -18,3 +18,9 @@ pub returns-in_err-node-clause-whole : goal.returns-in_err-node-clause-whole
 returns-in_err-node-clause-whole c =
     let p = err_from_is_err_and c.from_residual.result c.from_residual.ensures.1 in
     rw (p.1, p.2) (λ d spells can. c.in_err-node.ensures.whole d c.args.written.now [] spells can (sym (append-nil c.args.written.now)))
+
+pub returns-then-not-is_empty-clause-whole : goal.returns-then-not-is_empty-clause-whole
+returns-then-not-is_empty-clause-whole c = λ d spells can.
+    let none = (c.in_ok-node.ensures.only d c.args.written.now [] spells (sym (append-nil c.args.written.now))).1 in
+    let empty : eqb (length c.in_ok-node.rest.now) 0 ≡ true = ap (λ (l : List ℕ). eqb (length l) 0) none in
+    absurd (true≢false (sym empty ∙ (sym c.is_empty.ensures ∙ c.if-not-is_empty.true)))
