@@ -1,5 +1,5 @@
 -- A replica's snapshot: the place in the log, and the node (ours).
-use Rattle.std.specs.Prelude.{◌≡◌, ℕ, suc, ◌==◌, ◌<◌, ◌≤◌, ◌-◌, List, [], ◌++◌, length, All, Result, OnErr, IfOk, IfErr, if◌then◌else◌}
+use Rattle.std.specs.Prelude.{◌≡◌, ℕ, suc, ◌==◌, ◌<◌, ◌≤◌, ◌-◌, List, [], ◌++◌, length, All, Result, OnOk, OnErr, IfOk, IfErr, if◌then◌else◌}
 use Rattle.std.specs.List.{flat_map}
 use Rattle.replica_snapshots.specs.declared.fault.SnapshotFault.{SnapshotFault}
 use Rattle.replica_snapshots.specs.declared.fault.SnapshotFault.TheVariants.{NoMemory}
@@ -52,6 +52,8 @@ sections_in v = length (sections_of v.node)
 -- left; at least one, where one is left. Or no byte changes. Where all fits, only the want of memory is in the way.
 pub record PutsPart (result : Result ℕ SnapshotFault) (old new : List ℕ) (v : SnapshotValue) (from size : ℕ) : Type 0 where
   pub put : IfOk result (λ next. new ≡ old ++ part v from next)
+  pub place : from ≡ 0 → OnOk result (FitsPlace v.place)
+  pub fits : IfOk result (λ next. All FitsSection (between from next (sections_of v.node)))
   pub next : IfOk result (λ next. from < sections_in v → (from < next) × (next ≤ sections_in v))
   pub all : IfOk result (λ next. next < sections_in v → size ≤ length new - length old)
   pub short : IfOk result (λ next. suc from < next → length (flat_map section_fields (between from (next - 1) (sections_of v.node))) < size)
