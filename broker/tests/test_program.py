@@ -73,6 +73,16 @@ REFUSED = [
 ]
 
 
+def until_it_catches(pid: int, number: signal.Signals) -> None:
+    """Until a process has a handler for the signal, which it has once it has begun. Gives up in the end."""
+    until = time.monotonic() + SECONDS
+    while time.monotonic() < until:
+        caught = re.search(r"^SigCgt:\s*(\w+)", pathlib.Path(f"/proc/{pid}/status").read_text(encoding="ascii"), re.M)
+        if caught and int(caught[1], 16) >> (number - 1) & 1:
+            return
+        time.sleep(0.05)
+
+
 class Broker:
     """A running front end: its ports, and what it prints behind the lines that tell of them."""
 
@@ -221,6 +231,7 @@ class Program(unittest.TestCase):
                 is_pipe = stat.S_ISFIFO(os.fstat(number).st_mode)
                 os.close(number)
                 if not is_pipe:
+                    until_it_catches(process.pid, signal.SIGTERM)
                     with self.assertRaises(subprocess.TimeoutExpired):
                         process.wait(FULL_SECONDS)
                     process.terminate()
