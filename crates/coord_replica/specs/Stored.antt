@@ -14,7 +14,7 @@ abbrev pub log_code : Coded LogState
 log_code =
     code_by (Coordinator × (ℕ × (ℕ × ℕ))) (coded× coordinator_code (coded× coded_ℕ (coded× coded_ℕ coded_ℕ)))
     (λ s. (s.coordinator, (s.applied, (s.leadership, s.moment))))
-    (λ p. record { coordinator = p.0; applied = p.1.0; leadership = p.1.1.0; moment = p.1.1.1 }) (λ _. refl)
+    (λ (coordinator, (applied, (leadership, moment))). record { coordinator = coordinator; applied = applied; leadership = leadership; moment = moment }) (λ _. refl)
 
 abbrev pub replica_code : Coded ReplicaState
 replica_code =

@@ -29,19 +29,19 @@ group_fields g =
     (g.salt, (g.epoch, (g.target_epoch, (g.records, (g.target, (g.grants, (g.offsets, (g.view, (g.clock, (g.serial, g.past))))))))))
 
 abbrev group_of_fields : GroupFields → Group
-group_of_fields p =
+group_of_fields (salt, (epoch, (target_epoch, (records, (target, (grants, (offsets, (view, (clock, (serial, past)))))))))) =
     record {
-      salt = p.0;
-      epoch = p.1.0;
-      target_epoch = p.1.1.0;
-      records = p.1.1.1.0;
-      target = p.1.1.1.1.0;
-      grants = p.1.1.1.1.1.0;
-      offsets = p.1.1.1.1.1.1.0;
-      view = p.1.1.1.1.1.1.1.0;
-      clock = p.1.1.1.1.1.1.1.1.0;
-      serial = p.1.1.1.1.1.1.1.1.1.0;
-      past = p.1.1.1.1.1.1.1.1.1.1;
+      salt = salt;
+      epoch = epoch;
+      target_epoch = target_epoch;
+      records = records;
+      target = target;
+      grants = grants;
+      offsets = offsets;
+      view = view;
+      clock = clock;
+      serial = serial;
+      past = past;
     }
 
 abbrev group_fields_code : Coded GroupFields

@@ -64,19 +64,19 @@ record_fields r =
     (r.instance, (r.rack, (r.names, (r.assignor, (r.rebalance_timeout, (r.epoch, (r.previous_epoch, (r.stamp, (r.sent, (r.session_deadline, r.release_deadline))))))))))
 
 abbrev record_of_fields : RecordFields → Record
-record_of_fields p =
+record_of_fields (instance, (rack, (names, (assignor, (rebalance_timeout, (epoch, (previous_epoch, (stamp, (sent, (session_deadline, release_deadline)))))))))) =
     record {
-      instance = p.0;
-      rack = p.1.0;
-      names = p.1.1.0;
-      assignor = p.1.1.1.0;
-      rebalance_timeout = p.1.1.1.1.0;
-      epoch = p.1.1.1.1.1.0;
-      previous_epoch = p.1.1.1.1.1.1.0;
-      stamp = p.1.1.1.1.1.1.1.0;
-      sent = p.1.1.1.1.1.1.1.1.0;
-      session_deadline = p.1.1.1.1.1.1.1.1.1.0;
-      release_deadline = p.1.1.1.1.1.1.1.1.1.1;
+      instance = instance;
+      rack = rack;
+      names = names;
+      assignor = assignor;
+      rebalance_timeout = rebalance_timeout;
+      epoch = epoch;
+      previous_epoch = previous_epoch;
+      stamp = stamp;
+      sent = sent;
+      session_deadline = session_deadline;
+      release_deadline = release_deadline;
     }
 
 abbrev record_fields_code : Coded RecordFields

@@ -18,7 +18,8 @@ pub fn add_others<'a>(
     places: Iter<'_, usize>,
     own: Option<usize>,
 ) -> Result<(), AllocError>
-    ensures { OnOk result (subscribers_in subscribers.new.items ≡ subscribers_in subscribers.old.items ++ map seen_of (rows_at members.now.entries (other_places own (deque_iter_rest places.entry)))) }
+    ensures { let others = rows_at members.now.entries (other_places own (deque_iter_rest places.entry)) in
+        OnOk result (subscribers_in subscribers.new.items ≡ subscribers_in subscribers.old.items ++ map seen_of others) }
 {
     for place in places {
         if is_place(own, *place) {

@@ -115,8 +115,10 @@ impl Grants {
         target: &Wanted<'_>,
         owned: Option<&PartSet>,
     ) -> Result<Verdict, AllocError>
-        ensures verdict { IfOk result (λ v. v ≡ verdict_of (may_settle (pairs self.old) member.now target.now.partitions (option_copied owned.entry))) }
-        ensures grants { OnOk result (pairs self.new ≡ grants_after (may_settle (pairs self.old) member.now target.now.partitions (option_copied owned.entry)) (pairs self.old) member.now target.now.partitions) }
+        ensures verdict { let may = may_settle (pairs self.old) member.now target.now.partitions (option_copied owned.entry) in
+            IfOk result (λ v. v ≡ verdict_of may) }
+        ensures grants { let may = may_settle (pairs self.old) member.now target.now.partitions (option_copied owned.entry) in
+            OnOk result (pairs self.new ≡ grants_after may (pairs self.old) member.now target.now.partitions) }
         ensures since { OnOk result (IsSince self.old self.new member.now target.now.epoch) }
         ensures err { OnErr result (self.new ≡ self.old) }
     {

@@ -69,17 +69,17 @@ pub heartbeat_request_is_field : IsField FitsHeartbeatRequest heartbeat_request_
 unfolding heartbeat_request_fields heartbeat_request_at
 heartbeat_request_is_field =
     refitted_is_field
-    (λ v f. record {
-      group_id = f.0;
-      member_id = f.1.0;
-      member_epoch = f.1.1.0;
-      instance_id = f.1.1.1.0;
-      rack_id = f.1.1.1.1.0;
-      rebalance_timeout_ms = f.1.1.1.1.1.0;
-      subscribed_topic_names = f.1.1.1.1.1.1.0;
-      server_assignor = f.1.1.1.1.1.1.1.0;
-      topic_partitions = f.1.1.1.1.1.1.1.1.0;
-      tags = f.1.1.1.1.1.1.1.1.1.0;
+    (λ v (group_id, (member_id, (member_epoch, (instance_id, (rack_id, (rebalance_timeout_ms, (subscribed_topic_names, (server_assignor, (topic_partitions, (tags, _)))))))))). record {
+      group_id = group_id;
+      member_id = member_id;
+      member_epoch = member_epoch;
+      instance_id = instance_id;
+      rack_id = rack_id;
+      rebalance_timeout_ms = rebalance_timeout_ms;
+      subscribed_topic_names = subscribed_topic_names;
+      server_assignor = server_assignor;
+      topic_partitions = topic_partitions;
+      tags = tags;
     })
     (λ v f. (f.group_id, (f.member_id, (f.member_epoch, (f.instance_id, (f.rack_id, (f.rebalance_timeout_ms, (f.subscribed_topic_names, (f.server_assignor, (f.topic_partitions, (f.tags, tt)))))))))))
     (made_is_field _ (λ v. (v.group_id, (v.member_id, (v.member_epoch, (v.instance_id, (v.rack_id, (v.rebalance_timeout_ms, (v.subscribed_topic_names, (v.server_assignor, (v.topic_partitions, (v.tags, tt))))))))))) (λ _. refl) (λ _. refl)
@@ -126,15 +126,15 @@ pub heartbeat_reply_is_field : IsField FitsHeartbeatReply heartbeat_reply_fields
 unfolding heartbeat_reply_fields heartbeat_reply_at
 heartbeat_reply_is_field =
     refitted_is_field
-    (λ v f. record {
-      throttle_time_ms = f.0;
-      error_code = f.1.0;
-      error_message = f.1.1.0;
-      member_id = f.1.1.1.0;
-      member_epoch = f.1.1.1.1.0;
-      heartbeat_interval_ms = f.1.1.1.1.1.0;
-      assignment = f.1.1.1.1.1.1.0;
-      tags = f.1.1.1.1.1.1.1.0;
+    (λ v (throttle_time_ms, (error_code, (error_message, (member_id, (member_epoch, (heartbeat_interval_ms, (assignment, (tags, _)))))))). record {
+      throttle_time_ms = throttle_time_ms;
+      error_code = error_code;
+      error_message = error_message;
+      member_id = member_id;
+      member_epoch = member_epoch;
+      heartbeat_interval_ms = heartbeat_interval_ms;
+      assignment = assignment;
+      tags = tags;
     })
     (λ v f. (f.throttle_time_ms, (f.error_code, (f.error_message, (f.member_id, (f.member_epoch, (f.heartbeat_interval_ms, (f.assignment, (f.tags, tt)))))))))
     (made_is_field _ (λ v. (v.throttle_time_ms, (v.error_code, (v.error_message, (v.member_id, (v.member_epoch, (v.heartbeat_interval_ms, (v.assignment, (v.tags, tt))))))))) (λ _. refl) (λ _. refl)
@@ -145,12 +145,12 @@ pub commit_request_partition_is_field : IsField FitsCommitRequestPartition commi
 unfolding commit_request_partition_fields commit_request_partition_at
 commit_request_partition_is_field =
     refitted_is_field
-    (λ v f. record {
-      partition_index = f.0;
-      committed_offset = f.1.0;
-      committed_leader_epoch = f.1.1.0;
-      committed_metadata = f.1.1.1.0;
-      tags = f.1.1.1.1.0;
+    (λ v (partition_index, (committed_offset, (committed_leader_epoch, (committed_metadata, (tags, _))))). record {
+      partition_index = partition_index;
+      committed_offset = committed_offset;
+      committed_leader_epoch = committed_leader_epoch;
+      committed_metadata = committed_metadata;
+      tags = tags;
     })
     (λ v f. (f.partition_index, (f.committed_offset, (f.committed_leader_epoch, (f.committed_metadata, (f.tags, tt))))))
     (made_is_field _ (λ v. (v.partition_index, (v.committed_offset, (v.committed_leader_epoch, (v.committed_metadata, (v.tags, tt)))))) (λ _. refl) (λ _. refl)
@@ -169,13 +169,13 @@ pub commit_request_is_field : IsField FitsCommitRequest commit_request_fields co
 unfolding commit_request_fields commit_request_at
 commit_request_is_field =
     refitted_is_field
-    (λ v f. record {
-      group_id = f.0;
-      generation_id_or_member_epoch = f.1.0;
-      member_id = f.1.1.0;
-      group_instance_id = f.1.1.1.0;
-      topics = f.1.1.1.1.0;
-      tags = f.1.1.1.1.1.0;
+    (λ v (group_id, (generation_id_or_member_epoch, (member_id, (group_instance_id, (topics, (tags, _)))))). record {
+      group_id = group_id;
+      generation_id_or_member_epoch = generation_id_or_member_epoch;
+      member_id = member_id;
+      group_instance_id = group_instance_id;
+      topics = topics;
+      tags = tags;
     })
     (λ v f. (f.group_id, (f.generation_id_or_member_epoch, (f.member_id, (f.group_instance_id, (f.topics, (f.tags, tt)))))))
     (made_is_field _ (λ v. (v.group_id, (v.generation_id_or_member_epoch, (v.member_id, (v.group_instance_id, (v.topics, (v.tags, tt))))))) (λ _. refl) (λ _. refl)

@@ -2,7 +2,6 @@ use Rattle.std.proofs.Common.{rules, ap, subst, sym, ◌∙◌}
 use Rattle.std.specs.Prelude.{IsTrue}
 use Rattle.group_types.specs.Members.{HasInstance, Members, is_remembered, with_record}
 use Rattle.group_epochs.specs.Records.{members_in}
-use Rattle.group_epochs.specs.Restored.{CanBeRestored}
 use Rattle.group_epochs.proofs.Restoring.{past_stays}
 use Rattle.group_epochs.proofs.records.Records.restore.Goals as goal
 
