@@ -3,7 +3,6 @@ use Rattle.std.proofs.lemmas.Result.{err_from_is_err_and}
 use Rattle.world_sim.specs.World.{Request, Reply}
 use Rattle.world_sim.specs.Scene.{scene_view}
 use Rattle.coord_node.specs.declared.event.Answered.{Answered}
-use Rattle.coord_node.specs.declared.event.Answered.TheVariants as kinds
 use Rattle.coord_node.specs.Coordinator.{Coordinator, Frame}
 use Rattle.coord_node.specs.Answers as node
 use Rattle.world_sim.specs.declared.mail.Reply as answer
