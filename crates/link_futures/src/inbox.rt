@@ -20,9 +20,12 @@ use std::marker::Model;
 /// The most bytes of a read on a quiet line. A line that waits for the next frame has no room for more.
 const SMALL_READ: usize = 3_072;
 
-/// The most room that a line keeps while it waits for the next frame: for a small read, and for a short frame that the last one
+/// The most room that a quiet line keeps while it waits for the next frame: for a small read, and for a short frame that the last one
 /// ended in.
 const KEPT: usize = 3_328;
+
+/// The most room that a line keeps before it is quiet: for the next requests of a client that has several under way.
+const KEPT_BUSY: usize = 16_384;
 
 /// After this number of reads in a row that found nothing, a line is quiet.
 const QUIET_READS: u8 = 200;
@@ -45,7 +48,7 @@ pub(crate) struct Inbox {
     /// What they begin with.
     next: Next,
     /// The most bytes of the next read: twice as many after each that took its most, half as many after each that took less
-    /// than a quarter, and few once the line is quiet.
+    /// than a quarter and not the rest of a frame, and few once the line is quiet.
     room: usize,
     /// How many of the last reads found nothing, or more than that.
     waits: u8,
@@ -115,6 +118,7 @@ impl Inbox {
     }
 
     /// Reads once, and keeps the bytes. Where memory is short nothing is read. Where no bytes are there, the next come to the front.
+    #[inline(never)]
     pub(crate) fn read<R: ReadPart>(
         &mut self,
         reader: &mut R,
@@ -150,7 +154,7 @@ impl Inbox {
                 self.waits = 0;
                 if count == self.room {
                     self.room = (2 * count).min(LARGEST_READ);
-                } else if count < self.room / 4 {
+                } else if count < self.room / 4 && self.buffer.len() == count {
                     self.room = (self.room / 2).max(SMALL_READ);
                 }
             }
@@ -159,7 +163,8 @@ impl Inbox {
                 if self.is_quiet() {
                     self.room = SMALL_READ;
                 }
-                if self.buffer.is_empty() && KEPT < self.buffer.capacity() {
+                let kept = if self.is_quiet() { KEPT } else { KEPT_BUSY };
+                if self.buffer.is_empty() && kept < self.buffer.capacity() {
                     self.buffer = BytesMut::new(self.alloc);
                 }
             }

@@ -102,6 +102,9 @@ impl<R: ReadPart, W: WriteParts> Line<R, W> {
         let Ok(()) = self.answer(desk) else {
             return Turned::Ends(End::NoMemory);
         };
+        if self.gathers() {
+            return Turned::GoesOn;
+        }
         let writer_waits = match self.write(cx, desk) {
             Ok(waits) => waits,
             Err(end) => return Turned::Ends(end),
@@ -176,8 +179,13 @@ impl<R: ReadPart, W: WriteParts> Line<R, W> {
         Ok(())
     }
 
-    /// Writes once, where a reply may be sent by now. Replies wait for that to a frame that is there already, so that one write takes
-    /// them all. Says whether the writer waits.
+    /// Whether replies wait for that to a frame that is there already, so that one write takes them all.
+    fn gathers(&self) -> bool {
+        self.has_frame() && self.outbox.has_room_in_a_write()
+    }
+
+    /// Writes once, where a reply may be sent by now. Says whether the writer waits.
+    #[inline(never)]
     fn write<D: Desk>(&mut self, cx: &mut Context<'_>, desk: &D) -> Result<bool, End>
         ensures writes { WritesOn W.writes self.old self.new }
         ensures ends { IfErr result (λ end. EndsAs R.faults W.faults W.stalls end self.old self.new) }
@@ -185,9 +193,6 @@ impl<R: ReadPart, W: WriteParts> Line<R, W> {
         ensures armed { result ≡ Ok true → Covers cx.new (W.needs self.new.writer) }
         ensures kept { Keeps cx.old cx.new }
     {
-        if self.outbox.has_room_in_a_write() && self.has_frame() {
-            return Ok(false);
-        }
         let most = self.outbox.sendable(desk, self.connection);
         if most == 0 {
             return Ok(false);

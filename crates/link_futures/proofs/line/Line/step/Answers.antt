@@ -1,5 +1,5 @@
 use Rattle.std.proofs.Common.{refl}
-use Rattle.link_futures.proofs.TurnLemmas.{turn_is, turn_stops, LeavesDesk_same, LeavesDesk_rests}
+use Rattle.link_futures.proofs.TurnLemmas.{WritesOn_nothing, turn_is, turn_stops, LeavesDesk_same, LeavesDesk_rests}
 use Rattle.link_futures.proofs.line.Line.step.Goals as goal
 
 pub returns-in-Err-clause-stream : goal.returns-in-Err-clause-stream
@@ -14,6 +14,14 @@ returns-in_default-clause-stream g c = (
   c.args.desk.now,
   turn_stops _ _ _ _ g.met.W.AsyncWrite.writes_nothing c.args.self.now c.read.new.self c.answer.new.self c.args.desk.now c.in-Ok.ensures.reads c.in_default.ensures.err.0,
   c.in_default.ensures.err.1,
+)
+
+pub returns-then-gathers-clause-stream : goal.returns-then-gathers-clause-stream
+returns-then-gathers-clause-stream g c = (
+  c.answer.new.desk,
+  turn_is _ _ _ _ c.args.self.now c.read.new.self c.answer.new.self c.answer.new.self _ _ c.in-Ok.ensures.reads c.in-Ok-answer.ensures.ok
+      (WritesOn_nothing _ g.met.W.AsyncWrite.writes_nothing c.answer.new.self),
+  refl,
 )
 
 pub returns-in-Err-write-clause-stream : goal.returns-in-Err-write-clause-stream
