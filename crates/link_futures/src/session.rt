@@ -53,7 +53,8 @@ impl<R: ReadPart, W: WriteParts, D: Desk> Future for Session<R, W, D> {
         ensures goes_on { OnPending result (MetNoFault R.faults W.faults W.stalls self.old.line self.new.line) }
         ensures value { IfReady result (MayEnd R.reads R.is_at_end R.faults W.writes W.faults W.stalls D.answers self.old) }
         ensures again { OnPending result ⊤ }
-        ensures same { OnPending result ((end : End) → MayEnd R.reads R.is_at_end R.faults W.writes W.faults W.stalls D.answers self.new end → MayEnd R.reads R.is_at_end R.faults W.writes W.faults W.stalls D.answers self.old end) }
+        ensures same { let Ends = MayEnd R.reads R.is_at_end R.faults W.writes W.faults W.stalls D.answers in
+            OnPending result ((end : End) → Ends self.new end → Ends self.old end) }
         ensures registered { OnPending result (Covers cx.new (LineNeeds R.needs W.needs self.new.line)) }
         ensures kept { Keeps cx.old cx.new }
     {
