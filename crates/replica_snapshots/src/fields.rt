@@ -12,13 +12,14 @@ ghost use Rattle.replica_snapshots.specs.Spelling.{number64, FitsNumber, FitsMil
 ghost use Rattle.replica_snapshots.specs.Writing.{PutsUpTo};
 
 use crate::fault::SnapshotFault;
-use flex_wire::{LONGEST_STRING, put_compact_str, put_count, put_i32, put_i64, put_mark, put_uuid};
+use flex_wire::{LONGEST_STRING, put_count, put_i32, put_i64};
 use group_types::limits::MOST_TOPIC_PARTITIONS;
 use group_types::{EpochNumber, Moment, NameSet, PartSet, Partition, Stamp};
 use uuid::Uuid;
 
 /// An unsigned number of 64 bits.
 #[tactic(auto, unfolding(crate::specs::Spelling::number64))]
+#[inline(always)]
 pub fn put_number(out: &mut Vec<u8>, number: u64) -> Result<(), SnapshotFault>
     ensures { PutsUpTo result out.old.items out.new.items (FitsNumber number) (number64 number) }
 {
@@ -28,6 +29,7 @@ pub fn put_number(out: &mut Vec<u8>, number: u64) -> Result<(), SnapshotFault>
 }
 
 /// The number of an epoch.
+#[inline(always)]
 pub fn put_epoch(out: &mut Vec<u8>, epoch: EpochNumber) -> Result<(), SnapshotFault>
     ensures { PutsUpTo result out.old.items out.new.items (FitsEpoch epoch) (epoch_field epoch) }
 {
@@ -37,6 +39,7 @@ pub fn put_epoch(out: &mut Vec<u8>, epoch: EpochNumber) -> Result<(), SnapshotFa
 }
 
 /// An INT32.
+#[inline(always)]
 pub fn put_int32(out: &mut Vec<u8>, number: i32) -> Result<(), SnapshotFault>
     ensures { PutsUpTo result out.old.items out.new.items (FitsSigned w32 number) (int32 number) }
 {
@@ -45,6 +48,7 @@ pub fn put_int32(out: &mut Vec<u8>, number: i32) -> Result<(), SnapshotFault>
 }
 
 /// Whether a partition of a topic can have the index.
+#[inline(always)]
 pub fn is_index(index: i32) -> bool
     ensures { result ≡ is_index index MOST }
 {
@@ -52,6 +56,7 @@ pub fn is_index(index: i32) -> bool
 }
 
 /// An index that a partition of a topic can have.
+#[inline(always)]
 pub fn put_index(out: &mut Vec<u8>, index: i32) -> Result<(), SnapshotFault>
     ensures { PutsUpTo result out.old.items out.new.items (FitsIndex index) (int32 index) }
 {
@@ -62,6 +67,7 @@ pub fn put_index(out: &mut Vec<u8>, index: i32) -> Result<(), SnapshotFault>
 }
 
 /// An INT64.
+#[inline(always)]
 pub fn put_int64(out: &mut Vec<u8>, number: i64) -> Result<(), SnapshotFault>
     ensures { PutsUpTo result out.old.items out.new.items (FitsSigned w64 number) (int64 number) }
 {
@@ -70,6 +76,7 @@ pub fn put_int64(out: &mut Vec<u8>, number: i64) -> Result<(), SnapshotFault>
 }
 
 /// A number of milliseconds.
+#[inline(always)]
 pub fn put_millis(out: &mut Vec<u8>, millis: u32) -> Result<(), SnapshotFault>
     ensures { PutsUpTo result out.old.items out.new.items (FitsMillis millis) (number64 millis) }
 {
@@ -77,28 +84,40 @@ pub fn put_millis(out: &mut Vec<u8>, millis: u32) -> Result<(), SnapshotFault>
 }
 
 /// A UUID.
+#[inline(always)]
 pub fn put_id(out: &mut Vec<u8>, id: &Uuid) -> Result<(), SnapshotFault>
     ensures { PutsUpTo result out.old.items out.new.items (FitsUuid id.now) (uuid id.now) }
 {
-    // so that the id is known to have sixteen bytes
-    let _bytes: &[u8] = id.as_bytes();
-    put_uuid(out, id)?;
+    out.extend_from_slice(id.as_bytes())?;
     Ok(())
 }
 
 /// A text.
+#[inline(always)]
 pub fn put_text(out: &mut Vec<u8>, text: &str) -> Result<(), SnapshotFault>
     ensures { PutsUpTo result out.old.items out.new.items (FitsText text.now) (compact_string text.now) }
 {
     if LONGEST_STRING < text.len() {
         return Err(SnapshotFault::TooLong);
     }
-    put_compact_str(out, text)?;
+    put_size(out, text.len())?;
+    out.extend_from_slice(text.as_bytes())?;
     Ok(())
 }
 
 /// The number of elements that an array begins with.
+#[inline(always)]
 pub fn put_size(out: &mut Vec<u8>, size: usize) -> Result<(), SnapshotFault>
+    ensures { PutsUpTo result out.old.items out.new.items (FitsCount size) (array_count size) }
+{
+    if size < 0x7f {
+        out.push(size as u8 + 1)?;
+        return Ok(());
+    }
+    put_long_size(out, size)
+}
+
+fn put_long_size(out: &mut Vec<u8>, size: usize) -> Result<(), SnapshotFault>
     ensures { PutsUpTo result out.old.items out.new.items (FitsCount size) (array_count size) }
 {
     if 0xffff_ffff <= size {
@@ -109,6 +128,7 @@ pub fn put_size(out: &mut Vec<u8>, size: usize) -> Result<(), SnapshotFault>
 }
 
 #[tactic(auto, unfolding(crate::specs::Spelling::stamp_fields))]
+#[inline(always)]
 pub fn put_stamp(out: &mut Vec<u8>, stamp: Stamp) -> Result<(), SnapshotFault>
     ensures { PutsUpTo result out.old.items out.new.items (FitsStamp stamp) (stamp_fields stamp) }
 {
@@ -117,6 +137,7 @@ pub fn put_stamp(out: &mut Vec<u8>, stamp: Stamp) -> Result<(), SnapshotFault>
 }
 
 #[tactic(auto, unfolding(crate::specs::Spelling::partition_fields))]
+#[inline(always)]
 pub fn put_partition(out: &mut Vec<u8>, p: &Partition) -> Result<(), SnapshotFault>
     ensures { PutsUpTo result out.old.items out.new.items (FitsPartition p.now) (partition_fields p.now) }
 {
@@ -160,6 +181,7 @@ fn put_each_name(out: &mut Vec<u8>, names: &NameSet) -> Result<(), SnapshotFault
 
 // ---- what may be missing
 
+#[inline(always)]
 pub fn put_optional_text(out: &mut Vec<u8>, text: Option<&str>) -> Result<(), SnapshotFault>
     ensures { PutsUpTo result out.old.items out.new.items (IfSome (option_copied text.entry) FitsText) (optional compact_string (option_copied text.entry)) }
 {
@@ -172,6 +194,7 @@ pub fn put_optional_text(out: &mut Vec<u8>, text: Option<&str>) -> Result<(), Sn
     }
 }
 
+#[inline(always)]
 pub fn put_optional_epoch(
     out: &mut Vec<u8>,
     epoch: Option<EpochNumber>,
@@ -202,6 +225,7 @@ pub fn put_optional_partitions(
     }
 }
 
+#[inline(always)]
 pub fn put_optional_moment(out: &mut Vec<u8>, moment: Option<Moment>) -> Result<(), SnapshotFault>
     ensures { PutsUpTo result out.old.items out.new.items (IfSome moment FitsNumber) (optional number64 moment) }
 {
@@ -215,17 +239,19 @@ pub fn put_optional_moment(out: &mut Vec<u8>, moment: Option<Moment>) -> Result<
 }
 
 /// That a value is missing.
+#[inline(always)]
 pub fn put_absent(out: &mut Vec<u8>) -> Result<(), SnapshotFault>
     ensures { PutsUpTo result out.old.items out.new.items (Unit {0}) (mark false) }
 {
-    put_mark(out, false)?;
+    out.push(0xff)?;
     Ok(())
 }
 
 /// That a value follows.
+#[inline(always)]
 pub fn put_present(out: &mut Vec<u8>) -> Result<(), SnapshotFault>
     ensures { PutsUpTo result out.old.items out.new.items (Unit {0}) (mark true) }
 {
-    put_mark(out, true)?;
+    out.push(0x01)?;
     Ok(())
 }

@@ -98,6 +98,7 @@ fn put_deadlines(out: &mut Vec<u8>, kept: &Record) -> Result<(), SnapshotFault>
     put_optional_moment(out, kept.release_deadline())
 }
 
+#[inline(always)]
 fn put_optional_assignor(
     out: &mut Vec<u8>,
     assignor: Option<AssignorName>,
@@ -145,6 +146,7 @@ fn put_each_grant(out: &mut Vec<u8>, grants: &Grants, set: &PartSet) -> Result<(
 }
 
 #[tactic(auto, unfolding(crate::specs::Spelling::grant_fields))]
+#[inline(always)]
 fn put_grant(out: &mut Vec<u8>, grants: &Grants, p: &Partition) -> Result<(), SnapshotFault>
     ensures { PutsUpTo result out.old.items out.new.items (FitsGrant (grant_of grants.now p.now)) (grant_fields (grant_of grants.now p.now)) }
 {
@@ -153,6 +155,7 @@ fn put_grant(out: &mut Vec<u8>, grants: &Grants, p: &Partition) -> Result<(), Sn
 }
 
 /// The epoch of the target since which the partition may be read.
+#[inline(always)]
 fn since(grants: &Grants, p: &Partition) -> EpochNumber
     ensures { result ≡ unwrap_or (granted_at grants.now p.now) 0 }
 {
