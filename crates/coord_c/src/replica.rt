@@ -7,6 +7,7 @@ ghost use Rattle.coord_replica.specs.Applying.{refusal_at};
 ghost use Rattle.coord_replica.specs.Proposing.{ProposesBytes, begun, frame_proposed, moment_proposed, next_leadership};
 ghost use Rattle.coord_replica.specs.Replicas.{LogState, following, replica_opening};
 ghost use Rattle.coord_replica.specs.Snapshots.{SpellsLog};
+ghost use Rattle.replica_snapshots.specs.Restoring.{CanBeNode};
 ghost use Rattle.coord_c.specs.Reads.{IsApplied, IsPart, IsRefused, IsSnapshotFault, IsUnapplied, IsUnled, TellsApplied};
 ghost use Rattle.coord_c.specs.Machines.{ForReplicas};
 ghost use Rattle.coord_c.specs.Slots.{in_slot, IsFull, Has, HasReplica, Becomes, BecomesReplica};
@@ -50,7 +51,7 @@ pub extern "C" fn migwelun_make_replica(
 }
 
 /// Makes a replica in an empty slot of a snapshot's bytes: it has applied what the one had that they were written of, and doesn't lead.
-/// Writes the place of the byte that a fault is at.
+/// A snapshot that was written is never refused but for want of memory. Writes the place of the byte that a fault is at.
 #[unsafe(no_mangle)]
 pub extern "C" fn migwelun_restore(
     slot: &mut Slot,
@@ -65,6 +66,7 @@ pub extern "C" fn migwelun_restore(
     ensures replica { result ≡ DONE → HasReplica slot.new }
     ensures only { (s : LogState) → SpellsLog s snapshot.now → result ≡ DONE → Has slot.new (λ y. y.machine ≡ Machine.Replica (following s)) }
     ensures nothing_waits { result ≡ DONE → Has slot.new (λ y. (y.replies.items ≡ []) × (y.topics.items ≡ []) × (y.entry.items ≡ [])) }
+    ensures whole { (s : LogState) → SpellsLog s snapshot.now → CanBeNode s.coordinator → ¬ IsFull slot.old → result ≢ DONE → result ≡ NO_MEMORY }
     ensures refused { ¬ IsFull slot.old → result ≢ DONE → (in_slot slot.new ≡ None) × IsSnapshotFault result }
     ensures at { result ≡ DONE → at.new ≡ at.old }
 {
