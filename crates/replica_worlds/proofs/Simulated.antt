@@ -290,8 +290,8 @@ module _ (one_request : OneRequestABody) (one_answer : OneAnswer) (always : Alwa
       }
 
 -- what holds of every world holds of every one over replicas, where it holds of a world as it does of the world with other stamps
-pub always_back : OneRequestABody → OneAnswer → Always Keeps → {Holds : World → Type 0} → ((other : Stamp → Stamp) (s : ReplicaWorld) → Holds (shadow other s) → Holds (world_of s))
+pub always_back : OneRequestABody → OneAnswer → Always Keeps → (Holds : World → Type 0) → ((other : Stamp → Stamp) (s : ReplicaWorld) → Holds (shadow other s) → Holds (world_of s))
     → Always Holds → OverReplicas Holds
-always_back one_request one_answer always back so salt settings acts outcomes s run stamped =
+always_back one_request one_answer always Holds back so salt settings acts outcomes s run stamped =
     let is = led one_request one_answer always salt settings acts outcomes s run stamped in
     back (world_stamp acts s.requests) s (so salt settings is.acts is.outcomes (shadow (world_stamp acts s.requests) s) is.run)
