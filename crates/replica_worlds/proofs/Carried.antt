@@ -22,7 +22,7 @@ use Rattle.replica_worlds.proofs.RestampedNodes.{granted_as}
 use Rattle.replica_worlds.proofs.Shadows.{shadow}
 
 module _ (other : Stamp → Stamp) where
-  has_record_as : (c : Coordinator) (name id : Text) → HasRecord c name id → HasRecord (restamped other c) name id
+  pub has_record_as : (c : Coordinator) (name id : Text) → HasRecord c name id → HasRecord (restamped other c) name id
   has_record_as c name id is =
       record {
         group = group_of other is.group;

@@ -12,3 +12,4 @@ pub mod Simulated
 pub mod Carried
 pub mod Logged
 pub mod Replied
+pub mod TwoLeaderships

@@ -120,13 +120,13 @@ module _ (salt : ℕ) where
 
   run_answered : (acts : List ReplicaAct) (outcomes : List Outcome) (s t : ReplicaWorld) (before : List EntryValue) (answers : List (Option Answer)) → LogRun (log_opening salt) before answers s.log
       → AllAnswered (before ++ entries_of acts) s.replies → ReplicaRun s acts outcomes t → AllAnswered (before ++ entries_of acts) t.replies
-  run_answered [] [] s t before answers run all is = subst (λ (x : ReplicaWorld). AllAnswered (before ++ []) x.replies) (sym is) all
-  run_answered [] (outcome ∷ outcomes) s t before answers run all is = absurd is
-  run_answered (act ∷ acts) [] s t before answers run all is = absurd is
-  run_answered (Does act ∷ acts) (outcome ∷ outcomes) s t before answers run all (middle, (own, after, step, becomes), later) =
+  run_answered [] [] s t before answers run all is r there = subst (λ (x : ReplicaWorld). AllAnswered (before ++ []) x.replies) (sym is) all r there
+  run_answered [] (outcome ∷ outcomes) s t before answers run all is r there = absurd is
+  run_answered (act ∷ acts) [] s t before answers run all is r there = absurd is
+  run_answered (Does act ∷ acts) (outcome ∷ outcomes) s t before answers run all (middle, (own, after, step, becomes), later) r there =
       run_answered acts outcomes middle t before answers
       (subst (λ (x : ReplicaWorld). LogRun (log_opening salt) before answers x.log) (sym becomes) run)
-      (subst (λ (xs : List Reply). AllAnswered (before ++ entries_of acts) xs) (sym (ap (λ (x : ReplicaWorld). x.replies) becomes ∙ client_same (world_of s) act outcome after own step)) all) later
+      (subst (λ (xs : List Reply). AllAnswered (before ++ entries_of acts) xs) (sym (ap (λ (x : ReplicaWorld). x.replies) becomes ∙ client_same (world_of s) act outcome after own step)) all) later r there
   run_answered (Delivers k e ∷ acts) (outcome ∷ outcomes) s t before answers run all (middle, d, later) r there =
       subst (λ (log : List EntryValue). IsAnswered salt log r) (append_assoc before (e ∷ []) (entries_of acts))
       (run_answered acts outcomes middle t (before ++ e ∷ []) (answers ++ Some d.answer ∷ [])

@@ -58,7 +58,7 @@ led_on salt settings w new act outcome led step =
 
 -- ---- a coordinator that has only stamps that stay
 
-opening_as : (other : Stamp → Stamp) (salt : ℕ) → restamped other (opening salt) ≡ opening salt
+pub opening_as : (other : Stamp → Stamp) (salt : ℕ) → restamped other (opening salt) ≡ opening salt
 opening_as other salt = λ i. record (opening salt) { groups = empty_changed (group_of other) i }
 
 -- it keeps only such where the step is one with them, too

@@ -1,38 +1,37 @@
 -- A world over replicas in which a client joins under one leadership, and takes the reply under the next.
-use Rattle.std.proofs.Common.{◌≡◌, ◌⊎◌, ℕ, zero, suc, ◌<◌, ◌+◌, ◌*◌, ◌^◌, Bool, true, false, List, [], ◌∷◌, map, Option, Some, None, is_some, inl, inr, refl, sym, ap, subst, ◌∙◌, arith}
+use Rattle.std.proofs.Common.{◌≡◌, ◌⊎◌, ℕ, zero, suc, ◌<◌, ◌+◌, ◌*◌, ◌^◌, Bool, true, false, List, [], ◌∷◌, map, nat_lt, Option, Some, None, is_some, inl, inr, refl, sym, ap, subst, ◌∙◌, arith}
 use Rattle.std.specs.Option.{option_map}
 use Rattle.std.specs.FinMap as finite
 use Rattle.kip_msgs.specs.Values.{HeartbeatReplyValue, HeartbeatRequestValue, RequestHeaderValue, heartbeat_request}
 use Rattle.kip_msgs.specs.Spelling.{SpellsRequest}
 use Rattle.topic_meta.specs.Images.{Entry, topics_of}
 use Rattle.group_types.specs.declared.stamp.Stamp.{Stamp}
+use Rattle.group_types.specs.Limits.{MOST_GROUPS}
 use Rattle.group_types.specs.Text.{text_cmp}
 use Rattle.group_types.specs.Images.{AreImageTopics}
 use Rattle.group_types.specs.Topics.{Topics}
 use Rattle.group_types.specs.Group.{Group}
+use Rattle.group_types.specs.HeartbeatStep as group
 use Rattle.group_types.proofs.ListLemmas.{In, to_in}
-use Rattle.group_types.proofs.Lookups.{not_none, some_is}
-use Rattle.group_types.proofs.Orders.{text_cmp_total}
-use Rattle.group_core.proofs.Single.{get-inserted}
+use Rattle.group_types.proofs.Lookups.{get-inserted, not_none, some_is}
 use Rattle.coord_node.specs.Coordinator.{Answer, Closes, Coordinator, Done, Frame, Replied, opening}
-use Rattle.coord_node.specs.Steps.{Step}
+use Rattle.coord_node.specs.Steps.{HeartbeatAt, Makes, Step, has_room}
 use Rattle.member_core.specs.Settings.{Settings}
 use Rattle.member_core.specs.Client.{Client, state_of}
 use Rattle.member_core.specs.Asking.{Join}
 use Rattle.replica_entries.specs.Values.{EntryValue, FrameValue, frame, image, leads}
-use Rattle.replica_snapshots.specs.Images.{entry_for}
-use Rattle.replica_snapshots.proofs.ImageLaws.{image_of_topics, image_without_fault}
+use Rattle.replica_snapshots.proofs.ImageLaws.{entry_for, image_of_topics, image_without_fault}
 use Rattle.coord_replica.specs.Entries.{stamp_under}
 use Rattle.coord_replica.specs.Faults.{fault_of_topics}
 use Rattle.coord_replica.specs.Replicas.{LogState, log_opening}
-use Rattle.world_sim.specs.World.{Request, World, numbered, with_coordinator}
+use Rattle.world_sim.specs.World.{Request, World, new_world, numbered, with_coordinator}
 use Rattle.world_sim.specs.Acts.{ActStep, Asks, Deliver, DeliversIf, Fault, Is, IsClosed, IsDone, IsRefused, IsReplied, IsSent, Outcome, Pools, Take, is_forgotten}
 use Rattle.world_sim.specs.Holding.{HasRecord}
 use Rattle.world_sim.specs.Examples.{Holder}
-use Rattle.world_sim.proofs.Newcomers.{GROUP, client_of, id_of, kept_of, partition_of, settings_of}
+use Rattle.world_sim.proofs.Newcomers.{GROUP, arrival_of, client_of, id_of, kept_of, partition_of, reply_to, settings_of}
 use Rattle.world_sim.proofs.NewcomerMessages.{answering, asked_by, asking, asks, delivers, inside_of, join_in, sent_in, takes, taking, value_in}
-use Rattle.world_sim.proofs.TwoNewcomers.{AfterOne, One, Two, TwoTopics, one_spelled, two_are_images}
-use Rattle.world_sim.proofs.TwoHolders.{OneAsks, OneIn, OneIsAnswered, Seeing, of_one, one_answers, owns}
+use Rattle.world_sim.proofs.TwoNewcomers.{AfterOne, One, Two, TwoTopics, one_joins, one_spelled, two_are_images}
+use Rattle.world_sim.proofs.TwoHolders.{OneIn, of_one, owns}
 use Rattle.replica_worlds.specs.ReplicaWorlds.{AreStamped, Came, Delivers, Does, Goes, ReplicaAct, ReplicaRun, ReplicaWorld, new_replica_world, over_log, stamp_of_entry, world_of}
 use Rattle.replica_worlds.specs.Unstamped.{restamped}
 use Rattle.replica_worlds.specs.Examples.{SomebodyHoldsOverLeaderships}
@@ -69,6 +68,32 @@ abbrev second_leads : EntryValue
 second_leads = record { leadership = 2; content = leads }
 
 -- ---- what the answer to the join leaves
+
+abbrev settings : List Settings
+settings = settings_of One ∷ settings_of Two ∷ []
+
+abbrev Seeing : Coordinator
+Seeing = record (opening 0) { image = TwoTopics }
+
+abbrev OneAsks : World
+OneAsks = asking One (join_in One) (asked_by One) (with_coordinator (new_world 0 settings) Seeing)
+
+abbrev OneIsAnswered : World
+OneIsAnswered = answering One (join_in One) (asked_by One) OneAsks OneIn
+
+room : has_room Seeing ≡ true
+room = ap (λ n. nat_lt n MOST_GROUPS) (finite.len-empty text_cmp Group)
+
+makes : Makes true (has_room Seeing) Seeing (record { name = GROUP; left = AfterOne; reply = reply_to One }) (group.Replied (reply_to One)) OneIn
+makes = subst (λ b. Makes true b Seeing (record { name = GROUP; left = AfterOne; reply = reply_to One }) (group.Replied (reply_to One)) OneIn) (sym room) (refl, refl)
+
+one_comes : HeartbeatAt (finite.get Seeing.groups GROUP) Seeing (arrival_of One TwoTopics) (group.Replied (reply_to One)) OneIn
+one_comes =
+    subst (λ (o : Option Group). HeartbeatAt o Seeing (arrival_of One TwoTopics) (group.Replied (reply_to One)) OneIn) (sym (finite.get-empty text_cmp GROUP))
+    (group.Replied (reply_to One), AfterOne, one_joins, makes)
+
+one_answers : ActStep OneAsks (Deliver 1) (IsReplied 1 (value_in One (join_in One))) OneIsAnswered
+one_answers = delivers One (join_in One) one_spelled OneAsks (asked_by One) OneIn one_comes 1 refl refl
 
 abbrev told : Outcome
 told = IsReplied 1 (value_in One (join_in One))
@@ -112,9 +137,6 @@ module _ (a : Answered) where
       (frame_as all_joined Seeing join.body join.stamp 0 a.answer a.left agrees a.step)
 
   -- ---- the worlds
-
-  abbrev settings : List Settings
-  settings = settings_of One ∷ settings_of Two ∷ []
 
   abbrev Start : ReplicaWorld
   Start = new_replica_world 0 settings
@@ -259,7 +281,7 @@ module _ (a : Answered) where
 
   has_record : HasRecord OneIn GROUP (id_of One)
   has_record =
-      record { group = AfterOne; of_group = of_one; has_record = ap is_some (get-inserted text_cmp_total finite.empty (id_of One) (kept_of One)) }
+      record { group = AfterOne; of_group = of_one; has_record = ap is_some (get-inserted finite.empty (id_of One) (kept_of One)) }
 
   holder : Holder (world_of Taken)
   holder =

@@ -3,3 +3,4 @@ pub mod Restamped
 pub mod Unstamped
 pub mod Laws
 pub mod Logs
+pub mod Examples

@@ -1,5 +1,6 @@
 //! Laws of worlds over replicas, proved where nothing runs.
 ghost use Rattle.world_sim.specs.Exclusivity.{CommitHeld, HoldApart, HoldGranted, ShowGranted, SinceGranted};
+ghost use Rattle.replica_worlds.specs.Examples.{SomebodyHoldsOverLeaderships};
 ghost use Rattle.replica_worlds.specs.Laws.{OverReplicas, ReplicaWorldsAreWorlds};
 ghost use Rattle.replica_worlds.specs.Logs.{RepliesAreTheLogs, ReplicasMakeTheWorld, WorldsFollowTheirLog};
 
@@ -73,4 +74,9 @@ pub fn replicas_make_the_world()
 /// Every reply that was ever sent is what the run over the log answers at some place.
 pub fn replies_are_the_logs()
     ensures { RepliesAreTheLogs }
+{}
+
+/// The laws aren't empty: a client joins under one leadership and takes the reply under the next, and holds a partition then.
+pub fn the_laws_are_met_over_replicas()
+    ensures { SomebodyHoldsOverLeaderships }
 {}
