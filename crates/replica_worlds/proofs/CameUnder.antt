@@ -1,13 +1,11 @@
 -- Which request came under a stamp, and the stamps of a world in the place of a log's.
-use Rattle.std.proofs.Common.{◌≡◌, ◌⊎◌, ℕ, suc, ◌<◌, Bool, true, false, cond, ◌&&◌, ◌==◌, List, [], ◌∷◌, Option, Some, None, inl, inr, refl, sym, ap, subst, ◌∙◌, true≢false, Less, arith}
+use Rattle.std.proofs.Common.{◌≡◌, ℕ, suc, Bool, true, false, ◌&&◌, ◌==◌, List, [], ◌∷◌, Option, Some, None, inl, inr, refl, sym, ap, subst, ◌∙◌, arith}
 use Rattle.std.specs.Cmp.{first_so, second_so}
-use Rattle.std.specs.List.{Contains}
 use Rattle.std.specs.Option.{option_or}
 use Rattle.std.proofs.lemmas.Bool.Decides.{Decides-eqb}
 use Rattle.group_types.specs.declared.stamp.Stamp.{Stamp}
-use Rattle.group_types.specs.Stamp.{stamp_cmp}
 use Rattle.group_types.specs.Checks.{is_late}
-use Rattle.group_types.proofs.ListLemmas.{In, from_in, to_in}
+use Rattle.group_types.proofs.ListLemmas.{In, from_in}
 use Rattle.group_types.proofs.Lookups.{not_none, some_is}
 use Rattle.member_core.specs.Client.{Client}
 use Rattle.replica_entries.specs.Values.{EntryValue}
@@ -83,7 +81,7 @@ module _ (requests : List Request) where
   under_came [] k e q there is = absurd there
   under_came (act ∷ acts) k e q (inl same) is =
       let first : came_by (stamp_of_entry e) act ≡ Some q =
-        ap (came_by (stamp_of_entry e)) same ∙ ap (λ b. under_if b k) (same_itself (stamp_of_entry e)) ∙ is
+      ap (came_by (stamp_of_entry e)) same ∙ ap (λ b. under_if b k) (same_itself (stamp_of_entry e)) ∙ is
       in (q, ap (λ (o : Option Request). option_or o (came_under acts (stamp_of_entry e))) first)
   under_came (act ∷ acts) k e q (inr there) is =
       let rest = under_came acts k e q there is in some_or (came_by (stamp_of_entry e) act) (came_under acts (stamp_of_entry e)) rest.0 rest.1
@@ -143,7 +141,7 @@ module _ (acts : List ReplicaAct) (requests : List Request) where
     world_of_came k e q there is =
         let found = under_came requests acts k e q there is in
         let same = one_came (stamp_of_entry e) found.0 q (came_in requests acts (stamp_of_entry e) found.0 found.1)
-          (record { number = k; entry = e; is_in = there; is_pooled = is; stamped = refl })
+        (record { number = k; entry = e; is_in = there; is_pooled = is; stamped = refl })
         in found.1 ∙ ap Some same
 
     -- of one client's requests the one is late behind the other in the world as it is in the log

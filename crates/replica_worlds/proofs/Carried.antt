@@ -1,5 +1,5 @@
 -- What holds of a world with other stamps holds of it as it is.
-use Rattle.std.proofs.Common.{◌≡◌, ℕ, ℤ, pos, List, Option, Some, None, IsTrue, is_some, refl, sym, ap, subst, ◌∙◌}
+use Rattle.std.proofs.Common.{ℕ, pos, Option, Some, None, IsTrue, sym, ap, subst, ◌∙◌}
 use Rattle.std.specs.Option.{option_map}
 use Rattle.std.specs.FinMap as finite
 use Rattle.group_types.specs.declared.partition.Partition.{Partition}
@@ -10,8 +10,8 @@ use Rattle.group_types.specs.Partition.{Partitions}
 use Rattle.group_types.specs.Group.{Group}
 use Rattle.coord_node.specs.Coordinator.{Coordinator}
 use Rattle.member_core.specs.Client.{Client}
-use Rattle.world_sim.specs.World.{Commit, World, granted}
-use Rattle.world_sim.specs.Holding.{HasRecord, IsMember, IsTakeable, IsTaken, IsTakenIn}
+use Rattle.world_sim.specs.World.{Commit, granted}
+use Rattle.world_sim.specs.Holding.{HasRecord, IsMember, IsTaken, IsTakenIn}
 use Rattle.world_sim.specs.Exclusivity.{CommitHeld, HoldApart, HoldGranted, ShowGranted, SinceGranted}
 use Rattle.replica_worlds.specs.ReplicaWorlds.{ReplicaWorld, world_of}
 use Rattle.replica_worlds.specs.Unstamped.{restamped}

@@ -1,17 +1,15 @@
 -- A world's log, and the replicas that apply it.
-use Rattle.std.proofs.Common.{◌≡◌, ℕ, ◌+◌, List, [], ◌∷◌, ◌++◌, length, Contains, Option, Some, None, refl, sym, ap, subst, ◌∙◌, arith, append-nil, length-append}
+use Rattle.std.proofs.Common.{◌≡◌, ℕ, ◌+◌, List, [], ◌∷◌, ◌++◌, length, Option, Some, sym, ap, subst, ◌∙◌, arith, append-nil, length-append}
 use Rattle.std.proofs.lemmas.List.{nil_from_length}
 use Rattle.coord_node.specs.Coordinator.{Answer}
-use Rattle.coord_node.specs.Laws.{OneAnswer}
 use Rattle.replica_entries.specs.Values.{EntryValue}
 use Rattle.coord_replica.specs.Applying.{LogRun}
-use Rattle.coord_replica.specs.Histories as histories
-use Rattle.coord_replica.specs.Histories.{Cluster, FollowsLog, History, IsAnswerAt, cluster_opening}
+use Rattle.coord_replica.specs.Histories.{FollowsLog, IsAnswerAt}
 use Rattle.coord_replica.specs.Laws.{AnswersAreTheLogs, ReplicasFollowTheLog, SameEntriesSameReplica}
 use Rattle.coord_replica.specs.Replicas.{LogState, log_opening}
 use Rattle.world_sim.specs.Acts.{Outcome}
 use Rattle.replica_worlds.specs.ReplicaWorlds.{Brings, Delivers, Does, Goes, ReplicaAct, ReplicaRun, ReplicaWorld, new_replica_world}
-use Rattle.replica_worlds.specs.Logs.{AreReplicasOf, ReplicasMakeTheWorld, WorldsFollowTheirLog, entries_of}
+use Rattle.replica_worlds.specs.Logs.{ReplicasMakeTheWorld, WorldsFollowTheirLog, entries_of}
 
 abbrev LogsOn : LogState → List ReplicaAct → LogState → Type 0
 LogsOn s acts t = (answers : List (Option Answer)) × LogRun s (entries_of acts) answers t

@@ -1,21 +1,18 @@
 -- The pool of requests: each is under its sender's number, and a client's rise.
-use Rattle.std.proofs.Common.{◌≡◌, ◌≢◌, ◌⊎◌, ℕ, zero, suc, ◌<◌, ◌≤◌, Bool, true, false, not, ◌&&◌, List, [], ◌∷◌, ◌++◌, length, Option, Some, None, slice_get, inl, inr, refl, sym, ap, subst, ◌∙◌, arith}
+use Rattle.std.proofs.Common.{◌≡◌, ◌⊎◌, ℕ, zero, suc, ◌<◌, ◌≤◌, Bool, true, false, List, [], ◌∷◌, ◌++◌, length, Option, Some, None, slice_get, inl, inr, refl, sym, ap, subst, ◌∙◌, arith}
 use Rattle.group_types.specs.declared.partition.Partition.{Partition}
-use Rattle.group_types.specs.Partition.{Partitions}
 use Rattle.group_types.specs.Sets.{has}
 use Rattle.group_types.proofs.Lookups.{not_none, some_is}
 use Rattle.kip_msgs.specs.Values.{CommitRequestTopicValue}
-use Rattle.member_core.specs.Settings.{Settings}
-use Rattle.member_core.specs.Client.{Client, new_client}
+use Rattle.member_core.specs.Client.{Client}
 use Rattle.member_core.specs.Asking.{Ask, Join, Beat, Leave, GoAway, after_asking, after_giving_up, may_ask, request_for}
 use Rattle.member_core.specs.Refusing.{is_too_large}
 use Rattle.member_core.specs.Releasing.{after_release, may_release, released_if}
 use Rattle.member_core.specs.Taking.{Accepts, Ends, Fences, News, Retries, TakesIf, after_news}
 use Rattle.coord_node.specs.Coordinator.{Answer, Closes, Done, Replied}
-use Rattle.replica_entries.specs.Values.{EntryValue}
 use Rattle.world_sim.specs.World.{Commit, Reply, Request, World, numbered, renumbered, with_coordinator}
-use Rattle.world_sim.specs.Acts.{Act, Asks, GivesUp, Deliver, Take, Release, Commits, Bring, Clock, Passes, Sees, ActStep, Answers, AsksIf, AsksStep, ChangesIf, CommitsBy, CommitsIf, CommitsStep, GivesUpStep, Outcome, Pools, ReleaseStep, SendsIf, TakeBy, TakeStep, TakenAs, commit_by, fits_frame, may_commit, stamp_of, with_sent}
-use Rattle.world_sim.proofs.Numbered.{Has, Place, at, elsewhere, has_number, numbered_itself, numbered_other, place}
+use Rattle.world_sim.specs.Acts.{Act, Asks, GivesUp, Deliver, Take, Release, Commits, Bring, Clock, Passes, Sees, ActStep, Answers, AsksIf, AsksStep, ChangesIf, CommitsBy, CommitsIf, CommitsStep, GivesUpStep, Outcome, Pools, ReleaseStep, SendsIf, TakeBy, TakeStep, TakenAs, commit_by, fits_frame, may_commit, stamp_of}
+use Rattle.world_sim.proofs.Numbered.{Place, at, elsewhere, numbered_itself, numbered_other, place}
 use Rattle.replica_worlds.specs.ReplicaWorlds.{Brings, Delivers, Does, Goes, IsClients, ReplicaAct, ReplicaRun, ReplicaStep, ReplicaWorld, over_log, world_of}
 
 -- ---- what has a number where one more came

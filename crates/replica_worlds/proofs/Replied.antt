@@ -2,7 +2,6 @@
 use Rattle.std.proofs.Common.{◌≡◌, ◌⊎◌, ℕ, suc, ◌+◌, Bool, true, false, List, [], ◌∷◌, ◌++◌, length, Contains, Option, Some, None, inl, inr, refl, sym, ap, subst, ◌∙◌, append_assoc}
 use Rattle.kip_msgs.specs.Values.{CommitRequestTopicValue}
 use Rattle.group_types.specs.declared.partition.Partition.{Partition}
-use Rattle.group_types.specs.Frames.{IsFrame}
 use Rattle.coord_node.specs.Coordinator.{Answer, Closes, Done, Replied}
 use Rattle.member_core.specs.Client.{Client}
 use Rattle.member_core.specs.Asking.{Ask, after_giving_up, may_ask, request_for}
@@ -10,14 +9,13 @@ use Rattle.member_core.specs.Refusing.{is_too_large}
 use Rattle.member_core.specs.Releasing.{after_release, may_release}
 use Rattle.replica_entries.specs.Values.{EntryValue}
 use Rattle.coord_replica.specs.Applying.{Applies, LogRun}
-use Rattle.coord_replica.specs.Histories.{IsAnswerAt}
 use Rattle.coord_replica.specs.Replicas.{LogState, log_opening}
 use Rattle.coord_replica.proofs.Runs.{LogRun-push}
 use Rattle.world_sim.specs.World.{Commit, Reply, Request, World, numbered, with_coordinator}
 use Rattle.world_sim.specs.Acts.{Act, Asks, GivesUp, Deliver, Take, Release, Commits, Bring, Clock, Passes, Sees, ActStep, Answers, AsksIf, AsksStep, ChangesIf, CommitsBy, CommitsIf, CommitsStep, GivesUpStep, Outcome, Pools, ReleaseStep, SendsIf, TakeBy, TakeStep, TakenAs, commit_by, fits_frame, may_commit}
 use Rattle.world_sim.proofs.Numbered.{one_more}
 use Rattle.group_types.proofs.ListLemmas.{to_in}
-use Rattle.replica_worlds.specs.ReplicaWorlds.{Brings, Delivers, Does, Goes, IsClients, ReplicaAct, ReplicaRun, ReplicaWorld, new_replica_world, over_log, world_of}
+use Rattle.replica_worlds.specs.ReplicaWorlds.{Brings, Delivers, Does, Goes, IsClients, ReplicaAct, ReplicaRun, ReplicaWorld, new_replica_world, world_of}
 use Rattle.replica_worlds.specs.Logs.{IsAnswered, RepliesAreTheLogs, entries_of}
 
 -- ---- no act of a client sends a reply

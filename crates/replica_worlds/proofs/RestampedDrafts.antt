@@ -1,9 +1,8 @@
 -- What comes of a draft, with other stamps.
-use Rattle.std.proofs.Common.{◌≡◌, ℕ, ◌≤◌, ◌<◌, ◌^◌, suc, ◌==◌, Bool, true, false, cond, not, ◌||◌, List, [], ◌∷◌, map, max, Option, Some, None, IsPermutation, MatchOption, refl, sym, ap, subst, ◌∙◌}
+use Rattle.std.proofs.Common.{◌≡◌, ℕ, ◌==◌, Bool, true, false, List, [], ◌∷◌, map, max, Option, Some, None, IsPermutation, refl, sym, ap, subst, ◌∙◌}
 use Rattle.std.specs.List.{list_any}
 use Rattle.std.specs.Option.{option_map}
 use Rattle.std.specs.FinMap as finite
-use Rattle.group_types.specs.declared.code.Code.{Code}
 use Rattle.group_types.specs.declared.epoch.Epoch.{Epoch}
 use Rattle.group_types.specs.declared.epoch.Epoch.TheVariants.{At, Away}
 use Rattle.group_types.specs.declared.stamp.Stamp.{Stamp}
@@ -13,19 +12,17 @@ use Rattle.group_types.specs.Partition.{Partitions}
 use Rattle.group_types.specs.Topics.{Topics}
 use Rattle.group_types.specs.Request.{Heartbeat, reported}
 use Rattle.group_types.specs.MemberId.{made_id}
-use Rattle.group_types.specs.Moment.{saturated_sum}
 use Rattle.group_types.specs.Owners.{renamed}
 use Rattle.group_types.specs.Assignors.{Subscriber}
 use Rattle.group_types.specs.Group.{Group, Record, Records, Target, held, wanted}
-use Rattle.group_types.specs.Members.{Members, members_of, taken_over, with_members}
-use Rattle.group_types.specs.Join.{IsNamed, IsNextSerial, IsSerial, Name, record_of_beat, record_of_join}
+use Rattle.group_types.specs.Members.{members_of, with_members}
+use Rattle.group_types.specs.Join.{IsNamed, IsSerial, Name, record_of_beat, record_of_join}
 use Rattle.group_types.specs.Settle.{arrived, asked, grants_after, grants_of_others, granting, may_settle, settled, settled_by, settled_record}
-use Rattle.group_types.specs.Renewal.{IsChange, IsTarget, IsUnchanged, Renews, RenewsWhere, changed_if, is_subscribed, subscriber_of, view_for}
+use Rattle.group_types.specs.Renewal.{IsChange, IsTarget, RenewsWhere, changed_if, is_subscribed, subscriber_of, view_for}
 use Rattle.group_types.specs.Checks.{Accepted, Member, Overtaken, Refused, Sender, Verdict}
 use Rattle.group_types.specs.HeartbeatStep.{Answer, Arrival, ByVerdict, Draft, Stages, TakesIn, draft_of, draft_of_beat, draft_of_join, draft_under, handed_over, sent_after, verdict_on_change, with_record_at}
-use Rattle.replica_worlds.specs.Restamped.{restamped_record, with_values}
 use Rattle.replica_worlds.proofs.WithValues.{any_map, entries_changed, get_changed, insert_changed, map_changed, pushed, values_changed}
-use Rattle.replica_worlds.proofs.RestampedMembers.{group_of, member_as, members_as, record_of, records_of, remembered_as, sender_as, taken_over_as, with_record_as}
+use Rattle.replica_worlds.proofs.RestampedMembers.{group_of, member_as, record_of, records_of, remembered_as, sender_as, taken_over_as, with_record_as}
 
 module _ (other : Stamp → Stamp) where
   abbrev pub draft_as : Draft → Draft
@@ -140,8 +137,8 @@ module _ (other : Stamp → Stamp) where
   settled_by_as may g m None now = refl
   settled_by_as may g m (Some r) now =
       let records : records_of other (finite.insert g.records m (settled_record may r g.target_epoch now)) ≡ finite.insert (records_of other g.records) m (settled_record may (record_of other r) g.target_epoch now) =
-        insert_changed (record_of other) g.records m (settled_record may r g.target_epoch now)
-        ∙ ap (finite.insert (records_of other g.records) m) (settled_record_as may r g.target_epoch now)
+      insert_changed (record_of other) g.records m (settled_record may r g.target_epoch now)
+      ∙ ap (finite.insert (records_of other g.records) m) (settled_record_as may r g.target_epoch now)
       in
       λ i. record (group_of other g) { grants = grants_after may g.grants m (wanted g.target m); records = records i }
 
@@ -160,7 +157,7 @@ module _ (other : Stamp → Stamp) where
       → group_of other (record g { records = finite.insert g.records id (sent_after kept told) }) ≡ record (group_of other g) { records = finite.insert (records_of other g.records) id (sent_after (record_of other kept) told) }
   told_as g id kept told =
       let records : records_of other (finite.insert g.records id (sent_after kept told)) ≡ finite.insert (records_of other g.records) id (sent_after (record_of other kept) told) =
-        insert_changed (record_of other) g.records id (sent_after kept told) ∙ ap (finite.insert (records_of other g.records) id) (sent_after_as kept told)
+      insert_changed (record_of other) g.records id (sent_after kept told) ∙ ap (finite.insert (records_of other g.records) id) (sent_after_as kept told)
       in
       λ i. record (group_of other g) { records = records i }
 
@@ -193,7 +190,7 @@ module _ (other : Stamp → Stamp) where
   takes_in_as g d q image answer new t =
       let view : view_for image d.group.records ≡ view_for image (records_of other d.group.records) = sym (view_as image d.group.records) in
       let changed : group_of other (changed_if t.change d.group (view_for image d.group.records)) ≡ changed_if t.change (group_of other d.group) (view_for image (records_of other d.group.records)) =
-        changed_if_as t.change d.group (view_for image d.group.records) ∙ ap (changed_if t.change (group_of other d.group)) view
+      changed_if_as t.change d.group (view_for image d.group.records) ∙ ap (changed_if t.change (group_of other d.group)) view
       in
       record {
         change = t.change;

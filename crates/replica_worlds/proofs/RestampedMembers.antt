@@ -1,18 +1,17 @@
 -- The members of a group and the checks of a heartbeat, with other stamps.
-use Rattle.std.proofs.Common.{◌≡◌, ℕ, ◌-◌, Bool, true, false, cond, not, ◌&&◌, ◌||◌, List, [], ◌∷◌, ◌++◌, map, length, drop, Option, Some, None, is_some, is_none, refl, sym, ap, subst, ◌∙◌}
-use Rattle.std.specs.List.{AllByRecursion, filter, find, list_any}
+use Rattle.std.proofs.Common.{◌≡◌, ℕ, ◌-◌, Bool, true, false, cond, not, ◌&&◌, ◌||◌, [], ◌∷◌, ◌++◌, length, drop, Option, Some, None, is_none, refl, sym, ap, ◌∙◌}
+use Rattle.std.specs.List.{AllByRecursion, find}
 use Rattle.std.specs.Option.{option_map}
 use Rattle.std.specs.Ordering.{eq_by_cmp}
 use Rattle.std.specs.FinMap as finite
 use Rattle.std.proofs.lemmas.List.{drop-map, length-map, map-append}
 use Rattle.group_types.specs.declared.code.Code.TheVariants as codes
-use Rattle.group_types.specs.declared.epoch.Epoch.{Epoch}
 use Rattle.group_types.specs.declared.stamp.Stamp.{Stamp}
 use Rattle.group_types.specs.Limits.{MOST_PAST_MEMBERS}
 use Rattle.group_types.specs.Text.{Text, text_cmp}
 use Rattle.group_types.specs.Request.{Heartbeat, Kind, Joins, Beats, Leaves, GoesAway, MeansNothing}
 use Rattle.group_types.specs.Group.{Group, Past, Record, Records}
-use Rattle.group_types.specs.Members.{Members, is_remembered, members_of, remembering, taken_over, with_record, without_past, without_record}
+use Rattle.group_types.specs.Members.{Members, is_remembered, remembering, taken_over, with_record, without_past, without_record}
 use Rattle.group_types.specs.Checks.{Member, Refused, Overtaken, Sender, are_granted, first_of, has_instance, is_another, is_fenced, is_late, is_of_past, is_overtaken, is_too_many, is_unreleased, member_at, other_id_with, other_with, record_under, request_checks, sender_of, verdict_on}
 use Rattle.group_types.proofs.Lookups.{same_text}
 use Rattle.replica_worlds.specs.Restamped.{restamped_group, restamped_past, restamped_record, with_values}
@@ -71,10 +70,10 @@ module _ (other : Stamp → Stamp) where
   pub taken_over_as : (s : Members) (old heir : Text) (r : Record) (last : Stamp) → members_as (taken_over s old heir r last) ≡ taken_over (members_as s) old heir (record_of r) (other last)
   taken_over_as s old heir r last =
       let records : records_of (finite.insert (finite.remove s.records old) heir r) ≡ finite.insert (finite.remove (records_of s.records) old) heir (record_of r) =
-        insert_changed record_of (finite.remove s.records old) heir r ∙ ap (λ (x : Records). finite.insert x heir (record_of r)) (remove_changed record_of s.records old)
+      insert_changed record_of (finite.remove s.records old) heir r ∙ ap (λ (x : Records). finite.insert x heir (record_of r)) (remove_changed record_of s.records old)
       in
       let past : past_of (remembering (without_past s.past heir) old last) ≡ remembering (without_past (past_of s.past) heir) old (other last) =
-        remembering_as (without_past s.past heir) old last ∙ ap (λ (x : Past). remembering x old (other last)) (without_past_as s.past heir)
+      remembering_as (without_past s.past heir) old last ∙ ap (λ (x : Past). remembering x old (other last)) (without_past_as s.past heir)
       in
       λ i. record { records = records i; past = past i }
 
@@ -161,7 +160,7 @@ module _ (other : Stamp → Stamp) where
       → verdict_on kind (sender_as sender) (group_of g) q (other stamp) ≡ verdict_on kind sender g q stamp
   verdict_as Joins sender g q stamp agrees =
       let many : is_too_many (option_map record_of sender.own) (option_map member_as sender.other) (finite.len (records_of g.records)) ≡ is_too_many sender.own sender.other (finite.len g.records) =
-        ap (is_too_many (option_map record_of sender.own) (option_map member_as sender.other)) (len_changed record_of g.records) ∙ too_many_as sender.own sender.other (finite.len g.records)
+      ap (is_too_many (option_map record_of sender.own) (option_map member_as sender.other)) (len_changed record_of g.records) ∙ too_many_as sender.own sender.other (finite.len g.records)
       in
       λ i. first_of (request_checks Joins q ++ (
       (overtaken_as sender.own stamp agrees.kept i || of_past_as g.past q.member stamp agrees.former i, Overtaken)

@@ -1,5 +1,5 @@
 -- A coordinator's step, with other stamps.
-use Rattle.std.proofs.Common.{◌≡◌, ℕ, ℤ, pos, ◌+◌, Bool, true, false, not, ◌&&◌, nat_lt, List, [], ◌∷◌, map, sum_by, Option, Some, None, inl, inr, refl, sym, ap, subst, ◌∙◌}
+use Rattle.std.proofs.Common.{◌≡◌, ℕ, pos, ◌+◌, Bool, true, false, not, ◌&&◌, nat_lt, List, [], ◌∷◌, map, sum_by, Option, Some, None, inl, inr, refl, sym, ap, subst, ◌∙◌}
 use Rattle.std.specs.Option.{option_map, option_map_or}
 use Rattle.std.specs.Ordering.{int_eq}
 use Rattle.std.specs.FinMap as finite
@@ -11,10 +11,9 @@ use Rattle.group_types.specs.declared.stamp.Stamp.{Stamp}
 use Rattle.group_types.specs.Text.{Text, text_cmp}
 use Rattle.group_types.specs.Sets.{nothing}
 use Rattle.group_types.specs.Topics.{Topics}
-use Rattle.group_types.specs.Partition.{Partitions}
 use Rattle.group_types.specs.Request.{Heartbeat, is_empty}
 use Rattle.group_types.specs.Group.{Group, Past, Record, held, new_group}
-use Rattle.group_types.specs.Members.{is_remembered, members_of}
+use Rattle.group_types.specs.Members.{members_of}
 use Rattle.group_types.specs.Tick.{removed_by_tick, ticked}
 use Rattle.group_types.specs.Commit.{Commit, CommitReply}
 use Rattle.group_types.specs.Checks.{record_under, sender_of}
@@ -22,7 +21,7 @@ use Rattle.group_types.specs.HeartbeatStep.{Arrival, HeartbeatStep}
 use Rattle.group_types.specs.HeartbeatStep as group
 use Rattle.group_types.proofs.Lookups.{not_none}
 use Rattle.group_epochs.specs.Request.{arrival_of, commit_of, heartbeat_of}
-use Rattle.coord_node.specs.Coordinator.{Answer, Coordinator, Done, Frame, Groups, Image, Tick}
+use Rattle.coord_node.specs.Coordinator.{Answer, Coordinator, Done, Frame, Image, Tick}
 use Rattle.coord_node.specs.Steps.{CommitAt, HeartbeatAt, Makes, MakesBy, Opening, RequestStep, Step, all_ticked, has_room, is_success, removed_from_all, with_group}
 use Rattle.world_sim.specs.World.{granted}
 use Rattle.world_sim.specs.Acts.{is_forgotten, is_unremembered, no_stamp}
@@ -147,13 +146,13 @@ module _ (other : Stamp → Stamp) where
   pub tick_as : (c : Coordinator) (moment : ℕ) (answer : Answer) (new : Coordinator) → Step c (Tick moment) answer new → Step (node_of c) (Tick moment) answer (node_of new)
   tick_as c moment answer new (answers, is) =
       let removed : removed_from_all c.groups moment ≡ removed_from_all (with_values (group_of other) c.groups) moment =
-        sym (ap (sum_by (λ (g : Group). removed_by_tick g moment)) (values_changed (group_of other) c.groups)
-        ∙ sum_by_map (λ (g : Group). removed_by_tick g moment) (group_of other) (λ g. removed_as other g moment) (finite.values c.groups))
+      sym (ap (sum_by (λ (g : Group). removed_by_tick g moment)) (values_changed (group_of other) c.groups)
+      ∙ sum_by_map (λ (g : Group). removed_by_tick g moment) (group_of other) (λ g. removed_as other g moment) (finite.values c.groups))
       in
       let groups : with_values (group_of other) (all_ticked c.groups moment) ≡ all_ticked (with_values (group_of other) c.groups) moment =
-        changed_twice (group_of other) (λ (g : Group). ticked g moment) c.groups
-        ∙ ap (λ (f : Group → Group). with_values f c.groups) (λ i g. ticked_as other g moment i)
-        ∙ sym (changed_twice (λ (g : Group). ticked g moment) (group_of other) c.groups)
+      changed_twice (group_of other) (λ (g : Group). ticked g moment) c.groups
+      ∙ ap (λ (f : Group → Group). with_values f c.groups) (λ i g. ticked_as other g moment i)
+      ∙ sym (changed_twice (λ (g : Group). ticked g moment) (group_of other) c.groups)
       in (answers ∙ ap Done removed, ap node_of is ∙ (λ i. record c { groups = groups i }))
 
   pub image_as : (c : Coordinator) (image : Topics) (answer : Answer) (new : Coordinator) → Step c (Image image) answer new → Step (node_of c) (Image image) answer (node_of new)
@@ -177,7 +176,7 @@ module _ (other : Stamp → Stamp) where
   pub forgotten_as : (c : Coordinator) (v : HeartbeatRequestValue) → is_forgotten (node_of c) v ≡ is_forgotten c v
   forgotten_as c v =
       let same : is_unremembered (finite.get (node_of c).groups v.group_id) v.member_id ≡ is_unremembered (finite.get c.groups v.group_id) v.member_id =
-        ap (λ (o : Option Group). is_unremembered o v.member_id) (get_changed (group_of other) c.groups v.group_id) ∙ unremembered_as (finite.get c.groups v.group_id) v.member_id
+      ap (λ (o : Option Group). is_unremembered o v.member_id) (get_changed (group_of other) c.groups v.group_id) ∙ unremembered_as (finite.get c.groups v.group_id) v.member_id
       in
       ap (λ b. int_eq v.member_epoch (pos 0) && not (is_empty v.member_id) && b) same
 
@@ -193,7 +192,7 @@ module _ (other : Stamp → Stamp) where
   pub unstamped_as : (c : Coordinator) → unstamped c ≡ unstamped (node_of c)
   unstamped_as c =
       let groups : with_values (restamped_group (λ stamp. no_stamp)) (with_values (group_of other) c.groups) ≡ with_values (restamped_group (λ stamp. no_stamp)) c.groups =
-        changed_twice (restamped_group (λ stamp. no_stamp)) (group_of other) c.groups
-        ∙ ap (λ (f : Group → Group). with_values f c.groups) (λ i g. unstamped_group_as g i)
+      changed_twice (restamped_group (λ stamp. no_stamp)) (group_of other) c.groups
+      ∙ ap (λ (f : Group → Group). with_values f c.groups) (λ i g. unstamped_group_as g i)
       in
       λ i. record c { groups = sym groups i }

@@ -1,5 +1,5 @@
 -- A heartbeat, a tick and a commit at a group, with other stamps.
-use Rattle.std.proofs.Common.{◌≡◌, ℕ, ℤ, pos, Bool, true, false, cond, ◌&&◌, ◌==◌, int_lt, List, [], ◌∷◌, map, max, length, Option, Some, None, MatchOption, if◌then◌else◌, refl, sym, ap, subst, ◌∙◌}
+use Rattle.std.proofs.Common.{◌≡◌, ℕ, ℤ, pos, ◌&&◌, ◌==◌, int_lt, List, [], ◌∷◌, map, max, length, Option, Some, None, MatchOption, if◌then◌else◌, refl, sym, ap, subst, ◌∙◌}
 use Rattle.std.specs.List.{filter}
 use Rattle.std.specs.Option.{option_map}
 use Rattle.std.specs.FinMap as finite
@@ -11,7 +11,7 @@ use Rattle.group_types.specs.declared.epoch.Epoch.TheVariants.{At, Away}
 use Rattle.group_types.specs.declared.stamp.Stamp.{Stamp}
 use Rattle.group_types.specs.Text.{Text}
 use Rattle.group_types.specs.Topics.{Topics}
-use Rattle.group_types.specs.Request.{Heartbeat, Kind, Joins, Beats, Leaves, GoesAway, MeansNothing, kind_of}
+use Rattle.group_types.specs.Request.{Kind, Joins, Beats, Leaves, GoesAway, MeansNothing, kind_of}
 use Rattle.group_types.specs.Owners.{without_owner}
 use Rattle.group_types.specs.Group.{Group, Record, Records, new_group}
 use Rattle.group_types.specs.Members.{members_of, with_members}
@@ -24,7 +24,7 @@ use Rattle.group_types.specs.Checks.{Sender, sender_of, verdict_on}
 use Rattle.group_types.specs.HeartbeatStep.{Answer, Arrival, BeatsWith, ByVerdict, Draft, GoesAwayWith, HeartbeatStep, IsRefused, JoinsAs, StepOf, TakesIn, draft_of_beat, draft_under}
 use Rattle.replica_worlds.proofs.WithValues.{changed, empty_changed, entries_changed, filter_changed, get_changed, insert_changed, len_changed}
 use Rattle.replica_worlds.proofs.RestampedMembers.{AgreesOn, group_of, record_of, records_of, sender_as, sender_of_as, verdict_as, without_record_as}
-use Rattle.replica_worlds.proofs.RestampedDrafts.{arrival_as, by_verdict_as, draft_of_beat_as, draft_under_as, draft_as, named_as, takes_in_as}
+use Rattle.replica_worlds.proofs.RestampedDrafts.{arrival_as, by_verdict_as, draft_of_beat_as, draft_under_as, named_as, takes_in_as}
 
 module _ (other : Stamp → Stamp) where
   pub new_group_as : (salt : ℕ) → group_of other (new_group salt) ≡ new_group salt
@@ -50,7 +50,7 @@ module _ (other : Stamp → Stamp) where
   gone_away_as g m r stamp moment =
       let now = max g.clock moment in
       let records : records_of other (finite.insert g.records m (away r stamp now)) ≡ finite.insert (records_of other g.records) m (away (record_of other r) (other stamp) now) =
-        insert_changed (record_of other) g.records m (away r stamp now) ∙ ap (finite.insert (records_of other g.records) m) (away_as r stamp now)
+      insert_changed (record_of other) g.records m (away r stamp now) ∙ ap (finite.insert (records_of other g.records) m) (away_as r stamp now)
       in
       λ i. record (group_of other g) { clock = now; records = records i }
 
@@ -62,7 +62,7 @@ module _ (other : Stamp → Stamp) where
     where
       by : (name : Option Name) → MatchOption name (IsRefused codes.CoordinatorNotAvailable g answer new) (λ n. TakesIn g (draft_under n sender g a) a.heartbeat a.image answer new)
           → MatchOption name (IsRefused codes.CoordinatorNotAvailable (group_of other g) answer (group_of other new))
-              (λ n. TakesIn (group_of other g) (draft_under n (sender_as other sender) (group_of other g) (arrival_as other a)) a.heartbeat a.image answer (group_of other new))
+          (λ n. TakesIn (group_of other g) (draft_under n (sender_as other sender) (group_of other g) (arrival_as other a)) a.heartbeat a.image answer (group_of other new))
       by None is = (is.0, ap (group_of other) is.1)
       by (Some n) is =
           subst (λ (d : Draft). TakesIn (group_of other g) d a.heartbeat a.image answer (group_of other new)) (draft_under_as other n sender g a)
@@ -136,7 +136,7 @@ module _ (other : Stamp → Stamp) where
   pub refusal_as : (records : Records) (m : Text) (epoch : ℤ) → refusal_of_commit (records_of other records) m epoch ≡ refusal_of_commit records m epoch
   refusal_as records m epoch =
       let member : refusal_of_member (finite.get (records_of other records) m) epoch ≡ refusal_of_member (finite.get records m) epoch =
-        ap (λ (o : Option Record). refusal_of_member o epoch) (get_changed (record_of other) records m) ∙ refusal_of_member_as (finite.get records m) epoch
+      ap (λ (o : Option Record). refusal_of_member o epoch) (get_changed (record_of other) records m) ∙ refusal_of_member_as (finite.get records m) epoch
       in
       λ i. if int_lt epoch (pos 0) && len_changed (record_of other) records i == 0 then None else member i
 

@@ -1,5 +1,5 @@
 -- The stamps that a coordinator has: each is that of a request that came, and is late as it is in the world.
-use Rattle.std.proofs.Common.{◌≡◌, ◌≢◌, ◌⊎◌, ℕ, Bool, List, [], ◌∷◌, map, Option, Some, None, inl, inr, refl, sym, ap, subst, ◌∙◌}
+use Rattle.std.proofs.Common.{◌≡◌, ◌≢◌, ℕ, List, [], ◌∷◌, Some, inl, inr, refl, sym, ap, subst, ◌∙◌}
 use Rattle.std.specs.List.{AllByRecursion, Contains}
 use Rattle.std.specs.Option.{option_map}
 use Rattle.std.specs.FinMap as finite
@@ -8,9 +8,8 @@ use Rattle.kip_msgs.specs.Spelling.{SpellsRequest}
 use Rattle.kip_msgs.specs.Laws.{OneRequestABody}
 use Rattle.group_types.specs.declared.stamp.Stamp.{Stamp}
 use Rattle.group_types.specs.Text.{Text}
-use Rattle.group_types.specs.Request.{Heartbeat}
 use Rattle.group_types.specs.Group.{Group, Past, Record, Records}
-use Rattle.group_types.specs.Checks.{is_late, record_under, sender_of}
+use Rattle.group_types.specs.Checks.{is_late, record_under}
 use Rattle.group_types.proofs.ListLemmas.{In, from_in}
 use Rattle.group_types.proofs.Lookups.{not_none, some_is}
 use Rattle.group_epochs.specs.Request.{heartbeat_of}
@@ -30,7 +29,7 @@ use Rattle.replica_worlds.proofs.WithValues.{get_changed}
 use Rattle.replica_worlds.proofs.RestampedMembers.{SameOrder, group_of, past_of, record_of}
 use Rattle.replica_worlds.proofs.RestampedNodes.{Agrees, AgreesIn}
 use Rattle.replica_worlds.proofs.Pools.{PoolKeeps}
-use Rattle.replica_worlds.proofs.CameUnder.{CameIn, came_in, came_under, came_world, kept_came, kept_stamp, same_order, world_of_came, world_stamp}
+use Rattle.replica_worlds.proofs.CameUnder.{CameIn, came_in, came_world, kept_came, kept_stamp, same_order, world_of_came, world_stamp}
 use Rattle.replica_worlds.proofs.Shadows.{shadow}
 
 -- ---- a record, and a former member, have a stamp that other stamps leave as it is

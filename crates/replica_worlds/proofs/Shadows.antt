@@ -1,5 +1,5 @@
 -- A world over replicas as a world, with other stamps: what happens in the one happens in the other.
-use Rattle.std.proofs.Common.{◌≡◌, ℕ, suc, Bool, true, false, List, [], ◌∷◌, ◌++◌, map, length, Option, Some, None, refl, sym, ap, subst, ◌∙◌}
+use Rattle.std.proofs.Common.{◌≡◌, ℕ, suc, Bool, true, false, List, map, length, Option, Some, None, sym, ap, ◌∙◌}
 use Rattle.kip_msgs.specs.Values.{CommitRequestTopicValue}
 use Rattle.group_types.specs.declared.partition.Partition.{Partition}
 use Rattle.group_types.specs.declared.stamp.Stamp.{Stamp}

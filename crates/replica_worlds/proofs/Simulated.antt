@@ -1,6 +1,5 @@
 -- A world over replicas is one that acts lead to, with other stamps.
-use Rattle.std.proofs.Common.{◌≡◌, ℕ, List, [], ◌∷◌, ◌++◌, map, Option, Some, None, unwrap_or, inl, inr, refl, sym, ap, subst, ◌∙◌, false}
-use Rattle.std.specs.FinMap as finite
+use Rattle.std.proofs.Common.{◌≡◌, ℕ, List, [], ◌∷◌, ◌++◌, map, Option, Some, inl, inr, refl, sym, ap, subst, ◌∙◌}
 use Rattle.kip_msgs.specs.Values.{HeartbeatRequestValue, RequestHeaderValue, RequestValue, commit_request, heartbeat_request}
 use Rattle.kip_msgs.specs.Spelling.{SpellsRequest}
 use Rattle.kip_msgs.specs.Laws.{OneRequestABody}
@@ -13,12 +12,11 @@ use Rattle.member_core.specs.Settings.{Settings}
 use Rattle.member_core.specs.Client.{Client, new_client}
 use Rattle.member_core.specs.Asking.{header_of}
 use Rattle.member_core.specs.Committing.{commit_value}
-use Rattle.replica_entries.specs.Values.{ContentValue, EntryValue, FrameValue, frame, image, leads, tick}
+use Rattle.replica_entries.specs.Values.{ContentValue, EntryValue, frame, image, leads, tick}
 use Rattle.coord_replica.specs.Applying.{EventStep, moment_after}
 use Rattle.coord_replica.specs.Entries.{event_under, stamp_under}
-use Rattle.coord_replica.specs.Replicas.{log_opening}
 use Rattle.world_sim.specs.World.{Commit, Request, World, new_world, numbered, with_coordinator}
-use Rattle.world_sim.specs.Acts.{Act, ActStep, Answers, Bring, BringStep, Clock, Deliver, DeliverStep, DeliversIf, IsDone, IsRemoved, Outcome, Passes, Pools, Run, Sees, is_forgotten, no_stamp}
+use Rattle.world_sim.specs.Acts.{Act, ActStep, Bring, BringStep, Clock, Deliver, DeliverStep, DeliversIf, IsDone, IsRemoved, Outcome, Passes, Run, Sees, is_forgotten, no_stamp}
 use Rattle.world_sim.specs.Exclusivity.{Always}
 use Rattle.world_sim.specs.Invariant.{Committed, Keeps}
 use Rattle.world_sim.proofs.Numbered.{numbered_in}
@@ -31,7 +29,7 @@ use Rattle.replica_worlds.proofs.RestampedMembers.{group_of}
 use Rattle.replica_worlds.proofs.RestampedNodes.{commit_frame_as, forgotten_as, frame_as, image_as, tick_as, unstamped_as}
 use Rattle.replica_worlds.proofs.Pools.{PoolKeeps, empty_pool, run_grows, run_pool}
 use Rattle.replica_worlds.proofs.CameUnder.{came_kept, came_world, kept_stamp, world_of_came, world_stamp}
-use Rattle.replica_worlds.proofs.Shadows.{answers_as, client_as, goes_as, gone_on, pools_as, shadow}
+use Rattle.replica_worlds.proofs.Shadows.{answers_as, client_as, goes_as, pools_as, shadow}
 use Rattle.replica_worlds.proofs.SeenStamps.{agrees, agrees_kept}
 
 -- ---- what acts lead to
@@ -93,7 +91,7 @@ module _ (one_request : OneRequestABody) (one_answer : OneAnswer) (always : Alwa
     does : (act : Act) (after : World) → IsClients act → ActStep (world_of s) act outcome after → t ≡ over_log s.log after → Follows t
     does act after own step becomes =
         let led : IsLed salt settings (shadow to_world (over_log s.log after)) =
-          led_on salt settings (shadow to_world s) (shadow to_world (over_log s.log after)) act outcome follows.led (client_as to_world s act outcome after own step)
+        led_on salt settings (shadow to_world s) (shadow to_world (over_log s.log after)) act outcome follows.led (client_as to_world s act outcome after own step)
         in
         let over : Follows (over_log s.log after) = record { led = led; tracked = follows.tracked } in
         subst Follows (sym becomes) over
@@ -193,7 +191,7 @@ module _ (one_request : OneRequestABody) (one_answer : OneAnswer) (always : Alwa
           let clocked = led_on salt settings (shadow to_world s) (record (shadow to_world s) { clock = brought_at }) (Clock brought_at) IsDone follows.led (refl, refl) in
           let led = led_on salt settings (record (shadow to_world s) { clock = brought_at }) (shadow to_world (over_log b.log b.after)) (Bring k) outcome clocked brought in
           let tracked = stays_so one_answer stays node follows.tracked (Frame b.commit.body commit_stamp brought_at) b.answer b.log.coordinator commit_step
-            (commit_frame_as stays node b.commit.body commit_stamp commit_stamp brought_at b.answer b.log.coordinator no_heartbeat commit_step) in
+          (commit_frame_as stays node b.commit.body commit_stamp commit_stamp brought_at b.answer b.log.coordinator no_heartbeat commit_step) in
           let over : Follows (over_log b.log b.after) = record { led = led; tracked = tracked } in
           subst Follows (sym b.becomes) over
 
@@ -211,8 +209,8 @@ module _ (one_request : OneRequestABody) (one_answer : OneAnswer) (always : Alwa
       event_follows act shown event answer now moment step natural acts_so =
           let gone : shadow to_world After ≡ with_coordinator (record (shadow to_world s) { clock = now }) (restamped to_world g.log.coordinator) = goes_as to_world s now g.log moment in
           let led : IsLed salt settings (shadow to_world After) =
-            led_on salt settings (shadow to_world s) (shadow to_world After) act shown follows.led
-            (subst (λ (x : World). ActStep (shadow to_world s) act shown x) (sym gone) (acts_so (natural to_world)))
+          led_on salt settings (shadow to_world s) (shadow to_world After) act shown follows.led
+          (subst (λ (x : World). ActStep (shadow to_world s) act shown x) (sym gone) (acts_so (natural to_world)))
           in
           let over : Follows After = record { led = led; tracked = stays_so one_answer stays node follows.tracked event answer g.log.coordinator step (natural stays) } in
           subst Follows (sym g.becomes) over

@@ -1,15 +1,14 @@
 -- A world over replicas in which a client joins under one leadership, and takes the reply under the next.
-use Rattle.std.proofs.Common.{◌≡◌, ◌⊎◌, ℕ, zero, suc, ◌<◌, ◌+◌, ◌*◌, ◌^◌, Bool, true, false, List, [], ◌∷◌, map, nat_lt, Option, Some, None, is_some, inl, inr, refl, sym, ap, subst, ◌∙◌, arith}
+use Rattle.std.proofs.Common.{◌≡◌, ℕ, Bool, true, false, List, [], ◌∷◌, map, nat_lt, Option, Some, None, is_some, inl, inr, refl, sym, ap, subst, ◌∙◌, arith}
 use Rattle.std.specs.Option.{option_map}
 use Rattle.std.specs.FinMap as finite
-use Rattle.kip_msgs.specs.Values.{HeartbeatReplyValue, HeartbeatRequestValue, RequestHeaderValue, heartbeat_request}
+use Rattle.kip_msgs.specs.Values.{HeartbeatRequestValue, RequestHeaderValue, heartbeat_request}
 use Rattle.kip_msgs.specs.Spelling.{SpellsRequest}
 use Rattle.topic_meta.specs.Images.{Entry, topics_of}
 use Rattle.group_types.specs.declared.stamp.Stamp.{Stamp}
 use Rattle.group_types.specs.Limits.{MOST_GROUPS}
 use Rattle.group_types.specs.Text.{text_cmp}
 use Rattle.group_types.specs.Images.{AreImageTopics}
-use Rattle.group_types.specs.Topics.{Topics}
 use Rattle.group_types.specs.Group.{Group}
 use Rattle.group_types.specs.HeartbeatStep as group
 use Rattle.group_types.proofs.ListLemmas.{In, to_in}
@@ -17,15 +16,15 @@ use Rattle.group_types.proofs.Lookups.{get-inserted, not_none, some_is}
 use Rattle.coord_node.specs.Coordinator.{Answer, Closes, Coordinator, Done, Frame, Replied, opening}
 use Rattle.coord_node.specs.Steps.{HeartbeatAt, Makes, Step, has_room}
 use Rattle.member_core.specs.Settings.{Settings}
-use Rattle.member_core.specs.Client.{Client, state_of}
+use Rattle.member_core.specs.Client.{state_of}
 use Rattle.member_core.specs.Asking.{Join}
-use Rattle.replica_entries.specs.Values.{EntryValue, FrameValue, frame, image, leads}
+use Rattle.replica_entries.specs.Values.{EntryValue, frame, image, leads}
 use Rattle.replica_snapshots.proofs.ImageLaws.{entry_for, image_of_topics, image_without_fault}
 use Rattle.coord_replica.specs.Entries.{stamp_under}
 use Rattle.coord_replica.specs.Faults.{fault_of_topics}
 use Rattle.coord_replica.specs.Replicas.{LogState, log_opening}
 use Rattle.world_sim.specs.World.{Request, World, new_world, numbered, with_coordinator}
-use Rattle.world_sim.specs.Acts.{ActStep, Asks, Deliver, DeliversIf, Fault, Is, IsClosed, IsDone, IsRefused, IsReplied, IsSent, Outcome, Pools, Take, is_forgotten}
+use Rattle.world_sim.specs.Acts.{ActStep, Asks, Deliver, DeliversIf, Is, IsDone, IsRefused, IsReplied, IsSent, Outcome, Pools, Take, is_forgotten}
 use Rattle.world_sim.specs.Holding.{HasRecord}
 use Rattle.world_sim.specs.Examples.{Holder}
 use Rattle.world_sim.proofs.Newcomers.{GROUP, arrival_of, client_of, id_of, kept_of, partition_of, reply_to, settings_of}

@@ -1,4 +1,4 @@
--- The second promise over failovers: what holds of every world over replicas, whatever leaders come and go (ours).
+-- What holds of every world over replicas, whatever leaders come and go (ours).
 use Rattle.std.specs.Prelude.{◌≡◌, ℕ, List}
 use Rattle.member_core.specs.Settings.{Settings}
 use Rattle.world_sim.specs.World.{World, new_world}

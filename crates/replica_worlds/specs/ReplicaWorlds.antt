@@ -1,6 +1,6 @@
 -- The world over replicas: one log, clients, and every message that was ever sent between them (ours). A client's message comes to the
 -- coordinator as an entry of the log, and its reply is what the log comes to there, whichever replica gives it. Leaderships come and go.
-use Rattle.std.specs.Prelude.{◌≡◌, ◌≢◌, ℕ, ◌<◌, false, List, [], ◌∷◌, Option, Some, None}
+use Rattle.std.specs.Prelude.{◌≡◌, ℕ, ◌<◌, false, List, [], ◌∷◌, Option, Some, None}
 use Rattle.std.specs.List.{Contains}
 use Rattle.std.specs.declared.cmp.Ordering.TheVariants.{Less}
 use Rattle.kip_msgs.specs.Values.{RequestHeaderValue, HeartbeatRequestValue, heartbeat_request}

@@ -1,8 +1,8 @@
 -- Other stamps in the place of a group's: a group stores and compares stamps, and looks at them in no other way (ours).
-use Rattle.std.specs.Prelude.{List, map}
+use Rattle.std.specs.Prelude.{map}
 use Rattle.std.specs.FinMap as finite
 use Rattle.group_types.specs.declared.stamp.Stamp.{Stamp}
-use Rattle.group_types.specs.Text.{Text, text_cmp}
+use Rattle.group_types.specs.Text.{text_cmp}
 use Rattle.group_types.specs.Group.{Group, Past, Record}
 
 -- the map with each value changed

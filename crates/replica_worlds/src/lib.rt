@@ -1,4 +1,8 @@
-//! The second promise over failovers: laws of worlds whose coordinator is what replicas make of a log.
+//! Laws of worlds whose coordinator is what replicas make of one log: whatever leaders come and go, no two members of one group hold one
+//! partition, and a commit is taken only while what its maker held is granted.
+//!
+//! Nothing here runs. `specs/ReplicaWorlds.antt` has these worlds, and what is believed of the stamps under which requests come; start from
+//! `specs/Laws.antt`.
 #![tactic(auto)]
 
 mod laws;
