@@ -13,3 +13,4 @@ pub mod Carried
 pub mod Logged
 pub mod Replied
 pub mod TwoLeaderships
+pub mod HappensNext

@@ -104,7 +104,7 @@ module _ (other : Stamp → Stamp) where
 
   -- ---- the target
 
-  subscribers_as : (records : Records) → map subscriber_of (finite.entries (records_of other records)) ≡ map subscriber_of (finite.entries records)
+  pub subscribers_as : (records : Records) → map subscriber_of (finite.entries (records_of other records)) ≡ map subscriber_of (finite.entries records)
   subscribers_as records =
       ap (map subscriber_of) (entries_changed (record_of other) records) ∙ map_changed (record_of other) subscriber_of (λ e. refl) (finite.entries records)
 

@@ -79,6 +79,20 @@ module _ (one_request : OneRequestABody) (one_answer : OneAnswer) (always : Alwa
     pub led : IsLed salt settings (shadow to_world s)
     pub tracked : restamped stays s.log.coordinator ≡ s.log.coordinator
 
+  abbrev pub clocked : ReplicaWorld → ℕ → World
+  clocked s moment = record (shadow to_world s) { clock = moment }
+
+  pub led_clocked : (s : ReplicaWorld) (moment : ℕ) → IsLed salt settings (shadow to_world s) → IsLed salt settings (clocked s moment)
+  led_clocked s moment led = led_on salt settings (shadow to_world s) (clocked s moment) (Clock moment) IsDone led (refl, refl)
+
+  -- a step is an act of the world, at some moment, and leaves only stamps that stay
+  pub record Steps (s t : ReplicaWorld) : Type 0 where
+    pub moment : ℕ
+    pub act : Act
+    pub shown : Outcome
+    pub step : ActStep (clocked s moment) act shown (shadow to_world t)
+    pub tracked : restamped stays t.log.coordinator ≡ t.log.coordinator
+
   module _ (s : ReplicaWorld) (follows : Follows s) (outcome : Outcome) (t : ReplicaWorld) where
     known : Keeps (shadow to_world s)
     known = always salt settings follows.led.acts follows.led.outcomes (shadow to_world s) follows.led.run
@@ -88,13 +102,12 @@ module _ (one_request : OneRequestABody) (one_answer : OneAnswer) (always : Alwa
 
     -- ---- a client does something
 
-    does : (act : Act) (after : World) → IsClients act → ActStep (world_of s) act outcome after → t ≡ over_log s.log after → Follows t
+    does : (act : Act) (after : World) → IsClients act → ActStep (world_of s) act outcome after → t ≡ over_log s.log after → Steps s t
     does act after own step becomes =
-        let led : IsLed salt settings (shadow to_world (over_log s.log after)) =
-        led_on salt settings (shadow to_world s) (shadow to_world (over_log s.log after)) act outcome follows.led (client_as to_world s act outcome after own step)
+        let over : Steps s (over_log s.log after) =
+        record { moment = s.log.moment; act = act; shown = outcome; step = client_as to_world s act outcome after own step; tracked = follows.tracked }
         in
-        let over : Follows (over_log s.log after) = record { led = led; tracked = follows.tracked } in
-        subst Follows (sym becomes) over
+        subst (Steps s) (sym becomes) over
 
     -- ---- a request is delivered
 
@@ -144,12 +157,10 @@ module _ (one_request : OneRequestABody) (one_answer : OneAnswer) (always : Alwa
           (subst (λ (x : Stamp). Step (restamped stays node) (Frame d.request.body x at) d.answer (restamped stays d.log.coordinator)) same
           (frame_as stays node d.request.body (stamp_of_entry e) at d.answer d.log.coordinator (agrees_kept stays node follows.tracked d.request.body (stamp_of_entry e) same) step))
 
-      delivers_follows : Follows t
-      delivers_follows =
-          let clocked = led_on salt settings (shadow to_world s) (record (shadow to_world s) { clock = at }) (Clock at) IsDone follows.led (refl, refl) in
-          let led = led_on salt settings (record (shadow to_world s) { clock = at }) (shadow to_world (over_log d.log d.after)) (Deliver k) outcome clocked delivered in
-          let over : Follows (over_log d.log d.after) = record { led = led; tracked = stays_tracked } in
-          subst Follows (sym d.becomes) over
+      delivers_steps : Steps s t
+      delivers_steps =
+          let over : Steps s (over_log d.log d.after) = record { moment = at; act = Deliver k; shown = outcome; step = delivered; tracked = stays_tracked } in
+          subst (Steps s) (sym d.becomes) over
 
     -- ---- a commit is brought
 
@@ -177,7 +188,7 @@ module _ (one_request : OneRequestABody) (one_answer : OneAnswer) (always : Alwa
           let same : heartbeat_request header v ≡ message = one_request (heartbeat_request header v) message b.commit.body spells committed.spells in
           cc
 
-      brought : ActStep (record (shadow to_world s) { clock = brought_at }) (Bring k) outcome (shadow to_world (over_log b.log b.after))
+      pub brought : ActStep (record (shadow to_world s) { clock = brought_at }) (Bring k) outcome (shadow to_world (over_log b.log b.after))
       brought =
           subst (λ (o : Option Commit). BringStep o (record (shadow to_world s) { clock = brought_at }) outcome (shadow to_world (over_log b.log b.after))) (sym b.is_pooled) (
             b.answer,
@@ -186,14 +197,12 @@ module _ (one_request : OneRequestABody) (one_answer : OneAnswer) (always : Alwa
             answers_as to_world s brought_at b.log brought_moment b.answer outcome b.after b.answers,
           )
 
-      brings_follows : Follows t
-      brings_follows =
-          let clocked = led_on salt settings (shadow to_world s) (record (shadow to_world s) { clock = brought_at }) (Clock brought_at) IsDone follows.led (refl, refl) in
-          let led = led_on salt settings (record (shadow to_world s) { clock = brought_at }) (shadow to_world (over_log b.log b.after)) (Bring k) outcome clocked brought in
+      brings_steps : Steps s t
+      brings_steps =
           let tracked = stays_so one_answer stays node follows.tracked (Frame b.commit.body commit_stamp brought_at) b.answer b.log.coordinator commit_step
           (commit_frame_as stays node b.commit.body commit_stamp commit_stamp brought_at b.answer b.log.coordinator no_heartbeat commit_step) in
-          let over : Follows (over_log b.log b.after) = record { led = led; tracked = tracked } in
-          subst Follows (sym b.becomes) over
+          let over : Steps s (over_log b.log b.after) = record { moment = brought_at; act = Bring k; shown = outcome; step = brought; tracked = tracked } in
+          subst (Steps s) (sym b.becomes) over
 
     -- ---- another entry comes
 
@@ -202,54 +211,65 @@ module _ (one_request : OneRequestABody) (one_answer : OneAnswer) (always : Alwa
       After = over_log g.log (with_coordinator (world_of s) g.log.coordinator)
 
       -- by an event of the coordinator
-      event_follows : (act : Act) (shown : Outcome) (event : Event) (answer : Answer) (now : ℕ) → g.log.moment ≡ now
+      event_steps : (act : Act) (shown : Outcome) (event : Event) (answer : Answer) (now : ℕ) → g.log.moment ≡ now
           → Step node event answer g.log.coordinator → ((other : Stamp → Stamp) → Step (restamped other node) event answer (restamped other g.log.coordinator))
           → (Step (restamped to_world node) event answer (restamped to_world g.log.coordinator) → ActStep (shadow to_world s) act shown (with_coordinator (record (shadow to_world s) { clock = now }) (restamped to_world g.log.coordinator)))
-          → Follows t
-      event_follows act shown event answer now moment step natural acts_so =
+          → Steps s t
+      event_steps act shown event answer now moment step natural acts_so =
           let gone : shadow to_world After ≡ with_coordinator (record (shadow to_world s) { clock = now }) (restamped to_world g.log.coordinator) = goes_as to_world s now g.log moment in
-          let led : IsLed salt settings (shadow to_world After) =
-          led_on salt settings (shadow to_world s) (shadow to_world After) act shown follows.led
-          (subst (λ (x : World). ActStep (shadow to_world s) act shown x) (sym gone) (acts_so (natural to_world)))
+          let over : Steps s After =
+          record {
+            moment = s.log.moment;
+            act = act;
+            shown = shown;
+            step = subst (λ (x : World). ActStep (shadow to_world s) act shown x) (sym gone) (acts_so (natural to_world));
+            tracked = stays_so one_answer stays node follows.tracked event answer g.log.coordinator step (natural stays);
+          }
           in
-          let over : Follows After = record { led = led; tracked = stays_so one_answer stays node follows.tracked event answer g.log.coordinator step (natural stays) } in
-          subst Follows (sym g.becomes) over
+          subst (Steps s) (sym g.becomes) over
 
       comes : (content : ContentValue) → e.content ≡ content → (answer : Option Answer) → Shows content answer outcome
-          → EventStep node (event_under e.leadership content) answer g.log.coordinator → g.log.moment ≡ moment_after s.log.moment content → Follows t
+          → EventStep node (event_under e.leadership content) answer g.log.coordinator → g.log.moment ≡ moment_after s.log.moment content → Steps s t
       comes (frame f) is answer shows taken when = absurd shows
       comes (tick now) is answer (removed, answers, shown) taken when =
           let ticked : Step node (Tick now) (Done removed) g.log.coordinator = subst (λ (x : Option Answer). EventStep node (Some (Tick now)) x g.log.coordinator) answers taken in
-          event_follows (Passes now) (IsRemoved removed) (Tick now) (Done removed) now when ticked (λ other. tick_as other node now (Done removed) g.log.coordinator ticked)
+          event_steps (Passes now) (IsRemoved removed) (Tick now) (Done removed) now when ticked (λ other. tick_as other node now (Done removed) g.log.coordinator ticked)
           (λ so. (removed, restamped to_world g.log.coordinator, so, (refl, refl)))
       comes (image topics) is answer (answers, shown) taken when =
           let seen : Step node (Image (topics_of topics)) (Done 0) g.log.coordinator = subst (λ (x : Option Answer). EventStep node (Some (Image (topics_of topics))) x g.log.coordinator) answers taken in
-          event_follows (Sees (topics_of topics)) IsDone (Image (topics_of topics)) (Done 0) s.log.moment when seen (λ other. image_as other node (topics_of topics) (Done 0) g.log.coordinator seen)
+          event_steps (Sees (topics_of topics)) IsDone (Image (topics_of topics)) (Done 0) s.log.moment when seen (λ other. image_as other node (topics_of topics) (Done 0) g.log.coordinator seen)
           (λ so. (restamped to_world g.log.coordinator, so, (refl, refl)))
       comes leads is answer (answers, shown) taken when =
           let seen : Step node (Image node.image) (Done 0) g.log.coordinator = (refl, taken.1, known.image) in
-          event_follows (Sees node.image) IsDone (Image node.image) (Done 0) s.log.moment when seen (λ other. image_as other node node.image (Done 0) g.log.coordinator seen)
+          event_steps (Sees node.image) IsDone (Image node.image) (Done 0) s.log.moment when seen (λ other. image_as other node node.image (Done 0) g.log.coordinator seen)
           (λ so. (restamped to_world g.log.coordinator, so, (refl, refl)))
 
-      goes_follows : Follows t
-      goes_follows = comes e.content refl g.answer g.shows g.applies.step g.applies.moment
+      goes_steps : Steps s t
+      goes_steps = comes e.content refl g.answer g.shows g.applies.step g.applies.moment
 
-  step_follows : (s t : ReplicaWorld) (act : ReplicaAct) (outcome : Outcome) → Follows s → In acts act
-      → ((k : ℕ) (q : Request) → numbered s.requests k ≡ Some q → numbered requests k ≡ Some q) → ReplicaStep s act outcome t → Follows t
-  step_follows s t (Does act) outcome follows there grows (own, after, step, becomes) = does s follows outcome t act after own step becomes
-  step_follows s t (Delivers k e) outcome follows there grows d = delivers_follows s follows outcome t k e d there (grows k d.request d.is_pooled)
-  step_follows s t (Brings k e) outcome follows there grows b = brings_follows s follows outcome t k e b
-  step_follows s t (Goes e) outcome follows there grows g = goes_follows s follows outcome t e g
+  pub steps : (s t : ReplicaWorld) (act : ReplicaAct) (outcome : Outcome) → Follows s → In acts act
+      → ((k : ℕ) (q : Request) → numbered s.requests k ≡ Some q → numbered requests k ≡ Some q) → ReplicaStep s act outcome t → Steps s t
+  steps s t (Does act) outcome follows there grows (own, after, step, becomes) = does s follows outcome t act after own step becomes
+  steps s t (Delivers k e) outcome follows there grows d = delivers_steps s follows outcome t k e d there (grows k d.request d.is_pooled)
+  steps s t (Brings k e) outcome follows there grows b = brings_steps s follows outcome t k e b
+  steps s t (Goes e) outcome follows there grows g = goes_steps s follows outcome t e g
 
-  run_follows : (some : List ReplicaAct) (outcomes : List Outcome) (s t : ReplicaWorld) → ((act : ReplicaAct) → In some act → In acts act)
+  step_follows : (s t : ReplicaWorld) → Follows s → Steps s t → Follows t
+  step_follows s t follows x =
+      record {
+        led = led_on salt settings (clocked s x.moment) (shadow to_world t) x.act x.shown (led_clocked s x.moment follows.led) x.step;
+        tracked = x.tracked;
+      }
+
+  pub run_follows : (some : List ReplicaAct) (outcomes : List Outcome) (s t : ReplicaWorld) → ((act : ReplicaAct) → In some act → In acts act)
       → ((k : ℕ) (q : Request) → numbered t.requests k ≡ Some q → numbered requests k ≡ Some q) → Follows s → ReplicaRun s some outcomes t → Follows t
   run_follows [] [] s t within grows follows is = subst Follows (sym is) follows
   run_follows [] (outcome ∷ outcomes) s t within grows follows is = absurd is
   run_follows (act ∷ some) [] s t within grows follows is = absurd is
   run_follows (act ∷ some) (outcome ∷ outcomes) s t within grows follows (middle, step, later) =
       run_follows some outcomes middle t (λ x there. within x (inr there)) grows
-      (step_follows s middle act outcome follows (within act (inl refl))
-      (λ k q there. grows k q (run_grows (act ∷ some) (outcome ∷ outcomes) s t (middle, step, later) k q there)) step)
+      (step_follows s middle follows (steps s middle act outcome follows (within act (inl refl))
+      (λ k q there. grows k q (run_grows (act ∷ some) (outcome ∷ outcomes) s t (middle, step, later) k q there)) step))
       later
 
   pub start_follows : Follows (new_replica_world salt settings)
@@ -284,7 +304,7 @@ module _ (one_request : OneRequestABody) (one_answer : OneAnswer) (always : Alwa
         acts = led.acts;
         outcomes = led.outcomes;
         run = led.run;
-        alike = record { coordinator = unstamped_as stamps s.log.coordinator; clients = refl; requests = refl; replies = refl; commits = refl };
+        alike = record { coordinator = unstamped_as stamps s.log.coordinator; clock = refl; clients = refl; requests = refl; replies = refl; commits = refl };
       }
 
 -- what holds of every world holds of every one over replicas, where it holds of a world as it does of the world with other stamps

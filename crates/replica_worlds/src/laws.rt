@@ -1,7 +1,7 @@
 //! Laws of worlds over replicas, proved where nothing runs.
 ghost use Rattle.world_sim.specs.Exclusivity.{CommitHeld, HoldApart, HoldGranted, ShowGranted, SinceGranted};
 ghost use Rattle.replica_worlds.specs.Examples.{SomebodyHoldsOverLeaderships};
-ghost use Rattle.replica_worlds.specs.Laws.{OverReplicas, ReplicaWorldsAreWorlds};
+ghost use Rattle.replica_worlds.specs.Laws.{BringHeldOverReplicas, OverReplicas, RenewLawfullyOverReplicas, ReplicaWorldsAreWorlds};
 ghost use Rattle.replica_worlds.specs.Logs.{RepliesAreTheLogs, ReplicasMakeTheWorld, WorldsFollowTheirLog};
 
 use coord_node::one_answer;
@@ -9,7 +9,7 @@ use coord_replica::{answers_are_the_logs, replicas_follow_the_log, same_entries_
 use kip_msgs::one_request_a_body;
 use world_sim::{
     commits_are_taken_while_held, every_act_keeps_the_invariant, members_hold_apart,
-    replies_show_what_is_granted,
+    replies_show_what_is_granted, targets_are_renewed_lawfully,
 };
 
 /// Whatever leaders come and go, and whatever is lost, repeated or overtaken: a world over replicas is one that acts lead to, but for the
@@ -49,11 +49,23 @@ pub fn replies_show_what_is_granted_over_replicas()
 pub fn commits_are_taken_while_held_over_replicas()
     ensures taken { OverReplicas CommitHeld }
     ensures since { OverReplicas SinceGranted }
+    ensures brought { BringHeldOverReplicas }
 {
     one_request_a_body();
     one_answer();
     every_act_keeps_the_invariant();
     commits_are_taken_while_held();
+}
+
+/// Whatever leaders come and go, wherever an entry renews a group's target, the new one gives each partition that a member subscribes
+/// exactly one owner, who subscribes it.
+pub fn targets_are_renewed_lawfully_over_replicas()
+    ensures { RenewLawfullyOverReplicas }
+{
+    one_request_a_body();
+    one_answer();
+    every_act_keeps_the_invariant();
+    targets_are_renewed_lawfully();
 }
 
 /// What a world has of its log is what the run over the log comes to.
