@@ -21,7 +21,8 @@ use Rattle.group_types.specs.Settle.{arrived, asked, grants_after, grants_of_oth
 use Rattle.group_types.specs.Renewal.{IsChange, IsTarget, RenewsWhere, changed_if, is_subscribed, subscriber_of, view_for}
 use Rattle.group_types.specs.Checks.{Accepted, Member, Overtaken, Refused, Sender, Verdict}
 use Rattle.group_types.specs.HeartbeatStep.{Answer, Arrival, ByVerdict, Draft, Stages, TakesIn, draft_of, draft_of_beat, draft_of_join, draft_under, handed_over, sent_after, verdict_on_change, with_record_at}
-use Rattle.replica_worlds.proofs.WithValues.{any_map, entries_changed, get_changed, insert_changed, map_changed, pushed, values_changed}
+use Rattle.group_types.proofs.ListLemmas.{list_any-map}
+use Rattle.replica_worlds.proofs.WithValues.{entries_changed, get_changed, insert_changed, map_changed, pushed, values_changed}
 use Rattle.replica_worlds.proofs.RestampedMembers.{group_of, member_as, record_of, records_of, remembered_as, sender_as, taken_over_as, with_record_as}
 
 module _ (other : Stamp → Stamp) where
@@ -86,7 +87,7 @@ module _ (other : Stamp → Stamp) where
   subscribed_as : (records : Records) (name : Text) → is_subscribed (records_of other records) name ≡ is_subscribed records name
   subscribed_as records name =
       ap (list_any (λ (r : Record). has r.names name)) (values_changed (record_of other) records)
-      ∙ any_map (λ (r : Record). has r.names name) (record_of other) (finite.values records)
+      ∙ list_any-map (record_of other) (λ (r : Record). has r.names name) (finite.values records)
 
   view_as : (image : Topics) (records : Records) → view_for image (records_of other records) ≡ view_for image records
   view_as image records = λ i. finite.retain_keys image (λ name. subscribed_as records name i)

@@ -13,9 +13,10 @@ use Rattle.group_types.specs.Request.{Heartbeat, Kind, Joins, Beats, Leaves, Goe
 use Rattle.group_types.specs.Group.{Group, Past, Record, Records}
 use Rattle.group_types.specs.Members.{Members, is_remembered, remembering, taken_over, with_record, without_past, without_record}
 use Rattle.group_types.specs.Checks.{Member, Refused, Overtaken, Sender, are_granted, first_of, has_instance, is_another, is_fenced, is_late, is_of_past, is_overtaken, is_too_many, is_unreleased, member_at, other_id_with, other_with, record_under, request_checks, sender_of, verdict_on}
+use Rattle.group_types.proofs.ListLemmas.{list_any-map}
 use Rattle.group_types.proofs.Lookups.{same_text}
 use Rattle.replica_worlds.specs.Restamped.{restamped_group, restamped_past, restamped_record, with_values}
-use Rattle.replica_worlds.proofs.WithValues.{any_map, get_changed, has_changed, insert_changed, keys_changed, len_changed, remove_changed}
+use Rattle.replica_worlds.proofs.WithValues.{get_changed, has_changed, insert_changed, keys_changed, len_changed, remove_changed}
 
 module _ (other : Stamp → Stamp) where
   abbrev pub record_of : Record → Record
@@ -59,7 +60,7 @@ module _ (other : Stamp → Stamp) where
 
   pub remembered_as : (s : Members) (m : Text) → is_remembered (members_as s) m ≡ is_remembered s m
   remembered_as s m =
-      λ i. has_changed record_of s.records m i || any_map (λ (e : Text × Stamp). eq_by_cmp text_cmp m e.0) (λ (e : Text × Stamp). (e.0, other e.1)) s.past i
+      λ i. has_changed record_of s.records m i || list_any-map (λ (e : Text × Stamp). (e.0, other e.1)) (λ (e : Text × Stamp). eq_by_cmp text_cmp m e.0) s.past i
 
   pub with_record_as : (s : Members) (m : Text) (r : Record) → members_as (with_record s m r) ≡ with_record (members_as s) m (record_of r)
   with_record_as s m r = λ i. record { records = insert_changed record_of s.records m r i; past = without_past_as s.past m i }

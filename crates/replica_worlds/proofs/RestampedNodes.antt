@@ -22,7 +22,7 @@ use Rattle.group_types.specs.HeartbeatStep as group
 use Rattle.group_types.proofs.Lookups.{not_none}
 use Rattle.group_epochs.specs.Request.{arrival_of, commit_of, heartbeat_of}
 use Rattle.coord_node.specs.Coordinator.{Answer, Coordinator, Done, Frame, Image, Tick}
-use Rattle.coord_node.specs.Steps.{CommitAt, HeartbeatAt, Makes, MakesBy, Opening, RequestStep, Step, all_ticked, has_room, is_success, removed_from_all, with_group}
+use Rattle.coord_node.specs.Steps.{CommitAt, HeartbeatAt, Makes, MakesBy, RequestStep, Step, all_ticked, has_room, is_success, removed_from_all, with_group}
 use Rattle.world_sim.specs.World.{granted}
 use Rattle.world_sim.specs.Acts.{is_forgotten, is_unremembered, no_stamp}
 use Rattle.replica_worlds.specs.Restamped.{restamped_group, restamped_past, with_values}
@@ -49,9 +49,6 @@ module _ (other : Stamp → Stamp) where
   with_group_as c name g = λ i. record c { groups = insert_changed (group_of other) c.groups name g i }
 
   -- ---- a heartbeat
-
-  opening_as : Opening → Opening
-  opening_as o = record { name = o.name; left = group_of other o.left; reply = o.reply }
 
   makes_as : (succeeds room : Bool) (c : Coordinator) (name : Text) (g : Group) (reply : group.Reply) (answer : group.Answer) (new : Coordinator)
       → Makes succeeds room c (record { name = name; left = g; reply = reply }) answer new

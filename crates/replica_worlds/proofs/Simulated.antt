@@ -136,9 +136,6 @@ module _ (one_request : OneRequestABody) (one_answer : OneAnswer) (always : Alwa
           (frame_as to_world node d.request.body (stamp_of_entry e) at d.answer d.log.coordinator
           (agrees one_request acts requests clients stamped pool s known follows.tracked k e d.request came d.is_pooled pooled) step)
 
-      at_moment : World
-      at_moment = record (shadow to_world s) { clock = at }
-
       delivers : DeliversIf (is_forgotten (restamped to_world node) d.heartbeat) (record (shadow to_world s) { clock = at }) d.request outcome (shadow to_world (over_log d.log d.after))
       delivers =
           subst (λ b. DeliversIf b (record (shadow to_world s) { clock = at }) d.request outcome (shadow to_world (over_log d.log d.after)))

@@ -1,6 +1,6 @@
 -- A map with each value changed, under the map's own operations.
-use Rattle.std.proofs.Common.{◌≡◌, Bool, true, false, cond, ◌&&◌, ◌||◌, List, [], ◌∷◌, map, length, Option, Some, None, is_some, is_lt, T, refl, sym, ap, subst, ◌∙◌}
-use Rattle.std.specs.List.{filter, list_any}
+use Rattle.std.proofs.Common.{◌≡◌, Bool, true, false, cond, ◌&&◌, List, [], ◌∷◌, map, length, Option, Some, None, is_some, is_lt, T, refl, sym, ap, subst, ◌∙◌}
+use Rattle.std.specs.List.{filter}
 use Rattle.std.specs.Option.{option_map}
 use Rattle.std.specs.Ordering.{eq_by_cmp}
 use Rattle.std.specs.FinMap as finite
@@ -10,10 +10,6 @@ use Rattle.std.proofs.lemmas.List.{length-map}
 use Rattle.group_types.specs.Text.{Text, text_cmp}
 use Rattle.group_types.proofs.Orders.{text_cmp_total, text_cmp-IsAntisymmetric}
 use Rattle.replica_worlds.specs.Restamped.{with_values}
-
-pub any_map : {X Y : Type 0} (p : Y → Bool) (h : X → Y) (xs : List X) → list_any p (map h xs) ≡ list_any (λ x. p (h x)) xs
-any_map p h [] = refl
-any_map p h (x ∷ xs) = ap (λ b. p (h x) || b) (any_map p h xs)
 
 pub is_some_mapped : {X Y : Type 0} (h : X → Y) (o : Option X) → is_some (option_map h o) ≡ is_some o
 is_some_mapped h None = refl
