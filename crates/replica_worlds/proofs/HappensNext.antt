@@ -1,12 +1,11 @@
 -- What a step does in a world over replicas.
-use Rattle.std.proofs.Common.{◌≡◌, ◌≢◌, ℕ, ℤ, List, [], ◌∷◌, ◌++◌, map, Option, Some, None, IsTrue, inl, inr, refl, sym, ap, subst, ◌∙◌}
+use Rattle.std.proofs.Common.{◌≡◌, ℕ, ℤ, List, [], ◌∷◌, ◌++◌, map, Option, Some, None, IsTrue, inl, inr, refl, sym, ap, subst, ◌∙◌}
 use Rattle.std.specs.Option.{option_map}
 use Rattle.std.specs.FinMap as finite
 use Rattle.kip_msgs.specs.Values.{CommitReplyValue}
 use Rattle.kip_msgs.specs.Laws.{OneRequestABody}
 use Rattle.group_types.specs.declared.partition.Partition.{Partition}
 use Rattle.group_types.specs.declared.stamp.Stamp.{Stamp}
-use Rattle.group_types.specs.Text.{Text}
 use Rattle.group_types.specs.Sets.{has}
 use Rattle.group_types.specs.Assignors.{Subscriber}
 use Rattle.group_types.specs.Owners.{IsLawful}
@@ -16,11 +15,11 @@ use Rattle.coord_node.specs.Laws.{OneAnswer}
 use Rattle.member_core.specs.Settings.{Settings}
 use Rattle.member_core.specs.Client.{new_client}
 use Rattle.replica_entries.specs.Values.{EntryValue}
-use Rattle.world_sim.specs.World.{Commit, Request, World, numbered}
+use Rattle.world_sim.specs.World.{Commit, Request, numbered}
 use Rattle.world_sim.specs.Acts.{ActStep, Bring, IsAnswered, Outcome}
 use Rattle.world_sim.specs.Exclusivity.{ActsLawfully, Always, BringsHeld, HasCode, HasLawfulTarget, IsOfTaken, RenewsLawfully, target_epoch_of}
 use Rattle.world_sim.specs.Invariant.{Keeps}
-use Rattle.replica_worlds.specs.ReplicaWorlds.{AreStamped, Brings, IsBrought, ReplicaAct, ReplicaRun, ReplicaStep, ReplicaWorld, new_replica_world, over_log, world_of}
+use Rattle.replica_worlds.specs.ReplicaWorlds.{Brings, IsBrought, ReplicaAct, ReplicaWorld, new_replica_world, over_log, world_of}
 use Rattle.replica_worlds.specs.Laws.{BringHeldOverReplicas, HappensNext, RenewLawfullyOverReplicas}
 use Rattle.replica_worlds.proofs.WithValues.{get_changed}
 use Rattle.replica_worlds.proofs.RestampedMembers.{group_of}
@@ -28,7 +27,7 @@ use Rattle.replica_worlds.proofs.RestampedDrafts.{subscribers_as}
 use Rattle.replica_worlds.proofs.Pools.{PoolKeeps, empty_pool, pool_grows, pool_keeps, run_pool, step_pool}
 use Rattle.replica_worlds.proofs.CameUnder.{world_stamp}
 use Rattle.replica_worlds.proofs.Shadows.{shadow}
-use Rattle.replica_worlds.proofs.Simulated.{Follows, IsLed, Steps, brought, clocked, led_clocked, run_follows, start_follows, steps}
+use Rattle.replica_worlds.proofs.Simulated.{Follows, IsLed, Steps, brought, led_clocked, run_follows, start_follows, steps}
 
 in_longer : {X : Type 0} (xs : List X) (y x : X) → In xs x → In (xs ++ y ∷ []) x
 in_longer [] y x there = absurd there
