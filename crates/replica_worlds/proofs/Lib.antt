@@ -1,0 +1,16 @@
+pub mod WithValues
+pub mod RestampedMembers
+pub mod RestampedDrafts
+pub mod RestampedSteps
+pub mod RestampedNodes
+pub mod StampOrder
+pub mod Pools
+pub mod CameUnder
+pub mod Shadows
+pub mod SeenStamps
+pub mod Simulated
+pub mod Carried
+pub mod Logged
+pub mod Replied
+pub mod TwoLeaderships
+pub mod HappensNext
