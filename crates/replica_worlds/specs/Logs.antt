@@ -1,4 +1,4 @@
--- The log of a world over replicas, and the replicas that apply it.
+-- The log of a world over replicas, and the replicas that apply it (ours).
 use Rattle.std.specs.Prelude.{◌≡◌, ℕ, List, length, Contains, Option, Some, None}
 use Rattle.std.specs.List.{filter_map}
 use Rattle.group_types.specs.Frames.{IsFrame}
