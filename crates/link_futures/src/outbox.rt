@@ -268,15 +268,16 @@ fn drop_replies(replies: &mut VecDeque<Reply>, count: usize)
     }
 }
 
-/// The room of a buffer that is written, where it is small and nobody else has the buffer.
+/// The room of a buffer that is written, where it is small and nobody else has the buffer. Its bytes aren't moved.
 fn room_of(written: Option<Bytes>) -> Option<Vec<u8>>
     ensures { IfSome result (λ room. room.items ≡ []) }
 {
-    let mut room = written?.reclaim()?.into_vec().ok()?;
+    let mut written = written?;
+    written.clear();
+    let room = written.reclaim()?.into_vec().ok()?;
     if KEPT < room.capacity() {
         return None;
     }
-    room.clear();
     Some(room)
 }
 
