@@ -1,5 +1,5 @@
 -- What a slot is for: a coordinator by itself, or a replica.
-use Rattle.std.specs.Prelude.{Bool, true, false, Option, Some, None}
+use Rattle.std.specs.Prelude.{Bool, true, false}
 use Rattle.coord_node.specs.Coordinator.{Coordinator}
 use Rattle.coord_replica.specs.Replicas.{ReplicaState}
 use Rattle.coord_c.specs.declared.machine.Machine.{Machine}

@@ -1,11 +1,11 @@
 -- Along a log neither leaderships nor moments fall.
-use Rattle.std.proofs.Common.{◌≡◌, ℕ, zero, suc, ◌+◌, ◌<◌, ◌≤◌, List, [], ◌∷◌, length, get_or, Option, Some, None, refl, sym, ap, subst, ◌∙◌, arith}
+use Rattle.std.proofs.Common.{◌≡◌, ℕ, zero, suc, ◌<◌, ◌≤◌, List, [], ◌∷◌, length, get_or, Option, Some, None, subst, arith}
 use Rattle.std.specs.Prelude.{unwrap_or}
 use Rattle.std.specs.List.Sorted.{IsNonDecreasing}
 use Rattle.std.specs.List.{cons_option}
 use Rattle.coord_node.specs.Coordinator.{Answer}
 use Rattle.replica_entries.specs.Values.{EntryValue}
-use Rattle.coord_replica.specs.Applying.{Applies, LogRun, leadership_due, moment_after}
+use Rattle.coord_replica.specs.Applying.{LogRun, leadership_due}
 use Rattle.coord_replica.specs.Entries.{leaderships_of, moment_in, moments_of}
 use Rattle.coord_replica.specs.Laws.{NeverFall}
 use Rattle.coord_replica.specs.Replicas.{LogState}

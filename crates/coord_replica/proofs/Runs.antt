@@ -1,8 +1,8 @@
 -- Runs over a log as the coordinator's runs.
-use Rattle.std.proofs.Common.{◌≡◌, ℕ, ◌+◌, List, [], ◌∷◌, ◌++◌, length, Option, Some, None, refl, sym, ap, subst, ◌∙◌, arith}
+use Rattle.std.proofs.Common.{◌≡◌, ℕ, ◌+◌, List, [], ◌∷◌, ◌++◌, length, Option, Some, None, refl, ap, subst, arith}
 use Rattle.std.specs.List.{cons_option}
 use Rattle.coord_node.specs.Coordinator.{Coordinator, Event, Answer}
-use Rattle.coord_node.specs.Steps.{Step, Run}
+use Rattle.coord_node.specs.Steps.{Run}
 use Rattle.replica_entries.specs.Values.{EntryValue}
 use Rattle.coord_replica.specs.Applying.{Applies, EventStep, LogRun, answers_given}
 use Rattle.coord_replica.specs.Entries.{event_of, events_of}

@@ -1,5 +1,5 @@
 -- A log comes to one state, and has one list of answers.
-use Rattle.std.proofs.Common.{◌≡◌, ℕ, List, [], ◌∷◌, Option, Some, None, refl, sym, ap, subst, ◌∙◌}
+use Rattle.std.proofs.Common.{◌≡◌, List, [], ◌∷◌, Option, Some, None, refl, sym, ap, subst, ◌∙◌}
 use Rattle.coord_node.specs.Coordinator.{Coordinator, Event, Answer}
 use Rattle.coord_node.specs.Laws.{OneAnswer}
 use Rattle.replica_entries.specs.Values.{EntryValue}

@@ -12,7 +12,7 @@ use Rattle.replica_snapshots.proofs.NodeLaws.{one_coordinator}
 use Rattle.replica_snapshots.proofs.PlaceLaws.{place_begins}
 use Rattle.replica_snapshots.proofs.SectionLaws.{sections_make_the_node}
 use Rattle.coord_replica.specs.Laws.{OneStateASnapshot, PartsFollow, SectionsMakeASnapshot}
-use Rattle.coord_replica.specs.Snapshots.{in_front, part, place_of}
+use Rattle.coord_replica.specs.Snapshots.{in_front, place_of}
 
 -- ---- one state
 

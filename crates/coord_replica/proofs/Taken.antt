@@ -1,8 +1,8 @@
 -- What a leader proposed is taken.
-use Rattle.std.proofs.Common.{◌≡◌, ◌≢◌, ℕ, ◌≤◌, Option, Some, None, refl, sym, ap, ◌∙◌, arith}
+use Rattle.std.proofs.Common.{◌≡◌, ℕ, ◌≤◌, Option, Some, None, refl, sym, ap, ◌∙◌, arith}
 use Rattle.std.specs.Prelude.{IfSome, IsSome, unwrap_or}
 use Rattle.replica_entries.specs.Values.{ContentValue, EntryValue, frame, tick, image, leads}
-use Rattle.coord_replica.specs.Applying.{leadership_due, moment_after, refusal_of}
+use Rattle.coord_replica.specs.Applying.{leadership_due, refusal_of}
 use Rattle.coord_replica.specs.Entries.{event_under, moment_in}
 use Rattle.coord_replica.specs.Proposing.{Proposes}
 use Rattle.coord_replica.specs.Replicas.{LogState, ReplicaState}

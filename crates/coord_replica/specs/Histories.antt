@@ -5,7 +5,7 @@ use Rattle.coord_node.specs.Coordinator.{Answer}
 use Rattle.replica_entries.specs.Values.{EntryValue}
 use Rattle.coord_replica.specs.Applying.{Applies, LogRun, moved_to}
 use Rattle.coord_replica.specs.Proposing.{Proposes, begun, next_leadership}
-use Rattle.coord_replica.specs.Replicas.{LogState, ReplicaState, following, log_opening, replica_opening}
+use Rattle.coord_replica.specs.Replicas.{LogState, ReplicaState, following, replica_opening}
 
 -- an answer that a replica gave to the entry of a place
 pub record Given : Type 0 where

@@ -1,5 +1,5 @@
 -- What holds of every run over a log, and after every history of replicas (ours).
-use Rattle.std.specs.Prelude.{◌≡◌, ℕ, ◌<◌, ◌≤◌, ◌^◌, List, [], ◌∷◌, ◌++◌, length, All, Contains, Option, None, IfSome}
+use Rattle.std.specs.Prelude.{◌≡◌, ℕ, ◌<◌, ◌≤◌, List, ◌++◌, length, All, Contains, Option, None, IfSome}
 use Rattle.std.specs.List.Sorted.{IsNonDecreasing}
 use Rattle.coord_node.specs.Coordinator.{Answer, opening}
 use Rattle.coord_node.specs.Steps.{Run}

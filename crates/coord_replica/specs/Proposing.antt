@@ -3,7 +3,7 @@ use Rattle.std.specs.Prelude.{◌≡◌, ℕ, ◌+◌, ◌-◌, ◌^◌, ◌<◌
 use Rattle.std.specs.declared.cmp.Ordering.TheVariants.{Less}
 use Rattle.group_types.specs.declared.stamp.Stamp.{Stamp}
 use Rattle.group_types.specs.Stamp.{stamp_cmp}
-use Rattle.replica_entries.specs.Values.{ContentValue, EntryValue, frame, tick, image, leads}
+use Rattle.replica_entries.specs.Values.{ContentValue, EntryValue, frame, leads}
 use Rattle.replica_entries.specs.Spelling.{FitsEntry, entry_fields}
 use Rattle.replica_entries.specs.Misfits.{Misfits}
 use Rattle.coord_replica.specs.declared.leading.Leading.{Leading}

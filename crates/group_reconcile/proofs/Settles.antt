@@ -1,19 +1,16 @@
 -- A member is settled on its next partitions: what the cells and the member table say then.
-use Rattle.std.proofs.Common.{◌≡◌, ◌⊎◌, inl, inr, ℕ, Bool, true, false, cond, ◌&&◌, ◌||◌, ◌==◌, List, [], ◌∷◌, refl, sym, ap, subst, ◌∙◌, Option, Some, None, is_some, true≢false}
-use Rattle.std.specs.List.{AllByRecursion, list_any}
+use Rattle.std.proofs.Common.{◌≡◌, ◌⊎◌, inl, inr, ℕ, Bool, true, false, cond, ◌&&◌, ◌==◌, List, [], refl, sym, ap, ◌∙◌, Option, Some, None, is_some, true≢false}
 use Rattle.std.specs.Option.{option_map, option_map_or}
 use Rattle.std.specs.Ordering.{eq_by_cmp}
-use Rattle.std.specs.Cmp.{eq_by_cmp_equiv}
 use Rattle.std.specs.FinMap as finite
 use Rattle.std.proofs.lemmas.Bool.Decides.{Decides-eqb, same_from_decides}
 use Rattle.slab.specs.Slab.{get}
 use Rattle.group_types.specs.declared.partition.Partition.{Partition}
 use Rattle.group_types.specs.Text.{Text, text_cmp}
-use Rattle.group_types.specs.Sets.{nothing, has, in_order}
+use Rattle.group_types.specs.Sets.{nothing, has}
 use Rattle.group_types.specs.Partition.{Partitions, partition_cmp}
 use Rattle.group_types.proofs.Lookups.{some_is}
 use Rattle.group_types.proofs.Orders.{partition_cmp_total, partition_cmp-IsAntisymmetric}
-use Rattle.group_types.proofs.SetLemmas.{has-in_order}
 use Rattle.group_reconcile.specs.declared.cell.Cell.{Cell}
 use Rattle.group_reconcile.specs.declared.members.Member.{Member}
 use Rattle.group_reconcile.specs.Granted.{AreConsistent, held_by, holders_of}
@@ -25,7 +22,7 @@ use Rattle.group_reconcile.specs.Tables.{Cells}
 use Rattle.group_reconcile.proofs.Granted.{get-holders_of, known}
 use Rattle.group_reconcile.proofs.Leaving.{named-known}
 use Rattle.group_reconcile.proofs.Numbers.{has_id-is}
-use Rattle.group_reconcile.proofs.Bools.{and_true, or_second, same_both}
+use Rattle.group_reconcile.proofs.Bools.{and_true, same_both}
 
 -- ---- since when
 

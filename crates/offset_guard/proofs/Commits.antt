@@ -1,5 +1,5 @@
 -- What a taken commit stores.
-use Rattle.std.proofs.Common.{◌≡◌, ℤ, Bool, true, false, cond, List, [], ◌∷◌, ◌++◌, map, Option, Some, None, is_some, refl, sym, ap, ◌∙◌, true≢false}
+use Rattle.std.proofs.Common.{◌≡◌, ℤ, Bool, true, false, cond, List, [], ◌∷◌, map, Option, Some, None, is_some, refl, sym, ap, ◌∙◌, true≢false}
 use Rattle.std.specs.FinMap as finite
 use Rattle.std.specs.List.{flat_map}
 use Rattle.std.specs.Option.{option_or}
@@ -14,7 +14,7 @@ use Rattle.group_types.specs.Group.{Offsets, place_cmp}
 use Rattle.group_types.specs.Commit.{Commit, Commitment, is_stored, named_commitments, with_offset, with_offsets, offsets_after}
 use Rattle.group_epochs.specs.Request.{commitment_of}
 use Rattle.offset_guard.specs.Requests.{topic_of}
-use Rattle.group_types.proofs.OffsetLemmas.{or_assoc, place_cmp_total, place_cmp-IsAntisymmetric, with_offsets-append}
+use Rattle.group_types.proofs.OffsetLemmas.{or_assoc, place_cmp_total, place_cmp-IsAntisymmetric}
 
 abbrev pub partition_commitments : Text → List CommitRequestPartition → List (Text × Commitment)
 partition_commitments name ps = map (λ x. (name, x)) (map commitment_of (map commit_request_partition_value ps))

@@ -1,26 +1,22 @@
 -- All that is committed, topic by topic in the order of the names.
-use Rattle.std.proofs.Common.{◌≡◌, ℤ, false, cond, T, List, [], ◌∷◌, ◌++◌, map, Bor, Option, Some, None, refl, sym, ap, subst, ◌∙◌, IsPermutation, String, Global}
+use Rattle.std.proofs.Common.{◌≡◌, ℤ, false, cond, T, List, [], ◌∷◌, map, Option, Some, None, refl, sym, ap, subst, ◌∙◌, String, Global}
 use Rattle.std.specs.FinMap as finite
 use Rattle.std.specs.FinMap.{is_sorted}
 use Rattle.std.specs.FinMap.Entries.{same_entries}
 use Rattle.std.specs.List.{AllByRecursion, IsDistinct, flat_map}
-use Rattle.std.specs.List.Sorted.{IsSortedBy}
 use Rattle.std.specs.Map.{keys_of, lookup}
-use Rattle.std.specs.Ordering.{eq_by_cmp, int_cmp, int_eq, is_lt}
-use Rattle.std.specs.Cmp.{int_cmp_total}
-use Rattle.std.specs.FinMap.{int_cmp-IsAntisymmetric}
+use Rattle.std.specs.Ordering.{eq_by_cmp, int_cmp, int_eq}
 use Rattle.std.specs.Str.{bytes_eq}
 use Rattle.std.specs.String.{string_bytes, string_eq}
-use Rattle.std.proofs.lemmas.Map.Keys.{IsDistinct-cons, IsDistinct-head, IsDistinct-tail}
 use Rattle.std.proofs.lemmas.Map.Text.{is_eq-slice_cmp}
 use Rattle.group_types.specs.Text.{Text, text_cmp}
 use Rattle.group_types.specs.Group.{Committed, place_cmp}
 use Rattle.group_types.proofs.OffsetLemmas.{place_cmp_total, place_cmp-IsAntisymmetric, eq-place}
 use Rattle.group_types.proofs.Orders.{text_cmp_total, text_cmp-IsAntisymmetric}
-use Rattle.offset_guard.specs.Topics.{IndexOffsets, TopicState, offset_in, offsets_in}
-use Rattle.offset_guard.specs.Listing.{entries_of_topic, indexed, named, topics_by_name}
+use Rattle.offset_guard.specs.Topics.{TopicState, offset_in, offsets_in}
+use Rattle.offset_guard.specs.Listing.{entries_of_topic, topics_by_name}
 use Rattle.offset_guard.proofs.Indexes.{int_eq-ties}
-use Rattle.offset_guard.proofs.InOrder.{entries_from_sort, find-all_rows, found_in, sorted-all_rows}
+use Rattle.offset_guard.proofs.InOrder.{find-all_rows, found_in, sorted-all_rows}
 use Rattle.offset_guard.proofs.Places.{get-offsets_in}
 
 -- ---- the offsets of one topic

@@ -1,21 +1,21 @@
 -- What is spelled is added, one behind the other.
-use Rattle.std.proofs.Common.{◌≡◌, ◌≢◌, ℕ, suc, ◌+◌, ◌-◌, ◌<◌, ◌≤◌, List, [], ◌∷◌, ◌++◌, length, Some, None, Result, Ok, Err, refl, sym, ap, subst, ◌∙◌, append_assoc, true≢false, arith}
+use Rattle.std.proofs.Common.{◌≡◌, ◌≢◌, ℕ, ◌+◌, ◌-◌, ◌<◌, ◌≤◌, List, [], ◌∷◌, ◌++◌, length, Some, None, Result, Ok, Err, refl, sym, ap, subst, ◌∙◌, append_assoc, true≢false, arith}
 use Rattle.std.specs.Prelude.{IsOk, MatchResult}
 use Rattle.std.specs.List.{flat_map, AllByRecursion}
 use Rattle.std.proofs.lemmas.List.Concat.{flat_map-cons}
 use Rattle.std.proofs.lemmas.List.Elements.{recursion_from_All}
 use Rattle.flex_wire.specs.Spelling.{array_count}
-use Rattle.flex_wire.specs.Composed.{array, FitsArray}
+use Rattle.flex_wire.specs.Composed.{array}
 use Rattle.replica_snapshots.specs.declared.fault.SnapshotFault.{SnapshotFault}
 use Rattle.replica_snapshots.specs.declared.fault.SnapshotFault.TheVariants.{NoMemory}
 use Rattle.group_types.specs.Partition.{Partitions}
 use Rattle.group_types.specs.Text.{Text}
 use Rattle.group_core.specs.Group.{GroupValue}
-use Rattle.replica_snapshots.specs.Building.{Adds, AddsArray, AddsEach, Built, CanEach, with_each, CanAddFormer, with_former, CanAddMember, with_part, CanAddOffset, with_committed, last_fields, FitLast, with_formers, with_members, with_last, CanAddLast}
+use Rattle.replica_snapshots.specs.Building.{Adds, AddsArray, AddsEach, Built, CanEach, with_each, CanAddFormer, with_former, CanAddMember, with_part, CanAddOffset, with_committed, last_fields, FitLast, with_members, with_last, CanAddLast}
 use Rattle.replica_snapshots.specs.Parts.{GroupParts}
 use Rattle.replica_snapshots.specs.Spelling.{former_fields, FitsFormer, member_fields, FitsMember, offset_fields, FitsOffset}
-use Rattle.replica_snapshots.specs.Reading.{Found, count_at}
-use Rattle.replica_snapshots.proofs.ReadingLaws.{IsRead, stopped, taken, count_is_read}
+use Rattle.replica_snapshots.specs.Reading.{count_at}
+use Rattle.replica_snapshots.proofs.ReadingLaws.{stopped, taken, count_is_read}
 
 module _ {S E : Type 0} (F : E → Type 0) (s : E → List ℕ) (Can : S → E → Type 0) (with_one : S → E → S) where
   -- of some elements, whose number is known, these are left, once so many were added

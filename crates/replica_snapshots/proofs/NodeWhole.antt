@@ -1,28 +1,26 @@
 -- The groups of a node that was written can be kept again, one after the other.
-use Rattle.std.proofs.Common.{◌≡◌, ◌≢◌, ℕ, suc, ◌+◌, ◌<◌, ◌≤◌, Bool, true, false, cond, List, [], ◌∷◌, ◌++◌, length, length-append, map, is_some, Option, Some, None, refl, sym, ap, subst, ◌∙◌, append_assoc, arith}
+use Rattle.std.proofs.Common.{◌≡◌, ℕ, suc, ◌+◌, ◌≤◌, Bool, true, false, cond, List, [], ◌∷◌, ◌++◌, length, map, is_some, Option, Some, None, refl, sym, ap, subst, ◌∙◌, append_assoc, arith}
 use Rattle.std.specs.List.{flat_map, AllByRecursion}
 use Rattle.std.specs.Ordering.{eq_by_cmp}
 use Rattle.std.specs.Cmp.{Equal-is, eq_by_cmp_equiv}
 use Rattle.std.specs.FinMap as finite
 use Rattle.std.specs.FinMap.Entries.{find}
 use Rattle.std.proofs.lemmas.List.{length-map}
-use Rattle.std.proofs.lemmas.List.Elements.{recursion_from_All}
 use Rattle.group_types.specs.Group.{Group}
 use Rattle.group_types.specs.Images.{AreImageTopics}
 use Rattle.group_types.specs.Limits.{MOST_GROUPS}
 use Rattle.group_types.specs.Text.{Text, text_cmp}
 use Rattle.group_types.specs.Topics.{Topics}
-use Rattle.group_types.proofs.Lookups.{no_tie, text_ties}
+use Rattle.group_types.proofs.Lookups.{text_ties}
 use Rattle.group_types.proofs.Orders.{text_cmp_total, text_cmp-IsAntisymmetric}
 use Rattle.coord_node.specs.Coordinator.{Coordinator, Groups}
-use Rattle.coord_node.specs.Restored.{CanBeKept, IsGroupId}
-use Rattle.coord_node.specs.Steps.{with_group}
+use Rattle.coord_node.specs.Restored.{IsGroupId}
 use Rattle.replica_snapshots.specs.declared.fault.SnapshotFault.{SnapshotFault}
 use Rattle.replica_snapshots.specs.declared.fault.SnapshotFault.TheVariants.{Wire, BadValue, Unsound, Respelled, TooLong, NoMemory}
-use Rattle.replica_snapshots.specs.Building.{CanEach, with_each}
+use Rattle.replica_snapshots.specs.Building.{CanEach}
 use Rattle.replica_snapshots.specs.Faults.{fault_number}
-use Rattle.replica_snapshots.specs.Groups.{Named, named_fields, FitsNamed}
-use Rattle.replica_snapshots.specs.Nodes.{NodeValue, head_fields, head_of, node_fields, state_of, IsOf, SpellsNode}
+use Rattle.replica_snapshots.specs.Groups.{Named, named_fields}
+use Rattle.replica_snapshots.specs.Nodes.{NodeValue, head_fields, head_of, state_of, IsOf, SpellsNode}
 use Rattle.replica_snapshots.specs.Restoring.{CanBeNode, CanKeep, keeping}
 use Rattle.replica_snapshots.proofs.Inserted.{KeysApart, none_found, still_none}
 use Rattle.replica_snapshots.proofs.NodeLaws.{bare}

@@ -1,8 +1,8 @@
 -- The former members, the grants and the members of a sound group can be added again, one after the other.
-use Rattle.std.proofs.Common.{◌≡◌, ◌≢◌, ℕ, ℤ, pos, negsuc, ◌+◌, ◌<◌, ◌≤◌, Bool, true, false, cond, ◌||◌, ◌&&◌, List, [], ◌∷◌, ◌++◌, length, length-append, map, is_some, is_none, Option, Some, None, refl, sym, ap, subst, ◌∙◌, append_assoc, append-nil, arith}
-use Rattle.std.specs.Prelude.{IsTrue, unwrap_or}
+use Rattle.std.proofs.Common.{◌≡◌, ℕ, ℤ, pos, negsuc, ◌+◌, ◌<◌, ◌≤◌, Bool, true, false, cond, ◌||◌, ◌&&◌, List, [], ◌∷◌, ◌++◌, length, length-append, map, is_some, is_none, Option, Some, None, refl, sym, ap, subst, ◌∙◌, append_assoc, append-nil, arith}
+use Rattle.std.specs.Prelude.{IsTrue}
 use Rattle.std.specs.List.{AllByRecursion, list_any}
-use Rattle.std.specs.Option.{option_map, option_map_or}
+use Rattle.std.specs.Option.{option_map_or}
 use Rattle.std.specs.Ordering.{eq_by_cmp}
 use Rattle.std.specs.Cmp.{Equal-is, eq_by_cmp_equiv}
 use Rattle.std.specs.FinMap as finite
@@ -18,16 +18,16 @@ use Rattle.group_types.specs.Partition.{Partitions, partition_cmp}
 use Rattle.group_types.specs.Sets.{in_order}
 use Rattle.group_types.specs.Sound.{IsPast}
 use Rattle.group_types.specs.Text.{Text, text_cmp}
-use Rattle.group_types.proofs.Lookups.{not_none, same_text, some_is, text_ties}
-use Rattle.group_types.proofs.Orders.{partition_cmp_total, partition_cmp-IsAntisymmetric, partition_cmp-itself, text_cmp_total}
+use Rattle.group_types.proofs.Lookups.{not_none, same_text, text_ties}
+use Rattle.group_types.proofs.Orders.{partition_cmp_total, partition_cmp-IsAntisymmetric, text_cmp_total}
 use Rattle.group_types.proofs.PastLemmas.{first_differs, not_past}
 use Rattle.group_types.proofs.SetLemmas.{has-in_order}
-use Rattle.group_reconcile.specs.Holders.{Held, Holders, granted_at, holds, is_from_zero, pairs}
+use Rattle.group_reconcile.specs.Holders.{Held, Holders, holds, is_from_zero, pairs}
 use Rattle.group_reconcile.proofs.Pairs.{has-held_pairs}
 use Rattle.group_core.specs.Group.{GroupValue}
 use Rattle.group_core.specs.Restoring.{with_member}
 use Rattle.replica_snapshots.specs.Building.{Built, CanEach, with_each, CanAddFormer, with_former, CanAddGrant, with_grant, CanAddMember, with_part}
-use Rattle.replica_snapshots.specs.Groups.{HeldGroup, FitsGroup, parts_of}
+use Rattle.replica_snapshots.specs.Groups.{HeldGroup, FitsGroup}
 use Rattle.replica_snapshots.specs.Parts.{MemberPart, grant_of, grants_of, member_part}
 use Rattle.replica_snapshots.specs.Spelling.{FitsGrant, FitsMember}
 use Rattle.replica_snapshots.proofs.Inserted.{KeysApart, apart_sorted, kept_by}

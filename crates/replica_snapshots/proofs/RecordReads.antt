@@ -1,35 +1,30 @@
 -- The fields of a group, as they are spelled, are read.
-use Rattle.std.proofs.Common.{◌≡◌, ℕ, suc, ℤ, pos, ◌<◌, ◌≤◌, Bool, true, false, List, [], ◌∷◌, ◌++◌, length, map, Option, Some, None, refl, sym, ap, ◌∙◌, append_assoc, arith}
-use Rattle.std.specs.Prelude.{IfSome, FitsSigned}
+use Rattle.std.proofs.Common.{◌≡◌, ℕ, suc, ℤ, pos, Bool, true, false, List, [], ◌∷◌, ◌++◌, length, map, Option, Some, None, refl, ap, ◌∙◌, append_assoc}
+use Rattle.std.specs.Prelude.{IfSome}
 use Rattle.std.specs.List.{flat_map, AllByRecursion}
 use Rattle.std.proofs.lemmas.Bool.{le-ltb, lt-ltb}
 use Rattle.std.proofs.lemmas.List.Concat.{flat_map-cons}
 use Rattle.std.proofs.lemmas.List.Elements.{recursion_from_All}
 use Rattle.flex_wire.specs.Spelling.{int32, int64, uuid, array_count, compact_string, FitsText, mark}
-use Rattle.flex_wire.specs.Composed.{array, FitsArray}
-use Rattle.flex_wire.specs.Reading.{mark_at}
+use Rattle.flex_wire.specs.Composed.{array}
 use Rattle.flex_wire.proofs.MarkLaws.{mark_is_field}
 use Rattle.group_types.specs.declared.assignor_name.AssignorName.{AssignorName}
 use Rattle.group_types.specs.declared.assignor_name.AssignorName.TheVariants.{Range, Uniform}
 use Rattle.group_types.specs.declared.epoch.Epoch.{Epoch}
 use Rattle.group_types.specs.declared.epoch.Epoch.TheVariants.{At, Away}
 use Rattle.group_types.specs.declared.partition.Partition.{Partition}
-use Rattle.group_types.specs.declared.stamp.Stamp.{Stamp}
 use Rattle.group_types.specs.AssignorName.{assignor_text, assignor_named}
 use Rattle.group_types.specs.Epoch.{number_of}
-use Rattle.group_types.specs.Group.{Committed, Record}
-use Rattle.group_types.specs.Limits.{LONGEST_METADATA, MOST_TOPIC_PARTITIONS}
-use Rattle.group_types.specs.Owners.{is_index}
+use Rattle.group_types.specs.Group.{Committed}
 use Rattle.group_types.specs.Partition.{Partitions}
 use Rattle.group_types.specs.Sets.{in_order, nothing, of_list, with_one}
 use Rattle.group_types.specs.Text.{Text}
 use Rattle.group_types.specs.Topics.{Names}
 use Rattle.group_types.proofs.ListSets.{of_list-in_order, with_all, with_all-nothing}
 use Rattle.group_types.proofs.Orders.{text_cmp_total, text_cmp-IsAntisymmetric, partition_cmp_total, partition_cmp-IsAntisymmetric}
-use Rattle.replica_snapshots.specs.declared.numbers.Numbers.{Numbers}
 use Rattle.replica_snapshots.specs.Parts.{MemberPart}
-use Rattle.replica_snapshots.specs.Reading.{Found, ◌>>=◌, wire, present_at, optional_at, epoch_at, member_epoch_at, timeout_at, stamp_at, index_at, index_of, partition_at, partitions_at, names_into, names_at, assignor_at, numbers_at, former_at, record_at, grant_at, short_metadata, metadata_at, committed_at, text_at}
-use Rattle.replica_snapshots.specs.Spelling.{number64, FitsNumber, FitsMillis, FitsIndex, epoch_field, FitsEpoch, optional, stamp_fields, FitsStamp, partition_fields, FitsPartition, partitions_field, FitsPartitions, names_field, FitsNames, assignor_field, FitsAssignor, identity_fields, wishes_fields, progress_fields, deadlines_fields, record_fields, FitsRecord, grant_fields, FitsGrant, former_fields, FitsFormer, FitsMetadata, committed_fields, FitsCommitted, epochs_fields, numbers_fields, FitsNumbers, offset_fields, member_fields}
+use Rattle.replica_snapshots.specs.Reading.{Found, wire, present_at, optional_at, epoch_at, member_epoch_at, timeout_at, stamp_at, index_at, partition_at, partitions_at, names_into, names_at, assignor_at, numbers_at, former_at, record_at, grant_at, short_metadata, metadata_at, committed_at}
+use Rattle.replica_snapshots.specs.Spelling.{number64, FitsMillis, FitsIndex, epoch_field, FitsEpoch, optional, stamp_fields, FitsStamp, partition_fields, FitsPartition, partitions_field, FitsPartitions, names_field, FitsNames, assignor_field, FitsAssignor, identity_fields, wishes_fields, progress_fields, deadlines_fields, record_fields, FitsRecord, grant_fields, FitsGrant, former_fields, FitsFormer, FitsMetadata, committed_fields, FitsCommitted, epochs_fields, numbers_fields, FitsNumbers, offset_fields, member_fields}
 use Rattle.replica_snapshots.proofs.FieldLaws.{epoch_fits, index_fits, millis_fit}
 use Rattle.replica_snapshots.proofs.ReadingLaws.{IsRead, number_is_read, int32_is_read, int64_is_read, id_is_read, count_is_read, text_is_read, list_again}
 

@@ -1,12 +1,10 @@
 -- What a coordinator comes to, whatever it serves, can be a node's.
-use Rattle.std.proofs.Common.{◌≡◌, ◌≢◌, ℕ, ◌+◌, ◌<◌, ◌≤◌, Bool, true, false, cond, ◌||◌, List, [], ◌∷◌, length, map, is_some, Option, Some, None, nat_lt, refl, sym, ap, subst, ◌∙◌, true≢false, arith, inl, inr}
-use Rattle.std.specs.Prelude.{◌⊎◌}
+use Rattle.std.proofs.Common.{◌≡◌, ◌≢◌, ℕ, ◌+◌, ◌<◌, ◌≤◌, Bool, true, false, cond, ◌||◌, List, [], ◌∷◌, length, map, is_some, Option, Some, None, refl, sym, ap, subst, ◌∙◌, true≢false, arith, inl, inr}
 use Rattle.std.specs.Ordering.{eq_by_cmp}
 use Rattle.std.specs.FinMap as finite
 use Rattle.std.specs.FinMap.Entries.{find}
 use Rattle.std.proofs.lemmas.Bool.{ltb-true}
 use Rattle.std.proofs.lemmas.List.{length-map}
-use Rattle.group_types.specs.declared.code.Code.{Code}
 use Rattle.group_types.specs.declared.code.Code.TheVariants as codes
 use Rattle.group_types.specs.declared.stamp.Stamp.{Stamp}
 use Rattle.group_types.specs.Checks.{Refused, Sender, Verdict, sender_of, verdict_on}
@@ -14,16 +12,14 @@ use Rattle.group_types.specs.Commit.{Commit, CommitReply}
 use Rattle.group_types.specs.Group.{Group}
 use Rattle.group_types.specs.HeartbeatStep.{Arrival, ByVerdict, HeartbeatStep, Reply, StepOf, refusal}
 use Rattle.group_types.specs.HeartbeatStep as group
-use Rattle.group_types.specs.Images.{AreImageTopics}
 use Rattle.group_types.specs.Limits.{MOST_GROUPS}
 use Rattle.group_types.specs.Request.{Heartbeat, Kind, Joins, Beats, Leaves, GoesAway, MeansNothing, is_empty, is_invalid, is_invalid_as, kind_of}
 use Rattle.group_types.specs.Text.{Text, text_cmp}
 use Rattle.group_types.specs.Tick.{ticked}
-use Rattle.group_types.specs.Topics.{Topics}
 use Rattle.group_types.proofs.Lookups.{not_none, same_text}
 use Rattle.group_types.proofs.Orders.{text_cmp_total}
 use Rattle.kip_msgs.specs.Values.{RequestValue, heartbeat_request, commit_request}
-use Rattle.coord_node.specs.Coordinator.{Answer, Coordinator, Event, Frame, Groups, Tick, Image, opening}
+use Rattle.coord_node.specs.Coordinator.{Answer, Coordinator, Event, Frame, Tick, Image, opening}
 use Rattle.coord_node.specs.Restored.{IsGroupId}
 use Rattle.coord_node.specs.Steps.{CommitAt, HeartbeatAt, IsRequest, Makes, MakesBy, Opening, RequestStep, RunBy, Step, all_ticked, has_room, is_success, with_group}
 use Rattle.coord_node.proofs.SoundGroups.{opening_serves}

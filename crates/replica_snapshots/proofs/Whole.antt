@@ -1,14 +1,14 @@
 -- A group that is built of the parts of a sound one is that group.
-use Rattle.std.proofs.Common.{◌≡◌, ℕ, suc, true, ◌+◌, ◌-◌, ◌<◌, ◌≤◌, List, [], ◌∷◌, ◌++◌, length, map, is_some, cond, Option, Some, None, Result, Ok, Err, refl, sym, ap, subst, ◌∙◌, append_assoc, append-nil, arith}
+use Rattle.std.proofs.Common.{◌≡◌, ℕ, suc, true, ◌+◌, ◌-◌, ◌≤◌, List, [], ◌∷◌, ◌++◌, length, map, is_some, cond, Option, Some, None, Result, Ok, Err, refl, sym, ap, subst, ◌∙◌, append_assoc, append-nil, arith}
 use Rattle.std.specs.Prelude.{MatchResult}
 use Rattle.std.specs.FinMap as finite
 use Rattle.std.specs.FinMap.Entries.{find}
 use Rattle.std.specs.List.{AllByRecursion}
 use Rattle.std.proofs.lemmas.List.Elements.{recursion_from_All}
 use Rattle.flex_wire.specs.Composed.{array}
-use Rattle.group_types.specs.Group.{Committed, Group, Grants, Offsets, Past, Record, Records, place_cmp}
+use Rattle.group_types.specs.Group.{Group, Offsets, Past, Record, Records, place_cmp}
 use Rattle.group_types.specs.Partition.{Partitions, partition_cmp}
-use Rattle.group_types.specs.Sets.{nothing, of_list}
+use Rattle.group_types.specs.Sets.{of_list}
 use Rattle.group_types.specs.declared.partition.Partition.{Partition}
 use Rattle.std.proofs.lemmas.List.{nil_from_length}
 use Rattle.group_types.specs.Sound.{IsSound}
@@ -29,12 +29,11 @@ use Rattle.replica_snapshots.specs.declared.numbers.Numbers.{Numbers}
 use Rattle.replica_snapshots.specs.Views.{held_of}
 use Rattle.replica_snapshots.specs.Groups.{HeldGroup, group_fields, FitsGroup, numbers_of, parts_of}
 use Rattle.replica_snapshots.specs.Parts.{MemberPart, member_part}
-use Rattle.replica_snapshots.specs.Spelling.{FitsMember, former_fields, lists_fields, member_fields, numbers_fields, offset_fields, parts_fields, topic_fields}
+use Rattle.replica_snapshots.specs.Spelling.{FitsMember, lists_fields, numbers_fields, parts_fields, topic_fields}
 use Rattle.replica_snapshots.proofs.GroupLaws.{holders_have, owners_have}
 use Rattle.replica_snapshots.proofs.Inserted.{KeysApart, apart_sorted, can_insert, can_seen, each_again, holds_on, inserting, kept_by, none_in_empty, pushed, seen_by}
 use Rattle.replica_snapshots.proofs.Rebuilt.{IsAt, formers_can_be_added, members_can, of_none, of_those}
 use Rattle.replica_snapshots.proofs.Shares.{all_shares, are_shares, share_for, shares_of_members, target_again}
-use Rattle.replica_snapshots.proofs.Told.{some_value}
 
 -- what a member's part leaves is left
 kept_by_part : {V : Type 0} (f : GroupValue → V) → ((v : GroupValue) (m : MemberPart) → f (with_part (v, []) m).0 ≡ f v) → (b : Built) (ms : List MemberPart) → f (with_each with_part b ms).0 ≡ f b.0

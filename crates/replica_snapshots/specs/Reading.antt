@@ -1,6 +1,6 @@
 -- Reading what a snapshot is made of from the front of bytes: its value and the bytes behind it, or none. That what is spelled
 -- is read is a law of each reader; in what is promised of whole parts only the spelling is named.
-use Rattle.std.specs.Prelude.{◌≡◌, ◌≢◌, ℕ, zero, suc, ℤ, pos, negsuc, ◌^◌, ◌≤◌, nat_lt, Bool, true, false, List, [], ◌∷◌, length, Option, Some, None, Result, Ok, Err, if◌then◌else◌}
+use Rattle.std.specs.Prelude.{◌≡◌, ◌≢◌, ℕ, zero, suc, ℤ, pos, negsuc, ◌^◌, nat_lt, Bool, true, false, List, [], ◌∷◌, length, Option, Some, None, Result, Ok, Err, if◌then◌else◌}
 use Rattle.std.specs.Int.{w16, w32, w64, from_be_bytes}
 use Rattle.std.specs.Ordering.{int_eq}
 use Rattle.flex_wire.specs.Reading.{Read, bytes_at, signed_at, uuid_at, array_count_at, mark_at, compact_string_at}

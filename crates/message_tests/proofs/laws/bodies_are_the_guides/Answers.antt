@@ -1,5 +1,5 @@
 use Rattle.std.proofs.Common.{refl}
-use Rattle.flex_wire.specs.Spelling.{signed, varint, varint_groups, compact_string, compact_nullable_string, nullable_string, tagged_field, tagged_fields, array_count, nullable_array_count}
+use Rattle.flex_wire.specs.Spelling.{signed, varint, varint_groups, compact_string, compact_nullable_string, nullable_string, tagged_field, tagged_fields, array_count}
 use Rattle.kip_msgs.specs.Spelling.{request_body, reply_body, request_header_fields, response_header_fields, heartbeat_request_fields, heartbeat_reply_fields, topic_partitions_fields, assignment_fields, nullable_struct, commit_request_fields, commit_request_topic_fields, commit_request_partition_fields, commit_reply_fields, commit_reply_topic_fields, commit_reply_partition_fields}
 use Rattle.message_tests.proofs.laws.bodies_are_the_guides.Goals as goal
 

@@ -1,5 +1,4 @@
 use Rattle.std.proofs.Common.{◌≡◌, ℕ, List, ◌++◌, true≢false, sym, ap, subst, ◌∙◌}
-use Rattle.std.specs.Prelude.{IsOk}
 use Rattle.std.proofs.lemmas.Result.{err_from_is_err_and}
 use Rattle.flex_wire.specs.Composed.{array}
 use Rattle.group_types.specs.Group.{Record}

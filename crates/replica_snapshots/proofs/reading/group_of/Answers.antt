@@ -6,7 +6,7 @@ use Rattle.range_assign.specs.Shares.{shares_in}
 use Rattle.group_core.specs.Restoring.{nothing_restored}
 use Rattle.replica_snapshots.specs.declared.numbers.Numbers.{Numbers}
 use Rattle.replica_snapshots.specs.Building.{Built, CanAddLast, last_fields, with_last}
-use Rattle.replica_snapshots.specs.Groups.{HeldGroup, FitsGroup, group_fields, numbers_of, parts_of}
+use Rattle.replica_snapshots.specs.Groups.{HeldGroup, numbers_of, parts_of}
 use Rattle.replica_snapshots.specs.Spelling.{topic_fields}
 use Rattle.replica_snapshots.specs.Views.{held_of, unread}
 use Rattle.replica_snapshots.specs.declared.fault.SnapshotFault.TheVariants.{NoMemory}

@@ -1,4 +1,4 @@
-use Rattle.std.proofs.Common.{◌≡◌, ◌≤◌, Some, option_map, refl, sym, ap, subst, ◌∙◌, append-nil, arith}
+use Rattle.std.proofs.Common.{◌≡◌, ◌≤◌, Some, option_map, refl, sym, ap, subst, ◌∙◌, append-nil}
 use Rattle.group_types.specs.Images.{AreImageTopics}
 use Rattle.group_types.specs.Topics.{Topics}
 use Rattle.topic_meta.specs.Images.{entries_of}
