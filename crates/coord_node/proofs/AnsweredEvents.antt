@@ -1,5 +1,5 @@
 -- Whatever comes to a coordinator that serves has its answer: the step that there is, and the frame that spells it.
-use Rattle.std.proofs.Common.{◌≡◌, ℕ, ◌≤◌, ◌<◌, ◌+◌, ◌^◌, ℤ, pos, Bool, true, false, cond, ◌||◌, List, [], ◌∷◌, ◌++◌, length, map, Ok, Err, Option, option_map, Some, None, All, IfSome, inl, inr, ◌⊎◌, refl, sym, ap, subst, ◌∙◌, arith}
+use Rattle.std.proofs.Common.{◌≡◌, ℕ, ◌≤◌, ◌<◌, ◌^◌, ℤ, pos, Bool, true, false, cond, ◌||◌, List, [], ◌∷◌, ◌++◌, length, map, Ok, Err, Option, option_map, Some, None, All, IfSome, inl, inr, ◌⊎◌, refl, sym, ap, subst, ◌∙◌, arith}
 use Rattle.std.specs.Prelude.{FitsSigned, codes}
 use Rattle.std.specs.FinMap as finite
 use Rattle.std.specs.Int.{w16, w32}

@@ -1,5 +1,5 @@
 -- Every answer to a heartbeat can be spelled: a consistent group tells an epoch that fits, and assigns partitions of its view.
-use Rattle.std.proofs.Common.{◌≡◌, ℕ, suc, ◌≤◌, ◌+◌, ℤ, pos, negsuc, Bool, true, false, ◌||◌, ◌&&◌, nat_le, cond, [], ◌∷◌, ◌++◌, Option, Some, None, IfSome, max, ◌==◌, inl, refl, sym, ap, subst, ◌∙◌, arith, true≢false}
+use Rattle.std.proofs.Common.{◌≡◌, ℕ, suc, ◌≤◌, ℤ, pos, negsuc, Bool, true, false, ◌||◌, ◌&&◌, nat_le, cond, [], ◌∷◌, ◌++◌, Option, Some, None, IfSome, max, ◌==◌, inl, refl, sym, ap, subst, ◌∙◌, arith, true≢false}
 use Rattle.std.specs.Prelude.{FitsSigned}
 use Rattle.std.specs.Cmp.{second_so}
 use Rattle.std.specs.Option.{MatchOption}

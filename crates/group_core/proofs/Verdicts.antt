@@ -8,7 +8,7 @@ use Rattle.group_types.specs.declared.stamp.Stamp.{Stamp}
 use Rattle.group_types.specs.Request.{Heartbeat, Kind, Joins, Beats, Leaves, GoesAway, MeansNothing, kind_of, is_empty, is_invalid, is_invalid_as, is_unknown, is_unsupported}
 use Rattle.group_types.specs.Group.{Grants, Group, Record}
 use Rattle.group_types.specs.Members.{Members, members_of}
-use Rattle.group_types.specs.Checks.{Check, Member, Verdict, Accepted, Refused, Overtaken, Sender, epoch_checks, first_of, is_too_many, is_unreleased, member_checks, request_checks, verdict_on}
+use Rattle.group_types.specs.Checks.{Check, Member, Verdict, Accepted, Refused, Sender, epoch_checks, first_of, is_too_many, is_unreleased, member_checks, request_checks, verdict_on}
 use Rattle.group_types.proofs.Checked.{overtaken_not, passed, refused_not}
 use Rattle.group_epochs.specs.declared.refusal.Refusal.{Refusal}
 use Rattle.group_epochs.specs.declared.refusal.Refusal.TheVariants as refusals
