@@ -100,7 +100,7 @@ module _ (board : Board) (is : IsBare board) where
       let within = slice_get_within board.places.items k place is_place in
       let (zeroth, is_zeroth) = some_at board.places.items behind.first (omega arith) in
       let there = part_at board is behind.first zeroth is_zeroth in
-      let same : (there.topic.0, zeroth.partition) ≡ (here.topic.0, record { topic = place.partition.topic; index = pos 0 }) = same_Some _ _ (sym there.is_part ∙ behind.is_first) in
+      let same : (there.topic.0, zeroth.partition) ≡ (here.topic.0, record { topic = place.partition.topic; index = pos 0 }) = same_Some _ _ (rw (← there.is_part) behind.is_first) in
       record {
         first = behind.first;
         index = behind.index;
@@ -167,10 +167,13 @@ IsAhead-at (t ∷ ts) first i x is zeroth = elim (slice_get-append_cases (partit
       }
 ]
 
--- a view has one topic of a name
 of_name : (view : Topics) (k : ℕ) (t : Text × Topic) → slice_get (finite.entries view) k ≡ Some t → finite.get view t.0 ≡ Some t.1
 of_name view k t is =
     subst (λ (e : Text × Topic). finite.get view e.0 ≡ Some e.1) (get_or_from_slice_get (finite.entries view) k t t is) (get-at view k t (slice_get_within (finite.entries view) k t is))
+
+-- a view has one topic of a name
+one_topic : (view : Topics) (j k : ℕ) (s t : Text × Topic) → slice_get (finite.entries view) j ≡ Some s → slice_get (finite.entries view) k ≡ Some t → s.0 ≡ t.0 → s.1 ≡ t.1
+one_topic view j k s t is_s is_t name = same_Some s.1 t.1 (sym (of_name view j s is_s) ∙ ap (finite.get view) name ∙ of_name view k t is_t)
 
 -- the same of a board's places
 pub place-ahead : (board : Board) → IsBare board → (first i : ℕ) (zeroth : Place) (t : Text × Topic) → slice_get board.places.items first ≡ Some zeroth → zeroth.partition.index ≡ pos 0
@@ -179,17 +182,16 @@ pub place-ahead : (board : Board) → IsBare board → (first i : ℕ) (zeroth :
 place-ahead board is first i zeroth t is_zeroth zero is_t few =
     let here = part_at board is first zeroth is_zeroth in
     let it = IsAhead-at (finite.entries board.view.now) first i (here.topic.0, zeroth.partition) here.is_part zero in
-    let named : t ≡ here.topic = same_Some t here.topic (sym is_t ∙ here.is_topic) in
-    let one = of_name board.view.now it.at it.topic it.is_topic in
-    let other = of_name board.view.now zeroth.topic t is_t in
-    let same : it.topic.1 ≡ t.1 = same_Some it.topic.1 t.1 (sym one ∙ ap (finite.get board.view.now) (it.name ∙ sym (ap (λ (e : Text × Topic). e.0) named)) ∙ other) in
+    let named : here.topic ≡ t = same_Some here.topic t (rw (← here.is_topic) is_t) in
+    let same = one_topic board.view.now it.at zeroth.topic it.topic t it.is_topic is_t (it.name ∙ ap (λ (e : Text × Topic). e.0) named) in
     let counts = ap (λ (topic : Topic). topic.count) same in
     let is_part = it.ahead (omega arith) in
     let low = slice_get_within (in_partition_order board.view.now) (first + i) _ is_part in
     let many = as_many_places board is in
     let (place, is_place) = some_at board.places.items (first + i) (omega arith) in
     let there = part_at board is (first + i) place is_place in
-    (place, is_place, ap (λ (y : Text × Partition). y.1) (same_Some (there.topic.0, place.partition) (zeroth_part (here.topic.0, zeroth.partition) i) (sym there.is_part ∙ is_part)))
+    let one = same_Some (there.topic.0, place.partition) (zeroth_part (here.topic.0, zeroth.partition) i) (rw (← there.is_part) is_part) in
+    (place, is_place, λ j. (one j).1)
 
 -- ---- the first places
 

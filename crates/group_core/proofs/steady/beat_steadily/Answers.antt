@@ -2,7 +2,7 @@ use Rattle.std.proofs.Common.{rules, ◌≡◌, ℕ, max, None, sym, subst, ap, 
 use Rattle.std.specs.FinMap as finite
 use Rattle.group_types.specs.declared.epoch.Epoch.TheVariants.{At}
 use Rattle.group_types.specs.Group.{Group, Record}
-use Rattle.group_types.specs.HeartbeatStep.{Arrival, HeartbeatStep, Replied, Reply, acceptance}
+use Rattle.group_types.specs.HeartbeatStep.{Arrival, acceptance}
 use Rattle.group_types.specs.Renewal.{view_for}
 use Rattle.kip_msgs.specs.Views.{heartbeat_request_value}
 use Rattle.group_epochs.specs.Records.{IsMarkedBeat, RecordsState, beaten}
@@ -38,11 +38,8 @@ returns-clause-step c = λ image current.
     c.acceptance-reply.ensures ∙ (λ i. acceptance (c.in_ok-id.ensures.id i) (record (beaten r c.args.stamp now) { epoch = At (c.epoch-epoch.ensures i) }) None) in
     let stored : c.beat_marked.new.self.records ≡ finite.insert s.records.records a.heartbeat.member (beaten r c.args.stamp now) =
     c.if-not-beat_marked.ensures.records r refl beat.is_kept ∙ ap (λ t. finite.insert s.records.records a.heartbeat.member (beaten r c.args.stamp t)) c.later-now.ensures in
-    let Steps : Reply → Group → Type 0 = λ reply new. HeartbeatStep (group_of s) a (Replied reply) new in
-    subst (λ x. Steps x (record (group_of s) { clock = c.later-now.result; records = c.beat_marked.new.self.records; past = c.beat_marked.new.self.past })) (sym replied)
-    (subst (Steps (acceptance a.heartbeat.member (record (beaten r c.args.stamp now) { epoch = At s.target.epoch }) None))
-    (λ i. record (group_of s) { clock = sym c.later-now.ensures i; records = sym stored i; past = sym c.beat_marked.ensures.past i })
-    (steady_answers s c.requires.group.sound c.requires.group.marked a c.requires.steady beat current))
+    rw (replied, c.later-now.ensures, stored, c.beat_marked.ensures.past)
+    (steady_answers s c.requires.group.sound c.requires.group.marked a c.requires.steady beat current)
 
 pub returns-clause-response : goal.returns-clause-response
 returns-clause-response c = λ image current.

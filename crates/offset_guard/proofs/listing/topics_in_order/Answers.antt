@@ -19,4 +19,4 @@ returns c =
     entries_from_sort text_cmp_total text_cmp-IsAntisymmetric (map by_text rows) (map named list) (distinct_names rows c.iter-name-items.ensures.unique)
     (subst (λ l. IsPermutation l (map named list)) all (IsPermutation-map named c.loop-name.list.items list c.sort_unstable_by.ensures.permutation))
     (IsSorted-map named (λ s t. text_cmp s.0 t.0) list
-    (c.sort_unstable_by.ensures.sorted (λ s t. is_lt (text_cmp s.0.now t.0.now)) (ranks_by text_cmp_total (λ s. s.0.now)) (answers_always _ _ _ (λ f a r g h. search rules))))
+    (c.sort_unstable_by.ensures.sorted (λ s t. is_lt (text_cmp s.0.now t.0.now)) (ranks_by text_cmp_total (λ s. s.0.now)) (search (rules, answers_always))))

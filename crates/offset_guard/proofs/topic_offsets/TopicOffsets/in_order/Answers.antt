@@ -19,5 +19,5 @@ returns c =
     ∙ c.loop-index.invariant ∙ c.into_iter-index-iterator.ensures.into_iter_gives ∙ c.iter-index-items.ensures.rest in
     entries_from_sort int_cmp_total int_cmp-IsAntisymmetric rows (map indexed list) (distinct_indexes rows c.iter-index-items.ensures.unique)
     (subst (λ l. IsPermutation l (map indexed list)) all (IsPermutation-map indexed c.loop-index.list.items list c.sort_unstable_by_key.ensures.permutation))
-    (IsSorted-map indexed (λ e f. int_cmp e.0 f.0) list (c.sort_unstable_by_key.ensures.sorted (λ e. e.0) (answers_always _ _ _ (λ f a r g h. search rules))))
+    (IsSorted-map indexed (λ e f. int_cmp e.0 f.0) list (c.sort_unstable_by_key.ensures.sorted (λ e. e.0) (search (rules, answers_always))))
     ∙ ap (λ t. finite.entries t.offsets) c.self.view_is

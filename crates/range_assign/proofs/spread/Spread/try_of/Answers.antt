@@ -12,10 +12,9 @@ use Rattle.range_assign.proofs.spread.Spread.try_of.Goals as goal
 
 pub returns-then-not-ids_rise : goal.returns-then-not-ids_rise
 returns-then-not-ids_rise c = λ are.
-    let sorted = c.sort_unstable_by.new.self.items in
-    let order : AreInIdOrder (shares_in sorted) =
-    AreInIdOrder-sorted (shares_in sorted) (AreShares-permutation _ _ (IsPermutation-map share_in _ _ c.sort_unstable_by.ensures.permutation) are)
-    (IsSorted-map share_in (λ s t. text_cmp s.0 t.0) sorted
+    let order =
+    AreInIdOrder-sorted _ (AreShares-permutation _ _ (IsPermutation-map share_in _ _ c.sort_unstable_by.ensures.permutation) are)
+    (IsSorted-map share_in (λ s t. text_cmp s.0 t.0) c.sort_unstable_by.new.self.items
     (c.sort_unstable_by.ensures.sorted (λ s t. is_lt (text_cmp s.id t.id)) (ranks_by text_cmp_total (λ s. s.id))
     (answers_always _ _ _ (λ f a r g h. search rules)))) in
     let says = c.ids_rise.ensures.1 (subst (λ xs. IdsRise (shares_in xs)) (sym c.deref.ensures.value) order.rise) in
