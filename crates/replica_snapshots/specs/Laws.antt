@@ -5,9 +5,12 @@ use Rattle.flex_wire.specs.Laws.{BeginsNoOther}
 use Rattle.coord_node.specs.Coordinator.{Answer, Coordinator, Event, opening}
 use Rattle.coord_node.specs.Steps.{Run}
 use Rattle.replica_snapshots.specs.Groups.{named_fields, FitsNamed}
-use Rattle.replica_snapshots.specs.Nodes.{head_fields, FitsHead, NodeValue, node_fields, FitsNode, SpellsNode, section_fields, FitsSection, sections_of}
+use Rattle.replica_snapshots.specs.Nodes.{head_fields, FitsHead, NodeValue, node_fields, FitsNode, SpellsNode, section_fields, FitsSection, IsOf, sections_of}
 use Rattle.replica_snapshots.specs.Places.{place_fields, FitsPlace}
+use Rattle.replica_snapshots.specs.Puttable.{CanPutSection}
 use Rattle.replica_snapshots.specs.Restoring.{CanBeNode}
+use Rattle.replica_snapshots.specs.Runs.{FitsEvent, HasFewOffsets}
+use Rattle.replica_snapshots.specs.Spelling.{FitsNumber}
 
 -- Bytes begin with at most one group under its name.
 abbrev pub OneGroupARun : Type 0
@@ -38,3 +41,10 @@ SectionsMakeTheNode =
 -- Whatever came to a coordinator since its opening, a node can be it: so a snapshot of it is never refused but for want of memory.
 abbrev pub RunsCanBeNodes : Type 0
 RunsCanBeNodes = (salt : ℕ) (events : List Event) (answers : List Answer) (c : Coordinator) → Run (opening salt) events answers c → CanBeNode c
+
+-- Whatever came to a coordinator since its opening, each section of a node of it can be written, where no group has more offsets than a
+-- count can say: so a put of them is never refused but for want of memory (`can` of PutsSections).
+abbrev pub RunsWithFewOffsetsCanBeWritten : Type 0
+RunsWithFewOffsetsCanBeWritten =
+    (salt : ℕ) (events : List Event) (answers : List Answer) (c : Coordinator) (n : NodeValue)
+    → FitsNumber salt → All FitsEvent events → Run (opening salt) events answers c → HasFewOffsets c → IsOf c n → All CanPutSection (sections_of n)

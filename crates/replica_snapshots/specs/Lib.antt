@@ -9,4 +9,6 @@ pub mod Building
 pub mod Views
 pub mod Faults
 pub mod Writing
+pub mod Puttable
+pub mod Runs
 pub mod Laws

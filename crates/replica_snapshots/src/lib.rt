@@ -27,7 +27,7 @@ pub use group::{ReadGroup, put_group, read_group};
 pub use head::{Head, put_head, read_head};
 pub use laws::{
     one_coordinator_a_run, one_group_a_run, one_head_a_run, one_node_a_run, one_place_a_run,
-    runs_can_be_nodes, sections_make_the_node,
+    runs_can_be_nodes, runs_with_few_offsets_can_be_written, sections_make_the_node,
 };
 pub use node::{Sections, read_node};
 pub use place::{Place, put_place, read_place};
