@@ -1,5 +1,5 @@
 -- What a group consists of has a spelling, whatever comes to it.
-use Rattle.std.proofs.Common.{◌≡◌, ℕ, zero, suc, ◌+◌, ◌-◌, ◌<◌, ◌≤◌, ◌^◌, ◌==◌, ℤ, pos, negsuc, max, Bool, true, false, cond, not, ◌||◌, ◌&&◌, nat_le, nat_lt, List, [], ◌∷◌, ◌++◌, length, drop, filter, Option, Some, None, IfSome, is_some, IsTrue, refl, sym, ap, subst, ◌∙◌, arith, true≢false}
+use Rattle.std.proofs.Common.{◌≡◌, ℕ, zero, suc, ◌+◌, ◌-◌, ◌<◌, ◌≤◌, ◌==◌, ℤ, max, Bool, true, false, cond, not, ◌||◌, ◌&&◌, nat_le, List, [], ◌∷◌, ◌++◌, length, drop, filter, Option, Some, None, IfSome, is_some, refl, sym, ap, subst, ◌∙◌, arith, true≢false}
 use Rattle.std.specs.Prelude.{FitsSigned}
 use Rattle.std.specs.Cmp.{first_so, second_so}
 use Rattle.std.specs.FinMap as finite
@@ -14,25 +14,25 @@ use Rattle.group_types.specs.declared.code.Code.TheVariants as codes
 use Rattle.group_types.specs.declared.partition.Partition.{Partition}
 use Rattle.group_types.specs.declared.stamp.Stamp.{Stamp}
 use Rattle.group_types.specs.Checks.{Accepted, Member, Overtaken, Refused, Sender, Verdict, sender_of, verdict_on}
-use Rattle.group_types.specs.Commit.{Commit, CommitReply, CommitStep, Commitment, TopicCommitments, is_stored, is_there, is_too_long, named_commitments, offsets_after, refusal_of_commit, with_offset, with_offsets}
+use Rattle.group_types.specs.Commit.{Commit, CommitReply, CommitStep, Commitment, is_stored, is_there, is_too_long, named_commitments, offsets_after, refusal_of_commit, with_offset, with_offsets}
 use Rattle.group_types.specs.Group.{Committed, Grants, Group, Offsets, Past, Record, Records, Target, grant_cmp, held, new_group, place_cmp, wanted}
-use Rattle.group_types.specs.HeartbeatStep.{Answer, Arrival, BeatsWith, ByVerdict, Draft, GoesAwayWith, HeartbeatStep, IsRefused, JoinsAs, Stages, StepOf, TakesIn, assignment_of, draft_of_beat, draft_of_join, draft_under, handed_over, is_news, sent_after, shown, with_record_at}
+use Rattle.group_types.specs.HeartbeatStep.{Answer, Arrival, BeatsWith, ByVerdict, Draft, GoesAwayWith, HeartbeatStep, IsRefused, JoinsAs, Stages, StepOf, TakesIn, assignment_of, draft_of_join, draft_under, handed_over, is_news, sent_after, shown, with_record_at}
 use Rattle.group_types.specs.Images.{AreImageTopics}
 use Rattle.group_types.specs.Join.{IsNamed, Name, record_of_beat, record_of_join}
-use Rattle.group_types.specs.Leave.{away, gone_away, left, risen, without_member}
-use Rattle.group_types.specs.Limits.{GREATEST_EPOCH, LONGEST_METADATA, MOST_PARTITIONS, MOST_PAST_MEMBERS, MOST_TOPIC_PARTITIONS}
+use Rattle.group_types.specs.Leave.{away, risen, without_member}
+use Rattle.group_types.specs.Limits.{GREATEST_EPOCH, LONGEST_METADATA, MOST_PAST_MEMBERS, MOST_TOPIC_PARTITIONS}
 use Rattle.group_types.specs.Members.{remembering, without_past}
-use Rattle.group_types.specs.Owners.{IsIndex, is_index, renamed, share_of}
+use Rattle.group_types.specs.Owners.{IsIndex, is_index, share_of}
 use Rattle.group_types.specs.Partition.{Partitions, partition_cmp}
 use Rattle.group_types.specs.Renewal.{Renews, RenewsWhere, changed_if, is_subscribed, view_for}
 use Rattle.group_types.specs.Request.{Beats, GoesAway, Heartbeat, Joins, Kind, Leaves, MeansNothing, is_full, kind_of, reported}
-use Rattle.group_types.specs.Sets.{common, has, in_order, nothing, size}
+use Rattle.group_types.specs.Sets.{common, has, in_order, nothing}
 use Rattle.group_types.specs.Settle.{granting, grants_after, grants_of_others, is_free_for, may_settle, moved, settled_by, settled_record}
-use Rattle.group_types.specs.Sound.{IsOfView, IsSound}
+use Rattle.group_types.specs.Sound.{IsOfView}
 use Rattle.group_types.specs.Text.{Text, text_cmp}
 use Rattle.group_types.specs.Tick.{at_moment, due, expired, is_due, ticked, without_members}
 use Rattle.group_types.specs.Topics.{Topic, Topics}
-use Rattle.group_types.proofs.Consistent.{IsConsistent, consistent}
+use Rattle.group_types.proofs.Consistent.{IsConsistent}
 use Rattle.group_types.proofs.Drafts.{IsReady, beat_is_ready, join_is_ready}
 use Rattle.group_types.proofs.Entries.{entries_found}
 use Rattle.group_types.proofs.GrantLemmas.{has-granting, has-held, has-moved, has-others}
@@ -41,12 +41,12 @@ use Rattle.group_types.proofs.Indexes.{index_below, index_of}
 use Rattle.group_types.proofs.KeptViews.{changed_view, join_view, renewed_view}
 use Rattle.group_types.proofs.Lookups.{Found, Tie, another, differs, found, found_without, not_none, this, tie, ties}
 use Rattle.group_types.proofs.OffsetLemmas.{place_cmp-IsAntisymmetric, place_cmp_total}
-use Rattle.group_types.proofs.Orders.{partition_cmp-IsAntisymmetric, partition_cmp_total, text_cmp-IsAntisymmetric, text_cmp_total}
+use Rattle.group_types.proofs.Orders.{partition_cmp-IsAntisymmetric, partition_cmp_total}
 use Rattle.group_types.proofs.Renewals.{changed_is_consistent, renewed_is_consistent}
 use Rattle.group_types.proofs.Senders.{named_fresh, other_is, own_is}
 use Rattle.group_types.proofs.SetLemmas.{has-common, has-in_order, has-nothing, size-nothing}
 use Rattle.group_core.proofs.FewPartitions.{few_shown, share_of_view}
-use Rattle.replica_snapshots.specs.Spelling.{FitsCommitted, FitsEpoch, FitsFormer, FitsIndex, FitsMetadata, FitsNumber, FitsOffset, FitsPartition, FitsPartitions, FitsRecord, FitsStamp}
+use Rattle.replica_snapshots.specs.Spelling.{FitsEpoch, FitsFormer, FitsIndex, FitsMetadata, FitsNumber, FitsOffset, FitsPartitions, FitsRecord, FitsStamp}
 use Rattle.replica_snapshots.specs.Runs.{HaveNames}
 use Rattle.replica_snapshots.proofs.FitKeys.{fewer_keys, put_in}
 use Rattle.replica_snapshots.proofs.FitRecords.{AreFew, FitsHeartbeat, FitsSerial, away_fits, beat_fits, name_fits, new_fits, rejoined_fits, sent_fits, serial_fits, set_fits, settled_fits}
@@ -103,10 +103,6 @@ all_drop P (suc n) (x ∷ xs) all = all_drop P n xs all.1
 all_behind : {X : Type 0} (P : X → Type 0) (xs : List X) (x : X) → AllByRecursion P xs → P x → AllByRecursion P (xs ++ x ∷ [])
 all_behind P [] x all one = (one, tt)
 all_behind P (y ∷ xs) x all one = (all.0, all_behind P xs x all.1 one)
-
-all_append : {X : Type 0} (P : X → Type 0) (xs ys : List X) → AllByRecursion P xs → AllByRecursion P ys → AllByRecursion P (xs ++ ys)
-all_append P [] ys one other = other
-all_append P (x ∷ xs) ys one other = (one.0, all_append P xs ys one.1 other)
 
 -- ---- members, and former ones
 

@@ -1,5 +1,5 @@
 -- What a coordinator keeps of members has a spelling, whatever heartbeats come.
-use Rattle.std.proofs.Common.{◌≡◌, ℕ, suc, ◌+◌, ◌-◌, ◌<◌, ◌≤◌, ◌^◌, ◌==◌, ℤ, pos, negsuc, min, Bool, true, false, cond, ◌||◌, List, [], ◌∷◌, ◌++◌, length, Option, Some, None, IfSome, All, inl, refl, sym, ap, subst, ◌∙◌, arith}
+use Rattle.std.proofs.Common.{◌≡◌, ℕ, suc, ◌<◌, ◌≤◌, ◌^◌, ◌==◌, ℤ, pos, negsuc, Bool, true, false, cond, List, [], ◌∷◌, ◌++◌, length, Option, Some, None, IfSome, inl, refl, sym, ap, subst, ◌∙◌, arith}
 use Rattle.std.specs.Prelude.{FitsSigned}
 use Rattle.std.specs.Int.{w32, w64, to_be_bytes}
 use Rattle.std.specs.List.{AllByRecursion}
@@ -23,21 +23,21 @@ use Rattle.group_types.specs.Epoch.{number_of}
 use Rattle.group_types.specs.Group.{Group, Record}
 use Rattle.group_types.specs.HeartbeatStep.{sent_after}
 use Rattle.group_types.specs.Join.{IsNamed, Name, blank_record, joined, name_of_serial, names_after, record_of_beat, record_of_join, returned, returned_epoch, timeout_after, updated}
-use Rattle.group_types.specs.Leave.{away, last_epoch, last_epoch_at}
+use Rattle.group_types.specs.Leave.{away, last_epoch_at}
 use Rattle.group_types.specs.Limits.{MOST_PARTITIONS, SESSION_TIMEOUT}
 use Rattle.group_types.specs.MemberId.{made_id}
 use Rattle.group_types.specs.Moment.{saturated_sum}
 use Rattle.group_types.specs.Partition.{Partitions}
 use Rattle.group_types.specs.Request.{Heartbeat}
-use Rattle.group_types.specs.Sets.{has, in_order, nothing, of_list, size}
+use Rattle.group_types.specs.Sets.{has, in_order, of_list, size}
 use Rattle.group_types.specs.Settle.{arrived, asked, settled_record}
 use Rattle.group_types.specs.Text.{Text}
 use Rattle.group_types.specs.Topics.{Names}
-use Rattle.group_types.proofs.Lookups.{not_none, some_is}
+use Rattle.group_types.proofs.Lookups.{some_is}
 use Rattle.group_types.proofs.MadeIds.{length-made_id}
 use Rattle.group_types.proofs.Orders.{partition_cmp-IsAntisymmetric, partition_cmp_total, text_cmp-IsAntisymmetric, text_cmp_total}
 use Rattle.group_types.proofs.SetLemmas.{has-of_list}
-use Rattle.replica_snapshots.specs.Spelling.{FitsAssignor, FitsDeadlines, FitsEpoch, FitsIdentity, FitsMillis, FitsNames, FitsNumber, FitsPartition, FitsPartitions, FitsProgress, FitsRecord, FitsStamp, FitsWishes}
+use Rattle.replica_snapshots.specs.Spelling.{FitsAssignor, FitsEpoch, FitsMillis, FitsNames, FitsNumber, FitsPartition, FitsPartitions, FitsRecord, FitsStamp}
 use Rattle.replica_snapshots.proofs.FitKeys.{among, each_key, few_of_list}
 
 -- ---- texts and numbers

@@ -1,19 +1,17 @@
 -- Whatever comes to a coordinator, its node can be written.
-use Rattle.std.proofs.Common.{◌≡◌, ℕ, ◌+◌, ◌-◌, ◌<◌, ◌≤◌, pos, Bool, true, false, cond, List, [], ◌∷◌, ◌++◌, length, map, All, Option, Some, None, IfSome, refl, sym, ap, subst, ◌∙◌, arith, inl, inr}
+use Rattle.std.proofs.Common.{◌≡◌, ℕ, ◌≤◌, Bool, true, false, List, [], ◌∷◌, ◌++◌, map, Option, Some, None, refl, sym, ap, subst, ◌∙◌, arith, inl, inr}
 use Rattle.std.specs.FinMap as finite
-use Rattle.std.specs.FinMap.Entries.{find}
 use Rattle.std.specs.List.{AllByRecursion, flat_map}
-use Rattle.std.specs.Ordering.{eq_by_cmp}
 use Rattle.std.proofs.lemmas.List.{length-map}
-use Rattle.std.proofs.lemmas.List.Elements.{All-cons, All-from_recursion, All-head, All-map, All-tail, recursion_from_All}
+use Rattle.std.proofs.lemmas.List.Elements.{All-from_recursion, All-map, recursion_from_All}
 use Rattle.flex_wire.specs.Composed.{FitsArray}
 use Rattle.flex_wire.specs.Spelling.{FitsCount, FitsText}
 use Rattle.kip_msgs.specs.Spelling.{FitsCommitRequestPartition, FitsCommitRequestTopic, FitsCommitRequest, FitsHeartbeatRequest}
 use Rattle.kip_msgs.specs.Values.{CommitRequestPartitionValue, CommitRequestTopicValue, CommitRequestValue, HeartbeatRequestValue, RequestValue, commit_request, heartbeat_request}
 use Rattle.group_types.specs.declared.stamp.Stamp.{Stamp}
 use Rattle.group_types.specs.Commit.{Commit, CommitReply, Commitment, TopicCommitments, named_commitments}
-use Rattle.group_types.specs.Group.{Committed, Grants, Group, Record, held, new_group}
-use Rattle.group_types.specs.HeartbeatStep.{Arrival, HeartbeatStep}
+use Rattle.group_types.specs.Group.{Grants, Group, Record, held, new_group}
+use Rattle.group_types.specs.HeartbeatStep.{Arrival}
 use Rattle.group_types.specs.HeartbeatStep as group
 use Rattle.group_types.specs.Images.{AreImageTopics}
 use Rattle.group_types.specs.Limits.{MOST_GROUPS}
@@ -25,20 +23,20 @@ use Rattle.group_types.specs.Tick.{ticked}
 use Rattle.group_types.specs.Topics.{Topic, Topics}
 use Rattle.group_types.proofs.Consistent.{consistent}
 use Rattle.group_types.proofs.Entries.{entries_found}
-use Rattle.group_types.proofs.Lookups.{Found, another, found, not_none, some_is, this}
+use Rattle.group_types.proofs.Lookups.{Found, another, found, not_none, this}
 use Rattle.group_types.proofs.Orders.{partition_cmp-IsAntisymmetric, partition_cmp_total, text_cmp_total}
 use Rattle.group_types.proofs.Runs.{every_group_is_sound}
 use Rattle.group_epochs.specs.Request.{arrival_of, commit_of, commitment_of, heartbeat_of}
-use Rattle.group_reconcile.specs.Holders.{Holders, pairs}
+use Rattle.group_reconcile.specs.Holders.{pairs}
 use Rattle.coord_node.specs.Coordinator.{Answer, Coordinator, Event, Frame, Image, Tick, opening}
 use Rattle.coord_node.specs.Laws.{IsServing, StepsAreSound}
 use Rattle.coord_node.specs.Steps.{CommitAt, HeartbeatAt, IsRequest, Makes, MakesBy, RequestStep, RunBy, Step, all_ticked, has_room, is_success, with_group}
 use Rattle.coord_node.proofs.SoundGroups.{opening_serves}
 use Rattle.replica_snapshots.specs.Groups.{HeldGroup, Named, numbers_of, parts_of}
-use Rattle.replica_snapshots.specs.Laws.{RunsWithFewOffsetsCanBeWritten}
-use Rattle.replica_snapshots.specs.Nodes.{FitsHead, Head, IsOf, NodeValue, OneGroup, head_of, sections_of, state_of}
-use Rattle.replica_snapshots.specs.Parts.{grant_of, grants_of, member_part}
-use Rattle.replica_snapshots.specs.Puttable.{CanPutLists, CanPutMember, CanPutNamed, CanPutParts, CanPutSection}
+use Rattle.replica_snapshots.specs.Laws.{IsOfRun, RunsWithFewOffsetsArePut, RunsWithFewOffsetsCanBeWritten}
+use Rattle.replica_snapshots.specs.Nodes.{FitsHead, IsOf, NodeValue, OneGroup, head_of, sections_of, state_of}
+use Rattle.replica_snapshots.specs.Parts.{grant_of, member_part}
+use Rattle.replica_snapshots.specs.Puttable.{CanPutMember, CanPutParts, CanPutSection}
 use Rattle.replica_snapshots.specs.Runs.{FitsEvent, HasFewOffsets, HaveNames}
 use Rattle.replica_snapshots.specs.Spelling.{FitsNumber, FitsNumbers, FitsOffset, FitsPartition, FitsStamp, FitsTopic}
 use Rattle.replica_snapshots.proofs.FitGroups.{IsCommitment, IsSpelledCommit, IsWritten, committed_written, heartbeat_written, new_written, share_fits, ticked_written}
@@ -265,7 +263,11 @@ module _ (sound : StepsAreSound Step) where
       same = ap (λ (d : Coordinator). d.image) of.coordinator
 
   pub runs_can_be_written : RunsWithFewOffsetsCanBeWritten
-  runs_can_be_written salt events answers c n fits all run few of =
-      let both = run_keeps events answers (opening salt) c run (recursion_from_All FitsEvent events all) (opening_serves salt) (opening_can salt fits) in
-      All-from_recursion CanPutSection (sections_of n)
-      (head_fits c n both.0 both.1 (runs_can_be_nodes salt events answers c run).few of, each_group c both.0 both.1 few n.groups (apart_and_found c n of).1)
+  runs_can_be_written n is =
+      let c : Coordinator = is.coordinator in
+      let both = run_keeps is.events is.answers (opening is.salt) c is.run (recursion_from_All FitsEvent is.events is.each) (opening_serves is.salt) (opening_can is.salt is.fits) in
+      let few = (runs_can_be_nodes is.salt is.events is.answers c is.run).few in
+      All-from_recursion CanPutSection (sections_of n) (head_fits c n both.0 both.1 few is.of, each_group c both.0 both.1 is.few n.groups (apart_and_found c n is.of).1)
+
+  pub runs_are_put : RunsWithFewOffsetsArePut
+  runs_are_put n result old new from size is puts = puts.can (runs_can_be_written n is)

@@ -1,5 +1,6 @@
 pub mod Adding
 pub mod Begins
+pub mod CanPuts
 pub mod FieldLaws
 pub mod FitGroups
 pub mod FitKeys

@@ -1,8 +1,9 @@
--- What has to have a spelling so that a node can be written: all but what the types of the code say of every group, which are
+-- What has to have a spelling so that a node can be written: all but what the types of the code say of every group, which is
 -- that it is sound, that its grants are those of its holders, and that the epochs since which they are granted fit.
-use Rattle.std.specs.Prelude.{◌≡◌, ℤ, List}
+use Rattle.std.specs.Prelude.{◌≡◌, ℕ, ℤ, List}
 use Rattle.flex_wire.specs.Composed.{FitsArray}
 use Rattle.flex_wire.specs.Spelling.{FitsText}
+use Rattle.group_types.specs.declared.partition.Partition.{Partition}
 use Rattle.group_types.specs.Group.{Committed, Past}
 use Rattle.group_types.specs.Text.{Text}
 use Rattle.group_types.specs.Topics.{Topic}
@@ -12,11 +13,15 @@ use Rattle.replica_snapshots.specs.Nodes.{FitsHead, Head, OneGroup, Section}
 use Rattle.replica_snapshots.specs.Parts.{GroupParts, MemberPart}
 use Rattle.replica_snapshots.specs.Spelling.{FitsFormer, FitsNumbers, FitsOffset, FitsPartition, FitsPartitions, FitsRecord, FitsTopic}
 
+-- A grant that can be written.
+abbrev pub CanPutGrant : Partition × ℕ → Type 0
+CanPutGrant g = FitsPartition g.0
+
 -- A member that can be written.
 pub record CanPutMember (m : MemberPart) : Type 0 where
   pub id : FitsText m.id
   pub kept : FitsRecord m.kept
-  pub grants : FitsArray (λ g. FitsPartition g.0) m.grants
+  pub grants : FitsArray CanPutGrant m.grants
   pub target : FitsPartitions m.target
 
 -- Lists of a group that can be written.

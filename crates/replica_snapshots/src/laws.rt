@@ -1,6 +1,6 @@
 //! Laws of the spelling, proved where nothing runs.
 
-ghost use Rattle.replica_snapshots.specs.Laws.{OneCoordinatorARun, OneGroupARun, OneHeadARun, OneNodeARun, OnePlaceARun, RunsCanBeNodes, RunsWithFewOffsetsCanBeWritten, SectionsMakeTheNode};
+ghost use Rattle.replica_snapshots.specs.Laws.{OneCoordinatorARun, OneGroupARun, OneHeadARun, OneNodeARun, OnePlaceARun, RunsCanBeNodes, RunsWithFewOffsetsArePut, RunsWithFewOffsetsCanBeWritten, SectionsMakeTheNode};
 
 use coord_node::steps_are_sound;
 
@@ -43,6 +43,13 @@ pub fn runs_can_be_nodes()
 /// count can say. The names of an image's topics fit a text, as they do in each entry of a replica's log.
 pub fn runs_with_few_offsets_can_be_written()
     ensures { RunsWithFewOffsetsCanBeWritten }
+{
+    steps_are_sound();
+}
+
+/// So no put of them is refused but for want of memory.
+pub fn runs_with_few_offsets_are_put()
+    ensures { RunsWithFewOffsetsArePut }
 {
     steps_are_sound();
 }

@@ -8,7 +8,8 @@ ghost use Rattle.replica_snapshots.specs.Groups.{FitsNamed, Named, named_fields}
 ghost use Rattle.replica_snapshots.specs.Nodes.{FitsSection, IsOf, SpellsNode, section_fields, sections_of};
 ghost use Rattle.replica_snapshots.specs.Restoring.{CanBeNode, CanKeep, keeping, ReadsGroup, ReadsGroups};
 ghost use Rattle.replica_snapshots.specs.Views.{listed_node};
-ghost use Rattle.replica_snapshots.specs.Writing.{PutsSections, PutsUpTo};
+ghost use Rattle.replica_snapshots.specs.Puttable.{CanPutSection};
+ghost use Rattle.replica_snapshots.specs.Writing.{PutsSections, PutsUpToWhere};
 ghost use Rattle.replica_snapshots.specs.declared.fault.SnapshotFault.TheVariants.{NoMemory};
 
 use crate::fault::SnapshotFault;
@@ -76,7 +77,7 @@ impl<'a> Sections<'a> {
     /// Appends one section.
     fn put_section(&self, number: usize, out: &mut Vec<u8>) -> Result<(), SnapshotFault>
         ensures { IfSome (slice_get (sections_of (listed_node self.now)) number) (λ section.
-            PutsUpTo result out.old.items out.new.items (FitsSection section) (section_fields section)) }
+            PutsUpToWhere result out.old.items out.new.items (CanPutSection section) (FitsSection section) (section_fields section)) }
     {
         match number.checked_sub(1) {
             None => put_head(self.alloc, out, self.salt, self.image, self.groups.len()),
