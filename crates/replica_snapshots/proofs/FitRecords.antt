@@ -1,5 +1,5 @@
 -- What a coordinator keeps of members has a spelling, whatever heartbeats come.
-use Rattle.std.proofs.Common.{◌≡◌, ℕ, suc, ◌<◌, ◌≤◌, ◌^◌, ◌==◌, ℤ, pos, negsuc, Bool, true, false, cond, List, [], ◌∷◌, ◌++◌, length, Option, Some, None, IfSome, inl, refl, sym, ap, subst, ◌∙◌, arith}
+use Rattle.std.proofs.Common.{◌≡◌, ℕ, suc, ◌<◌, ◌≤◌, ◌^◌, ◌==◌, ℤ, pos, negsuc, Bool, true, false, cond, List, [], ◌∷◌, ◌++◌, Option, Some, None, IfSome, inl, refl, sym, ap, subst, ◌∙◌, arith}
 use Rattle.std.specs.Prelude.{FitsSigned}
 use Rattle.std.specs.Int.{w32, w64, to_be_bytes}
 use Rattle.std.specs.List.{AllByRecursion}
@@ -98,8 +98,8 @@ pub names_fit : (given : List Text) → FitsArray FitsText given → FitsNames (
 names_fit given fits = (
   let few = few_of_list text_cmp_total text_cmp-IsAntisymmetric given in let count = fits.0 in omega (arith, few, count),
   All-from_recursion FitsText (in_order (of_list given))
-  (each_key text_cmp_total text_cmp-IsAntisymmetric FitsText (of_list given) (λ q there.
-  among text_cmp_total text_cmp-IsAntisymmetric FitsText given q (recursion_from_All FitsText given fits.1) (sym (has-of_list text_cmp_total given q) ∙ there))),
+      (each_key text_cmp_total text_cmp-IsAntisymmetric FitsText (of_list given) (λ q there.
+      among text_cmp_total text_cmp-IsAntisymmetric FitsText given q (recursion_from_All FitsText given fits.1) (sym (has-of_list text_cmp_total given q) ∙ there))),
 )
 
 -- partitions that each fit, no more than an image may have

@@ -33,7 +33,7 @@ use Rattle.coord_node.specs.Laws.{IsServing, StepsAreSound}
 use Rattle.coord_node.specs.Steps.{CommitAt, HeartbeatAt, IsRequest, Makes, MakesBy, RequestStep, RunBy, Step, all_ticked, has_room, is_success, with_group}
 use Rattle.coord_node.proofs.SoundGroups.{opening_serves}
 use Rattle.replica_snapshots.specs.Groups.{HeldGroup, Named, numbers_of, parts_of}
-use Rattle.replica_snapshots.specs.Laws.{IsOfRun, RunsWithFewOffsetsArePut, RunsWithFewOffsetsCanBeWritten}
+use Rattle.replica_snapshots.specs.Laws.{RunsWithFewOffsetsArePut, RunsWithFewOffsetsCanBeWritten}
 use Rattle.replica_snapshots.specs.Nodes.{FitsHead, IsOf, NodeValue, OneGroup, head_of, sections_of, state_of}
 use Rattle.replica_snapshots.specs.Parts.{grant_of, member_part}
 use Rattle.replica_snapshots.specs.Puttable.{CanPutMember, CanPutParts, CanPutSection}
@@ -193,7 +193,7 @@ module _ (g : HeldGroup) (sound : IsSound g.0) (is : IsWritten g.0) where
         grants = (
           let most = few.few in let same = length-map set (grant_of g.1) in omega (arith, most, same),
           All-map (λ x. FitsPartition x.0) (grant_of g.1) set
-          (All-from_recursion FitsPartition set (each_key partition_cmp_total partition_cmp-IsAntisymmetric FitsPartition (held (pairs g.1) m) few.each)),
+              (All-from_recursion FitsPartition set (each_key partition_cmp_total partition_cmp-IsAntisymmetric FitsPartition (held (pairs g.1) m) few.each)),
         );
         target = set_fits (share_of g.0.target m) (share_fits g.0 (consistent g.0 sound) sound.view m);
       }
@@ -226,9 +226,9 @@ parts_fit g sound is few grants = record {
     past = (let most = sound.few_past in omega (arith, most), All-from_recursion _ g.0.past is.past);
     members = (
       let most = sound.few_members in
-      let same = finite.len-entries g.0.records in
-      let also = length-map (finite.entries g.0.records) (member_part g.1 g.0.target) in
-      omega (arith, most, same, also),
+          let same = finite.len-entries g.0.records in
+          let also = length-map (finite.entries g.0.records) (member_part g.1 g.0.target) in
+          omega (arith, most, same, also),
       All-from_recursion CanPutMember (map (member_part g.1 g.0.target) (finite.entries g.0.records)) (members_fit g sound is grants (finite.entries g.0.records) (entries_found g.0.records)),
     );
     offsets = (let same = finite.len-entries g.0.offsets in omega (arith, few, same), All-from_recursion FitsOffset (finite.entries g.0.offsets) is.offsets);

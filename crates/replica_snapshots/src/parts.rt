@@ -43,7 +43,7 @@ pub fn put_lists(
         let members = map (member_part grants.now target.now.owners) (finite.entries records.now.records) in
         let committed = finite.entries offsets.now in
         PutsUpToWhere result out.old.items out.new.items (CanPutLists topics past members committed) (FitsLists topics past members committed)
-            (lists_fields topics past members committed) }
+        (lists_fields topics past members committed) }
 {
     put_view(out, view)?;
     put_past(out, records)?;
