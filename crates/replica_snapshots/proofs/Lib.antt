@@ -1,6 +1,11 @@
 pub mod Adding
 pub mod Begins
+pub mod CanPuts
 pub mod FieldLaws
+pub mod FitGroups
+pub mod FitKeys
+pub mod FitRecords
+pub mod FitRuns
 pub mod GroupLaws
 pub mod ImageLaws
 pub mod Inserted
@@ -11,8 +16,8 @@ pub mod PartReads
 pub mod PlaceLaws
 pub mod Puts
 pub mod ReadingLaws
-pub mod RecordReads
 pub mod Rebuilt
+pub mod RecordReads
 pub mod SectionLaws
 pub mod Serving
 pub mod Shares

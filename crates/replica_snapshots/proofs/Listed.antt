@@ -14,7 +14,7 @@ use Rattle.replica_snapshots.specs.declared.fault.SnapshotFault.{SnapshotFault}
 use Rattle.replica_snapshots.specs.declared.node.Sections.{Sections}
 use Rattle.replica_snapshots.specs.Nodes.{head_with, state_of, IsOf, Head, OneGroup, sections_of}
 use Rattle.replica_snapshots.specs.Views.{listed_named, listed_node}
-use Rattle.replica_snapshots.specs.Writing.{Puts, PutsUpTo}
+use Rattle.replica_snapshots.specs.Writing.{PutsUpToWhere, PutsWhere}
 
 states_listed : (list : List NamedGroup) → map state_of (map listed_named list) ≡ map named_group list
 states_listed [] = refl
@@ -72,9 +72,9 @@ some_there (x ∷ xs) zero within = (x, refl)
 some_there (x ∷ xs) (suc i) within = some_there xs i (omega arith)
 
 -- a put that changes no byte where it fails
-pub up_to : {F : Type 0} {s old new : List ℕ} (r : Result (Unit {0}) SnapshotFault) → Puts r old new F s → PutsUpTo r old new F s
+pub up_to : {M F : Type 0} {s old new : List ℕ} (r : Result (Unit {0}) SnapshotFault) → PutsWhere r old new M F s → PutsUpToWhere r old new M F s
 up_to (Ok u) put = record { ok = put.items; fits = put.fits; err = tt; fitting = put.fitting }
-up_to {F} {s} {old} {new} (Err e) put = record {
+up_to {M} {F} {s} {old} {new} (Err e) put = record {
   ok = tt;
   fits = tt;
   err = ap (take (length old)) put.items ∙ take_all (length old) old (omega arith);

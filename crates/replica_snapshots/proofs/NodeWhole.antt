@@ -99,6 +99,21 @@ found_there es apart = all es es apart (λ q x is. is)
       all left whole apart.1 (λ q x is. among q x (behind e q x left apart.0 is)),
     )
 
+-- no two groups of a node of the coordinator have one name, and the coordinator has each of them
+module _ (c : Coordinator) where
+  all_found : (es whole : States) → finite.from_entries whole ≡ c.groups → AllByRecursion (λ (f : Text × Group). find text_cmp f.0 whole ≡ Some f.1) es → AllByRecursion (λ (f : Text × Group). finite.get c.groups f.0 ≡ Some f.1) es
+  all_found [] whole same found = tt
+  all_found (e ∷ es) whole same found =
+      (ap (λ (m : Groups). finite.get m e.0) (sym same) ∙ (finite.get-from_entries text_cmp_total whole e.0 ∙ found.0), all_found es whole same found.1)
+
+  pub apart_and_found : (n : NodeValue) → IsOf c n → KeysApart text_cmp (map state_of n.groups) × AllByRecursion (λ (f : Text × Group). finite.get c.groups f.0 ≡ Some f.1) (map state_of n.groups)
+  apart_and_found n of =
+      let es = map state_of n.groups in
+      let same : finite.from_entries es ≡ c.groups = ap (λ (d : Coordinator). d.groups) of.coordinator in
+      let once : length es ≡ finite.len (map_of es) = length-map n.groups state_of ∙ (of.once ∙ ap finite.len (sym same)) in
+      let apart = once_apart es once in
+      (apart, all_found es es same (found_there es apart))
+
 module _ (c : Coordinator) (can : CanBeNode c) where
   ids : (groups : List Named) → AllByRecursion (λ (f : Text × Group). finite.get c.groups f.0 ≡ Some f.1) (map state_of groups) → AllByRecursion (λ (g : Named). IsGroupId g.0) groups
   ids [] found = tt
@@ -118,20 +133,12 @@ module _ (c : Coordinator) (can : CanBeNode c) where
   none_in_bare salt image [] = tt
   none_in_bare salt image (e ∷ es) = (finite.get-empty text_cmp e.0, none_in_bare salt image es)
 
-  all_found : (es whole : States) → finite.from_entries whole ≡ c.groups → AllByRecursion (λ (f : Text × Group). find text_cmp f.0 whole ≡ Some f.1) es → AllByRecursion (λ (f : Text × Group). finite.get c.groups f.0 ≡ Some f.1) es
-  all_found [] whole same found = tt
-  all_found (e ∷ es) whole same found =
-      (ap (λ (m : Groups). finite.get m e.0) (sym same) ∙ (finite.get-from_entries text_cmp_total whole e.0 ∙ found.0), all_found es whole same found.1)
-
   -- the groups of a node of the coordinator can be kept, one after the other
   pub groups_can : (n : NodeValue) → IsOf c n → CanEach CanKeep keeping (bare n.salt n.image) n.groups
   groups_can n of =
-      let es = map state_of n.groups in
-      let same : finite.from_entries es ≡ c.groups = ap (λ (d : Coordinator). d.groups) of.coordinator in
-      let once : length es ≡ finite.len (map_of es) = length-map n.groups state_of ∙ (of.once ∙ ap finite.len (sym same)) in
-      let apart = once_apart es once in
+      let both = apart_and_found c n of in
       let few : finite.len (bare n.salt n.image).groups + length n.groups ≤ MOST_GROUPS = omega (arith, finite.len-empty text_cmp Group, of.once, can.few) in
-      keep_each n.groups (bare n.salt n.image) apart (none_in_bare n.salt n.image es) (ids n.groups (all_found es es same (found_there es apart))) few
+      keep_each n.groups (bare n.salt n.image) both.0 (none_in_bare n.salt n.image (map state_of n.groups)) (ids n.groups both.1) few
 
 -- ---- a node that was written
 

@@ -4,13 +4,15 @@ use Rattle.std.specs.Prelude.{slice_get}
 use Rattle.std.specs.List.{flat_map, AllByRecursion}
 use Rattle.std.proofs.lemmas.List.{take_more, get_or-drop}
 use Rattle.std.proofs.lemmas.List.Concat.{flat_map-append}
-use Rattle.std.proofs.lemmas.List.Elements.{All-from_recursion, All-push, recursion_from_All}
+use Rattle.std.proofs.lemmas.List.Elements.{All-from_recursion, All-push, All-weaker, recursion_from_All}
 use Rattle.std.proofs.lemmas.Option.{get_or_from_slice_get, slice_get_within, none-some, same_Some}
 use Rattle.replica_snapshots.specs.Groups.{Named, named_fields, FitsNamed}
 use Rattle.replica_snapshots.specs.Laws.{SectionsMakeTheNode}
 use Rattle.replica_snapshots.specs.Nodes.{head_fields, head_of, Section, OneGroup, section_fields, FitsSection, sections_of, between}
 use Rattle.replica_snapshots.specs.declared.fault.SnapshotFault.{SnapshotFault}
-use Rattle.replica_snapshots.specs.Writing.{PutsSections, PutsUpTo}
+use Rattle.replica_snapshots.specs.Puttable.{CanPutSection}
+use Rattle.replica_snapshots.specs.Writing.{PutsSections, PutsUpTo, PutsUpToWhere}
+use Rattle.replica_snapshots.proofs.CanPuts.{section_can}
 use Rattle.replica_snapshots.proofs.Puts.{both}
 
 -- ---- all of them
@@ -77,7 +79,7 @@ few_put {old} {now} sections from size next before few =
 
 pub one_put : {old now new : List ℕ} (sections : List Section) (from size next : ℕ) (x : Section) → from ≤ next → slice_get sections next ≡ Some x
     → (from < next → length now - length old < size) → ArePut old now sections from size next
-    → PutsUpTo (Ok tt) now new (FitsSection x) (section_fields x) → ArePut old new sections from size (next + 1)
+    → PutsUpToWhere (Ok tt) now new (CanPutSection x) (FitsSection x) (section_fields x) → ArePut old new sections from size (next + 1)
 one_put {old} {now} {new} sections from size next x behind at few before one =
     let more = between_more sections from next x behind at in
     let within = slice_get_within sections next x at in
@@ -109,6 +111,7 @@ enough_put sections from size next before behind within enough = record {
   none = before.none;
   err = tt;
   fitting = λ all. tt;
+  can = λ all. tt;
 }
 
 -- none is left
@@ -124,17 +127,18 @@ all_put {old} {now} sections from size next last before past within same =
       none = before.none;
       err = tt;
       fitting = λ all. tt;
+      can = λ all. tt;
     } in
     subst (λ n. PutsSections (Ok n) old now sections from size) (sym same) puts
 
-fits_at : (sections : List Section) (n : ℕ) (x : Section) → slice_get sections n ≡ Some x → AllByRecursion FitsSection sections → FitsSection x
-fits_at [] n x at fits = absurd (none-some x at)
-fits_at (s ∷ sections) zero x at fits = subst FitsSection (same_Some s x at) fits.0
-fits_at (s ∷ sections) (suc n) x at fits = fits_at sections n x at fits.1
+can_at : (sections : List Section) (n : ℕ) (x : Section) → slice_get sections n ≡ Some x → AllByRecursion CanPutSection sections → CanPutSection x
+can_at [] n x at can = absurd (none-some x at)
+can_at (s ∷ sections) zero x at can = subst CanPutSection (same_Some s x at) can.0
+can_at (s ∷ sections) (suc n) x at can = can_at sections n x at can.1
 
 -- one could not be put
 pub stopped_put : {old now new : List ℕ} {e : SnapshotFault} (sections : List Section) (from size next : ℕ) (x : Section) → slice_get sections next ≡ Some x
-    → ArePut old now sections from size next → PutsUpTo (Err e) now new (FitsSection x) (section_fields x)
+    → ArePut old now sections from size next → PutsUpToWhere (Err e) now new (CanPutSection x) (FitsSection x) (section_fields x)
     → PutsSections (Err e) old (take (length old) new) sections from size
 stopped_put {old} {now} {new} {e} sections from size next x at before one =
     let done = between from next sections in
@@ -148,5 +152,6 @@ stopped_put {old} {now} {new} {e} sections from size next x at before one =
       short = tt;
       none = tt;
       err = (both (Err e) former one).err;
-      fitting = λ all. one.fitting (fits_at sections next x at (recursion_from_All FitsSection sections all));
+      fitting = λ all. one.fitting (can_at sections next x at (recursion_from_All CanPutSection sections (All-weaker FitsSection CanPutSection section_can sections all)));
+      can = λ all. one.fitting (can_at sections next x at (recursion_from_All CanPutSection sections all));
     }

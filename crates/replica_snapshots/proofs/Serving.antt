@@ -16,7 +16,7 @@ use Rattle.group_types.specs.Limits.{MOST_GROUPS}
 use Rattle.group_types.specs.Request.{Heartbeat, Kind, Joins, Beats, Leaves, GoesAway, MeansNothing, is_empty, is_invalid, is_invalid_as, kind_of}
 use Rattle.group_types.specs.Text.{Text, text_cmp}
 use Rattle.group_types.specs.Tick.{ticked}
-use Rattle.group_types.proofs.Lookups.{not_none, same_text}
+use Rattle.group_types.proofs.Lookups.{not_none, same_text, some_is}
 use Rattle.group_types.proofs.Orders.{text_cmp_total}
 use Rattle.kip_msgs.specs.Values.{RequestValue, heartbeat_request, commit_request}
 use Rattle.coord_node.specs.Coordinator.{Answer, Coordinator, Event, Frame, Tick, Image, opening}
@@ -118,12 +118,13 @@ request_keeps c (commit_request header v) body stamp moment answer new request c
 
 -- ---- a tick
 
-ticked_there : (moment : ℕ) (es : List (Text × Group)) (name : Text) (g : Group) → find text_cmp name (map (λ (e : Text × Group). (e.0, ticked e.1 moment)) es) ≡ Some g
-    → (h : Group) × (find text_cmp name es ≡ Some h)
+-- a group that has met a moment was there before
+pub ticked_there : (moment : ℕ) (es : List (Text × Group)) (name : Text) (g : Group) → find text_cmp name (map (λ (e : Text × Group). (e.0, ticked e.1 moment)) es) ≡ Some g
+    → (h : Group) × (find text_cmp name es ≡ Some h) × (ticked h moment ≡ g)
 ticked_there moment [] name g is = absurd (not_none g is)
 ticked_there moment (e ∷ es) name g is =
-    elim (eq_by_cmp text_cmp name e.0) as (λ b. cond b (Some (ticked e.1 moment)) (find text_cmp name (map (λ (e : Text × Group). (e.0, ticked e.1 moment)) es)) ≡ Some g → (h : Group) × (cond b (Some e.1) (find text_cmp name es) ≡ Some h)) [
-      | true ↦ λ _. (e.1, refl)
+    elim (eq_by_cmp text_cmp name e.0) as (λ b. cond b (Some (ticked e.1 moment)) (find text_cmp name (map (λ (e : Text × Group). (e.0, ticked e.1 moment)) es)) ≡ Some g → (h : Group) × (cond b (Some e.1) (find text_cmp name es) ≡ Some h) × (ticked h moment ≡ g)) [
+      | true ↦ λ here. (e.1, refl, some_is (ticked e.1 moment) g here)
       | false ↦ λ behind. ticked_there moment es name g behind
     ] is
 

@@ -8,5 +8,7 @@ pub mod Restoring
 pub mod Building
 pub mod Views
 pub mod Faults
+pub mod Puttable
 pub mod Writing
+pub mod Runs
 pub mod Laws

@@ -4,7 +4,9 @@ ghost use Rattle.std.specs.Prelude.{◌≡◌, ◌++◌, ℕ, List, IfErr, IfOk}
 ghost use Rattle.replica_snapshots.specs.Spelling.{parts_fields, FitsParts};
 ghost use Rattle.replica_snapshots.specs.Groups.{numbers_of, parts_of, group_fields, FitsGroup, Named, named_fields, FitsNamed};
 ghost use Rattle.replica_snapshots.specs.Views.{held_of, named_of};
-ghost use Rattle.replica_snapshots.specs.Writing.{Puts, PutsUpTo};
+ghost use Rattle.group_reconcile.specs.Holders.{pairs};
+ghost use Rattle.replica_snapshots.specs.Puttable.{CanPutNamed, CanPutParts};
+ghost use Rattle.replica_snapshots.specs.Writing.{PutsUpToWhere, PutsWhere};
 ghost use Rattle.replica_snapshots.specs.declared.fault.SnapshotFault.TheVariants.{NoMemory};
 
 use crate::cursor::Cursor;
@@ -32,7 +34,7 @@ pub struct ReadGroup<'a> {
 /// to; `NoMemory`.
 pub fn put_group(out: &mut Vec<u8>, name: &str, group: &Group) -> Result<(), SnapshotFault>
     ensures { let g : Named = (name.now, held_of group.now) in
-        Puts result out.old.items out.new.items (FitsNamed g) (named_fields g) }
+        PutsWhere result out.old.items out.new.items (CanPutNamed g) (FitsNamed g) (named_fields g) }
 {
     let before = out.len();
     let done = named_up_to(out, name, group);
@@ -44,14 +46,15 @@ pub fn put_group(out: &mut Vec<u8>, name: &str, group: &Group) -> Result<(), Sna
 
 fn named_up_to(out: &mut Vec<u8>, name: &str, group: &Group) -> Result<(), SnapshotFault>
     ensures { let g : Named = (name.now, held_of group.now) in
-        PutsUpTo result out.old.items out.new.items (FitsNamed g) (named_fields g) }
+        PutsUpToWhere result out.old.items out.new.items (CanPutNamed g) (FitsNamed g) (named_fields g) }
 {
     put_text(out, name)?;
     group_up_to(out, group)
 }
 
 fn group_up_to(out: &mut Vec<u8>, group: &Group) -> Result<(), SnapshotFault>
-    ensures { PutsUpTo result out.old.items out.new.items (FitsGroup (held_of group.now)) (group_fields (held_of group.now)) }
+    ensures { let g = held_of group.now in
+        PutsUpToWhere result out.old.items out.new.items (g.0.grants ≡ pairs g.1 → CanPutParts (parts_of g)) (FitsGroup g) (group_fields g) }
 {
     // so that the group is known to be sound, its grants to be those of its holders, and its serial to be above 0
     let (_, _, _) = (group.epoch(), group.grants(), group.ids_made());
@@ -61,7 +64,7 @@ fn group_up_to(out: &mut Vec<u8>, group: &Group) -> Result<(), SnapshotFault>
 #[tactic(auto, unfolding(crate::specs::Spelling::parts_fields))]
 fn parts_up_to(out: &mut Vec<u8>, group: &Group) -> Result<(), SnapshotFault>
     ensures { let g = parts_of (held_of group.now) in
-        PutsUpTo result out.old.items out.new.items (FitsParts g) (parts_fields g) }
+        PutsUpToWhere result out.old.items out.new.items (CanPutParts g) (FitsParts g) (parts_fields g) }
 {
     put_numbers(out, &numbers_of(group))?;
     put_lists(

@@ -8,7 +8,8 @@ ghost use Rattle.group_types.specs.Sets.{in_order};
 ghost use Rattle.group_reconcile.specs.Holders.{granted_at};
 ghost use Rattle.replica_snapshots.specs.Parts.{grant_of, grants_of, member_part};
 ghost use Rattle.replica_snapshots.specs.Spelling.{optional, assignor_field, FitsAssignor, identity_fields, FitsIdentity, wishes_fields, FitsWishes, progress_fields, FitsProgress, deadlines_fields, FitsDeadlines, record_fields, FitsRecord, grant_fields, FitsGrant, partitions_field, FitsPartitions, member_fields, FitsMember};
-ghost use Rattle.replica_snapshots.specs.Writing.{PutsUpTo};
+ghost use Rattle.replica_snapshots.specs.Puttable.{CanPutGrant, CanPutMember};
+ghost use Rattle.replica_snapshots.specs.Writing.{PutsUpTo, PutsUpToWhere};
 
 use crate::fault::SnapshotFault;
 use crate::fields::{
@@ -40,7 +41,7 @@ pub fn put_member(
     near: &mut Near,
 ) -> Result<(), SnapshotFault>
     ensures { let m = member_part grants.now target.now.owners (id.now, kept.now) in
-        PutsUpTo result out.old.items out.new.items (FitsMember m) (member_fields m) }
+        PutsUpToWhere result out.old.items out.new.items (CanPutMember m) (FitsMember m) (member_fields m) }
 {
     put_text(out, id.as_str())?;
     put_record(out, kept)?;
@@ -122,7 +123,7 @@ fn put_grants(
     near: &mut usize,
 ) -> Result<(), SnapshotFault>
     ensures { let list = grants_of grants.now id.now in
-        PutsUpTo result out.old.items out.new.items (FitsArray FitsGrant list) (array grant_fields list) }
+        PutsUpToWhere result out.old.items out.new.items (FitsArray CanPutGrant list) (FitsArray FitsGrant list) (array grant_fields list) }
 {
     let (held, next) = grants.held_near(id, *near);
     *near = next;
@@ -137,7 +138,7 @@ fn put_grants(
 
 fn put_each_grant(out: &mut Vec<u8>, grants: &Grants, set: &PartSet) -> Result<(), SnapshotFault>
     ensures { let list = map (grant_of grants.now) (in_order set.now) in
-        PutsUpTo result out.old.items out.new.items (All FitsGrant list) (flat_map grant_fields list) }
+        PutsUpToWhere result out.old.items out.new.items (All CanPutGrant list) (All FitsGrant list) (flat_map grant_fields list) }
 {
     for p in set.iter() {
         put_grant(out, grants, p)?;
@@ -148,10 +149,14 @@ fn put_each_grant(out: &mut Vec<u8>, grants: &Grants, set: &PartSet) -> Result<(
 #[tactic(auto, unfolding(crate::specs::Spelling::grant_fields))]
 #[inline(always)]
 fn put_grant(out: &mut Vec<u8>, grants: &Grants, p: &Partition) -> Result<(), SnapshotFault>
-    ensures { PutsUpTo result out.old.items out.new.items (FitsGrant (grant_of grants.now p.now)) (grant_fields (grant_of grants.now p.now)) }
+    ensures { let g = grant_of grants.now p.now in
+        PutsUpToWhere result out.old.items out.new.items (CanPutGrant g) (FitsGrant g) (grant_fields g) }
 {
     put_partition(out, p)?;
-    put_epoch(out, since(grants, p))
+    let epoch = since(grants, p);
+    // so that the epoch is known to fit
+    let _ = epoch.as_u32();
+    put_epoch(out, epoch)
 }
 
 /// The epoch of the target since which the partition may be read.

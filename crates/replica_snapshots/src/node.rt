@@ -8,7 +8,8 @@ ghost use Rattle.replica_snapshots.specs.Groups.{FitsNamed, Named, named_fields}
 ghost use Rattle.replica_snapshots.specs.Nodes.{FitsSection, IsOf, SpellsNode, section_fields, sections_of};
 ghost use Rattle.replica_snapshots.specs.Restoring.{CanBeNode, CanKeep, keeping, ReadsGroup, ReadsGroups};
 ghost use Rattle.replica_snapshots.specs.Views.{listed_node};
-ghost use Rattle.replica_snapshots.specs.Writing.{PutsSections, PutsUpTo};
+ghost use Rattle.replica_snapshots.specs.Puttable.{CanPutSection};
+ghost use Rattle.replica_snapshots.specs.Writing.{PutsSections, PutsUpToWhere};
 ghost use Rattle.replica_snapshots.specs.declared.fault.SnapshotFault.TheVariants.{NoMemory};
 
 use crate::fault::SnapshotFault;
@@ -55,7 +56,7 @@ impl<'a> Sections<'a> {
     ///
     /// Refused, with no byte changed: `TooLong` only where a text has over 32,767 bytes, where there is more of something than a
     /// count can say, or where a partition's index is outside 0 to 99,999, or metadata has over 4,096 bytes, as in no group that
-    /// requests lead to; `NoMemory`.
+    /// requests lead to, but for one of 2^32 - 1 offsets or more (`runs_with_few_offsets_are_put`); `NoMemory`.
     pub fn put(&self, from: usize, size: usize, out: &mut Vec<u8>) -> Result<usize, SnapshotFault>
         ensures { PutsSections result out.old.items out.new.items (sections_of (listed_node self.now)) from size }
     {
@@ -76,7 +77,7 @@ impl<'a> Sections<'a> {
     /// Appends one section.
     fn put_section(&self, number: usize, out: &mut Vec<u8>) -> Result<(), SnapshotFault>
         ensures { IfSome (slice_get (sections_of (listed_node self.now)) number) (λ section.
-            PutsUpTo result out.old.items out.new.items (FitsSection section) (section_fields section)) }
+            PutsUpToWhere result out.old.items out.new.items (CanPutSection section) (FitsSection section) (section_fields section)) }
     {
         match number.checked_sub(1) {
             None => put_head(self.alloc, out, self.salt, self.image, self.groups.len()),

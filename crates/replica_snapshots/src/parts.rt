@@ -12,7 +12,8 @@ ghost use Rattle.topic_meta.specs.Views.{all_named, named};
 ghost use Rattle.offset_guard.specs.Listing.{entry_of};
 ghost use Rattle.replica_snapshots.specs.Parts.{member_part};
 ghost use Rattle.replica_snapshots.specs.Spelling.{topic_fields, FitsTopic, former_fields, FitsFormer, member_fields, FitsMember, committed_fields, FitsCommitted, FitsMetadata, optional, offset_fields, FitsOffset, lists_fields, FitsLists};
-ghost use Rattle.replica_snapshots.specs.Writing.{PutsUpTo};
+ghost use Rattle.replica_snapshots.specs.Puttable.{CanPutLists, CanPutMember};
+ghost use Rattle.replica_snapshots.specs.Writing.{PutsUpTo, PutsUpToWhere};
 
 use crate::fault::SnapshotFault;
 use crate::fields::{
@@ -41,7 +42,8 @@ pub fn put_lists(
         let past = records.now.past in
         let members = map (member_part grants.now target.now.owners) (finite.entries records.now.records) in
         let committed = finite.entries offsets.now in
-        PutsUpTo result out.old.items out.new.items (FitsLists topics past members committed) (lists_fields topics past members committed) }
+        PutsUpToWhere result out.old.items out.new.items (CanPutLists topics past members committed) (FitsLists topics past members committed)
+        (lists_fields topics past members committed) }
 {
     put_view(out, view)?;
     put_past(out, records)?;
@@ -121,7 +123,7 @@ pub fn put_members(
     target: &Target,
 ) -> Result<(), SnapshotFault>
     ensures { let members = map (member_part grants.now target.now.owners) (finite.entries records.now.records) in
-        PutsUpTo result out.old.items out.new.items (FitsArray FitsMember members) (array member_fields members) }
+        PutsUpToWhere result out.old.items out.new.items (FitsArray CanPutMember members) (FitsArray FitsMember members) (array member_fields members) }
 {
     put_size(out, records.len())?;
     put_each_member(out, records, grants, target)
@@ -134,7 +136,7 @@ fn put_each_member(
     target: &Target,
 ) -> Result<(), SnapshotFault>
     ensures { let members = map (member_part grants.now target.now.owners) (finite.entries records.now.records) in
-        PutsUpTo result out.old.items out.new.items (All FitsMember members) (flat_map member_fields members) }
+        PutsUpToWhere result out.old.items out.new.items (All CanPutMember members) (All FitsMember members) (flat_map member_fields members) }
 {
     let mut near = Near {
         grants: 0,

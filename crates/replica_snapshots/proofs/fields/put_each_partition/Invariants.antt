@@ -5,4 +5,4 @@ use Rattle.replica_snapshots.proofs.Puts.{AreLeft}
 use Rattle.replica_snapshots.proofs.fields.put_each_partition.Given as goal
 
 abbrev pub invariant-loop-p : goal.invariant-loop-p
-invariant-loop-p l = AreLeft FitsPartition partition_fields l.fn.out.items l.out.items (in_order l.set) (iter_rest l.p-iterator)
+invariant-loop-p l = AreLeft FitsPartition FitsPartition partition_fields l.fn.out.items l.out.items (in_order l.set) (iter_rest l.p-iterator)

@@ -1,4 +1,5 @@
 use Rattle.std.proofs.lemmas.Result.{err_from_is_err_and}
+use Rattle.replica_snapshots.specs.Puttable.{CanPutLists}
 use Rattle.replica_snapshots.specs.Spelling.{parts_fields, lists_fields, FitsLists}
 use Rattle.replica_snapshots.specs.Groups.{parts_of}
 use Rattle.replica_snapshots.specs.Views.{held_of}
@@ -12,7 +13,7 @@ returns-in_err-put_numbers c =
     let r = c.from_residual.result in
     let p = err_from_is_err_and r c.from_residual.ensures.1 in
     let numbers = rw c.numbers_of.ensures at c.in_err-put_numbers.ensures in
-    let put = stopped (FitsLists g.view g.past g.members g.offsets) (lists_fields g.view g.past g.members g.offsets) r numbers p.1 p.2 in
+    let put = stopped (CanPutLists g.view g.past g.members g.offsets) (FitsLists g.view g.past g.members g.offsets) (lists_fields g.view g.past g.members g.offsets) r numbers p.1 p.2 in
     refitted r put (λ f. record { numbers = f.0; lists = f.1 }) (λ f. (f.numbers, f.lists))
 
 pub returns : goal.returns

@@ -11,7 +11,7 @@ returns-in_err-put_view c =
     let r = c.from_residual-in_err-put_view.result in
     let p = err_from_is_err_and r c.from_residual-in_err-put_view.ensures.1 in
     let groups = c.args.groups in
-    let put = both r c.in_ok-put_version.ensures (both r c.in_ok-put_number.ensures (stopped (FitsCount groups) (array_count groups ++ []) r c.in_err-put_view.ensures p.1 p.2)) in
+    let put = both r c.in_ok-put_version.ensures (both r c.in_ok-put_number.ensures (stopped (FitsCount groups) (FitsCount groups) (array_count groups ++ []) r c.in_err-put_view.ensures p.1 p.2)) in
     refitted r put (λ f. record { salt = f.1.0; image = f.1.1.0; groups = f.1.1.1 }) (λ f. (tt, (f.salt, (f.image, f.groups))))
 
 pub returns : goal.returns

@@ -14,4 +14,4 @@ returns-in-None c =
     let none : in_order share ≡ [] =
     ap (λ (set : Partitions). in_order set) (sym (c.in-None.ensures ∙ c.of_near-wanted.ensures.partitions))
     ∙ ap (λ (entries : List (Partition × Unit {0})). map (λ e. e.0) entries) (entries-nothing partition_cmp) in
-    array_of_none FitsPartition partition_fields (in_order share) c.put_size.result none c.put_size.ensures
+    array_of_none FitsPartition FitsPartition partition_fields (in_order share) c.put_size.result none c.put_size.ensures

@@ -12,7 +12,8 @@ returns-in_err-put_names c =
     let kept = c.args.kept.now in
     let p = err_from_is_err_and r c.from_residual.ensures.1 in
     let names = rw c.names.ensures at c.in_err-put_names.ensures in
-    let put = stopped (IfSome kept.assignor FitsAssignor × FitsMillis kept.rebalance_timeout) (optional assignor_field kept.assignor ++ (number64 kept.rebalance_timeout ++ [])) r names p.1 p.2 in
+    let others = IfSome kept.assignor FitsAssignor × FitsMillis kept.rebalance_timeout in
+    let put = stopped others others (optional assignor_field kept.assignor ++ (number64 kept.rebalance_timeout ++ [])) r names p.1 p.2 in
     refitted r put (λ f. record { names = f.0; assignor = f.1.0; rebalance_timeout = f.1.1 }) (λ f. (f.names, (f.assignor, f.rebalance_timeout)))
 
 pub returns : goal.returns

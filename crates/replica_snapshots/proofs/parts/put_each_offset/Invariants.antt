@@ -5,4 +5,4 @@ use Rattle.replica_snapshots.proofs.Puts.{AreLeft}
 use Rattle.replica_snapshots.proofs.parts.put_each_offset.Given as goal
 
 abbrev pub invariant-loop-at : goal.invariant-loop-at
-invariant-loop-at l = AreLeft FitsOffset offset_fields l.fn.out.items l.out.items (map entry_of l.list) (map entry_of (drop l.at-index l.list))
+invariant-loop-at l = AreLeft FitsOffset FitsOffset offset_fields l.fn.out.items l.out.items (map entry_of l.list) (map entry_of (drop l.at-index l.list))

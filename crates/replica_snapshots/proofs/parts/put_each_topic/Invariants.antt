@@ -5,4 +5,4 @@ use Rattle.replica_snapshots.proofs.Puts.{AreLeft}
 use Rattle.replica_snapshots.proofs.parts.put_each_topic.Given as goal
 
 abbrev pub invariant-loop-topic : goal.invariant-loop-topic
-invariant-loop-topic l = AreLeft FitsTopic topic_fields l.fn.out.items l.out.items (all_named l.topics) (all_named (drop l.topic-index l.topics))
+invariant-loop-topic l = AreLeft FitsTopic FitsTopic topic_fields l.fn.out.items l.out.items (all_named l.topics) (all_named (drop l.topic-index l.topics))

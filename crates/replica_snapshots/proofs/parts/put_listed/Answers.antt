@@ -9,8 +9,8 @@ use Rattle.replica_snapshots.proofs.parts.put_listed.Goals as goal
 pub returns-in_err-put_size : goal.returns-in_err-put_size
 returns-in_err-put_size c =
     let p = err_from_is_err_and c.from_residual.result c.from_residual.ensures.1 in
-    array_stopped FitsOffset offset_fields (map entry_of c.args.list.now) c.from_residual.result (sym (length-map c.args.list.now entry_of)) c.in_err-put_size.ensures p.1 p.2
+    array_stopped FitsOffset FitsOffset offset_fields (map entry_of c.args.list.now) c.from_residual.result (sym (length-map c.args.list.now entry_of)) c.in_err-put_size.ensures p.1 p.2
 
 pub returns : goal.returns
 returns c =
-    array_put FitsOffset offset_fields (map entry_of c.args.list.now) c.put_each_offset.result (sym (length-map c.args.list.now entry_of)) c.in_ok-put_size.ensures c.put_each_offset.ensures
+    array_put FitsOffset FitsOffset offset_fields (map entry_of c.args.list.now) c.put_each_offset.result (sym (length-map c.args.list.now entry_of)) c.in_ok-put_size.ensures c.put_each_offset.ensures

@@ -9,5 +9,5 @@ use Rattle.replica_snapshots.proofs.parts.put_view.Goals as goal
 pub returns : goal.returns
 returns c =
     let all = c.topics-topics.ensures.all in
-    array_put FitsTopic topic_fields (finite.entries c.args.view.now) c.put_each_topic.result
+    array_put FitsTopic FitsTopic topic_fields (finite.entries c.args.view.now) c.put_each_topic.result
     (sym (length-map c.topics-topics.result.now named) ∙ ap length all) c.in_ok-put_size.ensures (rw all at c.put_each_topic.ensures)

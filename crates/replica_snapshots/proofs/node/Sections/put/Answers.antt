@@ -2,7 +2,8 @@ use Rattle.std.proofs.Common.{◌≡◌, ◌<◌, ◌-◌, ℕ, List, length, ta
 use Rattle.std.specs.Prelude.{slice_get}
 use Rattle.replica_snapshots.specs.Nodes.{FitsSection, Section, section_fields, sections_of}
 use Rattle.replica_snapshots.specs.Views.{listed_node}
-use Rattle.replica_snapshots.specs.Writing.{PutsSections, PutsUpTo}
+use Rattle.replica_snapshots.specs.Puttable.{CanPutSection}
+use Rattle.replica_snapshots.specs.Writing.{PutsSections, PutsUpToWhere}
 use Rattle.replica_snapshots.proofs.Listed.{said_there, some_there}
 use Rattle.replica_snapshots.proofs.SectionLaws.{one_put, stopped_put}
 use Rattle.replica_snapshots.proofs.node.Sections.put.Goals.{else-from-next-via-then-from-next+else-size-len, else-from-next-via-else-from-next}
@@ -16,7 +17,7 @@ returns-in-Err c =
     let within : c.loop-next.next < length sections = omega (arith, c.loop-next-test.true, c.count-count.ensures) in
     let there = some_there sections c.loop-next.next within in
     let one =
-    said_there (λ (section : Section). PutsUpTo (Err c.in-Err.fault) c.loop-next.out.items bytes (FitsSection section) (section_fields section))
+    said_there (λ (section : Section). PutsUpToWhere (Err c.in-Err.fault) c.loop-next.out.items bytes (CanPutSection section) (FitsSection section) (section_fields section))
     (slice_get sections c.loop-next.next) there.0 there.1 c.in-Err.ensures in
     let size : c.len-before.result ≡ length old = omega (arith, c.len-before.ensures, c.args.out.now.ok.0) in
     let cut : c.truncate.new.self.items ≡ take (length old) bytes = c.truncate.ensures.items ∙ ap (λ n. take n bytes) size in
@@ -39,6 +40,6 @@ loop-next-preserved c =
     let there = some_there sections c.loop-next.next within in
     let one =
     said_there
-    (λ (section : Section). PutsUpTo (Ok tt) c.loop-next.out.items c.put_section.new.out.items (FitsSection section) (section_fields section))
+    (λ (section : Section). PutsUpToWhere (Ok tt) c.loop-next.out.items c.put_section.new.out.items (CanPutSection section) (FitsSection section) (section_fields section))
     (slice_get sections c.loop-next.next) there.0 there.1 c.in_default.ensures in
     one_put sections c.args.from c.args.size c.loop-next.next there.0 c.loop-next.auto.next there.1 (few_bytes c) c.loop-next.invariant one
