@@ -1,4 +1,4 @@
-use Rattle.std.proofs.Common.{true, false, ap, sym, subst, ◌∙◌, true≢false}
+use Rattle.std.proofs.Common.{true, ap, sym, subst, ◌∙◌, true≢false}
 use Rattle.std.proofs.lemmas.Result.{err_from_is_err_and}
 use Rattle.coord_node.specs.Restored.{CanBeKept, with_group_if}
 use Rattle.replica_snapshots.specs.Groups.{Named}
