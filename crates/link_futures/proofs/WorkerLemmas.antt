@@ -1,7 +1,7 @@
 -- What a worker's poll has registered.
-use Rattle.std.proofs.Common.{◌≡◌, ◌≢◌, ◌⊎◌, ℕ, ◌+◌, ◌<◌, Bool, true, false, List, [], ◌∷◌, length, get_or, set, All, ⊎_elim, refl, arith, length-set, get_or-set_other, get_or-set_same, Option}
+use Rattle.std.proofs.Common.{◌≡◌, ◌≢◌, ◌⊎◌, inl, inr, ℕ, ◌+◌, ◌<◌, ◌≤◌, min, Bool, true, false, List, [], ◌∷◌, length, get_or, set, All, ⊎_elim, refl, arith, length-set, get_or-set_other, get_or-set_same, Option}
 use Rattle.std.proofs.Common.{Contains}
-use Rattle.std.proofs.lemmas.Bool.{cases_eq}
+use Rattle.std.proofs.lemmas.Bool.{cases_eq, cases_lt}
 use Rattle.std.proofs.lemmas.List.Elements.{All-contains}
 use Rattle.futures.specs.declared.task.context.Context.{Context}
 use Rattle.futures.specs.declared.stream.futures_unordered.FuturesUnordered.{FuturesUnordered}
@@ -9,33 +9,58 @@ use Rattle.futures.specs.Task.{Covers, Keeps}
 use Rattle.link_futures.specs.declared.line.Line.{Line}
 use Rattle.link_futures.specs.Stream.{LineNeeds}
 use Rattle.link_futures.specs.Resting.{RestingNeed}
-use Rattle.link_futures.specs.Workers.{WorkerNeeds}
+use Rattle.link_futures.specs.Workers.{AreArmedBut, WorkerNeeds}
 use Rattle.link_futures.proofs.TurnLemmas.{Covers_kept}
 
 module _ {R W : Type 0} (read : R → ℕ → Type 0) (write : W → ℕ → Type 0) where
-  -- each line before a place is registered for what it needs
-  abbrev pub AreArmed : Context → List (Line R W) → ℕ → Type 0
-  AreArmed cx lines place = (k : ℕ) (d : Line R W) → k < length lines → k < place → Covers cx (LineNeeds read write (get_or lines k d))
+  -- before a place each line but those of a range is registered for what it needs, and so is each line behind those that have turns
+  abbrev pub AreArmed : Context → List (Line R W) → ℕ → ℕ → ℕ → ℕ → Type 0
+  AreArmed cx lines place first behind end =
+      (k : ℕ) (d : Line R W) → k < length lines → ((k < place) × ((k < first) ⊎ (behind ≤ k))) ⊎ (end ≤ k) → Covers cx (LineNeeds read write (get_or lines k d))
 
-  -- the line at the place has had its turn, and goes on
-  pub AreArmed-set : (before after : Context) (lines : List (Line R W)) (place : ℕ) (line : Line R W) → Keeps before after → place < length lines
-      → AreArmed before lines place → Covers after (LineNeeds read write line) → AreArmed after (set lines place line) (place + 1)
-  AreArmed-set before after lines place line keeps inside armed new k d below had =
+  -- another line than the one at the place has had no turn
+  other_stays : (before after : Context) (lines : List (Line R W)) (place : ℕ) (line : Line R W) (k : ℕ) (d : Line R W) → Keeps before after → k ≢ place
+      → Covers before (LineNeeds read write (get_or lines k d)) → Covers after (LineNeeds read write (get_or (set lines place line) k d))
+  other_stays before after lines place line k d keeps ne armed = rw get_or-set_other (Covers_kept before after _ armed keeps)
+
+  -- the line at the place has had its turn, and waits
+  pub AreArmed-waits : (before after : Context) (lines : List (Line R W)) (place first behind end : ℕ) (line : Line R W) → Keeps before after
+      → AreArmed before lines place first behind end → Covers after (LineNeeds read write line) → AreArmed after (set lines place line) (place + 1) first behind end
+  AreArmed-waits before after lines place first behind end line keeps armed new k d below at =
       let sized : length (set lines place line) ≡ length lines = length-set lines place line in
       ⊎_elim
-      (λ (same : k ≡ place). rw (same, get_or-set_same) new)
-      (λ (ne : k ≢ place). rw get_or-set_other (Covers_kept before after _ (armed k d (omega arith) (omega (arith, ne))) keeps))
+      (λ (same : k ≡ place). let inside : place < length lines = omega (arith, same) in rw (same, get_or-set_same) new)
+      (λ (ne : k ≢ place).
+      other_stays before after lines place line k d keeps ne (armed k d (omega arith) (⊎_elim (λ had. inl (omega (arith, ne, had.0), had.1)) inr at)))
       (cases_eq k place)
 
+  -- the line at the place has had its turn, and has more to do
+  pub AreArmed-goes_on : (before after : Context) (lines : List (Line R W)) (place first behind end : ℕ) (line : Line R W) → Keeps before after → place < end
+      → AreArmed before lines place first behind end → AreArmed after (set lines place line) (place + 1) (min first place) (place + 1) end
+  AreArmed-goes_on before after lines place first behind end line keeps inside armed k d below at =
+      let sized : length (set lines place line) ≡ length lines = length-set lines place line in
+      let stood : ((k < place) × (k < first)) ⊎ (end ≤ k) = ⊎_elim (λ had. inl (omega (arith, had), omega (arith, had))) inr at in
+      other_stays before after lines place line k d keeps (⊎_elim (λ had. omega (arith, had)) (λ high. omega (arith, high)) stood)
+      (armed k d (omega arith) (⊎_elim (λ had. inl (had.0, inl had.1)) inr stood))
+
   -- the line at the place has had its turn and ended, and the last of the n lines has come in its place
-  pub AreArmed-swap_remove : (before after : Context) (lines left : List (Line R W)) (n place : ℕ) (line : Line R W) → Keeps before after
+  pub AreArmed-ends : (before after : Context) (lines left : List (Line R W)) (n place first behind end : ℕ) (line : Line R W) → Keeps before after → place < end
       → n ≡ length lines → length left + 1 ≡ n
       → ((k : ℕ) (d : Line R W) → k ≢ place → k + 1 < n → get_or left k d ≡ get_or (set lines place line) k d)
-      → AreArmed before lines place → AreArmed after left place
-  AreArmed-swap_remove before after lines left n place line keeps many fewer others armed k d below had =
-      let ne : k ≢ place = omega arith in
+      → AreArmed before lines place first behind end → AreArmed after left place first behind end
+  AreArmed-ends before after lines left n place first behind end line keeps inside many fewer others armed k d below at =
+      let ne : k ≢ place = ⊎_elim (λ had. omega (arith, had.0)) (λ high. omega (arith, high)) at in
       let stays : get_or left k d ≡ get_or (set lines place line) k d = others k d ne (omega arith) in
-      rw (stays, get_or-set_other) (Covers_kept before after _ (armed k d (omega arith) had) keeps)
+      rw stays (other_stays before after lines place line k d keeps ne (armed k d (omega arith) at))
+
+  -- no more turns are left: all lines but those of the range are registered
+  pub AreArmed-all : (cx : Context) (lines : List (Line R W)) (place first behind end : ℕ) → (end ≤ place) ⊎ (length lines ≤ place)
+      → AreArmed cx lines place first behind end → AreArmedBut read write cx lines first behind
+  AreArmed-all cx lines place first behind end over armed k d below at =
+      ⊎_elim
+      (λ (low : k < end). armed k d below (inl (⊎_elim (λ (h : end ≤ place). omega arith) (λ (h : length lines ≤ place). omega arith) over, at)))
+      (λ (high : end ≤ k). armed k d below (inr high))
+      (cases_lt k end)
 
 first_armed : {R W : Type 0} (read : R → ℕ → Type 0) (write : W → ℕ → Type 0) (lines : List (Line R W)) (after : Context)
     → All (λ line. Covers after (LineNeeds read write line)) lines → 0 < length lines → Covers after (λ s. ⊥)

@@ -1,7 +1,9 @@
 -- What a worker waits for, and what it gives.
-use Rattle.std.specs.Prelude.{◌≡◌, ◌⊎◌, ℕ, ◌+◌, ◌-◌, ◌^◌, ◌<◌, min, Bool, false, List, ◌++◌, length, All, Contains, Option, None, Ok, Err}
+use Rattle.std.specs.Prelude.{◌≡◌, ◌⊎◌, ℕ, ◌+◌, ◌-◌, ◌^◌, ◌<◌, ◌≤◌, min, Bool, false, List, ◌++◌, length, slice_index_or, All, Contains, Option, None, Ok, Err}
 use Rattle.tokio.specs.Io.Moved.{Passes}
 use Rattle.futures.specs.Runs.{Runs}
+use Rattle.futures.specs.Task.{Covers}
+use Rattle.futures.specs.declared.task.context.Context.{Context}
 use Rattle.futures.specs.declared.stream.futures_unordered.FuturesUnordered.{FuturesUnordered}
 use Rattle.link_futures.specs.declared.end.End.{End}
 use Rattle.link_futures.specs.declared.line.Line.{Line}
@@ -19,6 +21,11 @@ WorkerNeeds {A} {R} {W} arrive read write arrivals is_closed lines resting count
     ((is_closed ≡ false) × arrive arrivals source)
     ⊎ (((line : Line R W) × Contains lines line × LineNeeds read write line source)
     ⊎ ((0 < count) × RestingNeed resting source))
+
+-- each line but those of a range is registered for what it needs
+abbrev pub AreArmedBut : {R W : Type 0} → (R → ℕ → Type 0) → (W → ℕ → Type 0) → Context → List (Line R W) → ℕ → ℕ → Type 0
+AreArmedBut {R} {W} read write cx lines start end =
+    (place : ℕ) (line : Line R W) → place < length lines → (place < start) ⊎ (end ≤ place) → Covers cx (LineNeeds read write (slice_index_or lines place line))
 
 -- some answer of a desk, whatever state it is in: it also answers other lines
 abbrev pub at_any_time : {D : Type 0} → Answering D → Answering (Unit {0})

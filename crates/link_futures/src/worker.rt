@@ -4,6 +4,7 @@ ghost use Rattle.futures.specs.Task.{Covers, Keeps};
 ghost use Rattle.futures.specs.Runs.{EndsIf};
 ghost use Rattle.link_futures.specs.Stream.{LineNeeds};
 ghost use Rattle.link_futures.specs.Resting.{RestingNeed};
+ghost use Rattle.link_futures.specs.Workers.{AreArmedBut};
 
 use crate::desk::Desk;
 use crate::line::Line;
@@ -14,6 +15,7 @@ use crate::writer::WriteParts;
 use futures::task::{Context, Poll};
 use futures::{Future, Stream};
 use std::alloc::Global;
+use std::ops::Range;
 
 /// Up to this number of lines have turns and none of them rests: to give them all a turn costs less than to wake one.
 const FEW_LINES: usize = 16;
@@ -111,23 +113,25 @@ impl<R: ReadPart, W: WriteParts, A: Stream<Item = Line<R, W>>, D: Desk> Worker<A
         0 < resting
     }
 
-    /// Gives each line a turn, one line behind the other, so that the replies of one go out while the next is answered. Those that
-    /// end are dropped. Says whether one of the others has more to do; where none has, they are registered for what they need.
-    fn take_turns(&mut self, cx: &mut Context<'_>) -> bool
+    /// Gives each line of a range a turn, one line behind the other, so that the replies of one go out while the next is answered. Those
+    /// that end are dropped. Gives the range of those that have more to do; all others are registered for what they need.
+    fn take_turns(&mut self, cx: &mut Context<'_>, turns: Range<usize>) -> Range<usize>
+        requires { AreArmedBut R.needs W.needs cx.old self.old.lines.items turns.start turns.end }
         ensures arrivals { (self.new.arrivals ≡ self.old.arrivals) × (self.new.is_closed ≡ self.old.is_closed) }
         ensures resting { self.new.resting ≡ self.old.resting }
         ensures gives { (n : ℕ) → ⟦<Worker<A, D> as Future>⟧.gives self.new n → ⟦<Worker<A, D> as Future>⟧.gives self.old n }
-        ensures armed { result ≡ false → All (λ line. Covers cx.new (LineNeeds R.needs W.needs line)) self.new.lines.items }
+        ensures armed { AreArmedBut R.needs W.needs cx.new self.new.lines.items result.start result.end }
         ensures kept { Keeps cx.old cx.new }
     {
-        let mut goes_on = false;
-        let mut place = 0;
-        while place < self.lines.len() {
+        let (mut first, mut behind) = (turns.end, turns.end);
+        let mut place = turns.start;
+        while place < turns.end && place < self.lines.len() {
             match self.lines[place].step(cx, &mut self.desk) {
                 Turned::Waits => place += 1,
                 Turned::GoesOn => {
-                    goes_on = true;
+                    first = first.min(place);
                     place += 1;
+                    behind = place;
                 }
                 Turned::Ends(end) => {
                     self.lines[place].tell_end(&self.desk, end);
@@ -136,7 +140,7 @@ impl<R: ReadPart, W: WriteParts, A: Stream<Item = Line<R, W>>, D: Desk> Worker<A
                 }
             }
         }
-        goes_on
+        first..behind
     }
 
     /// Looks once for an arrival and for lines that were woken, where there may be one. Says whether there was one, or may be; where
@@ -149,6 +153,7 @@ impl<R: ReadPart, W: WriteParts, A: Stream<Item = Line<R, W>>, D: Desk> Worker<A
         ensures gives { (n : ℕ) → ⟦<Worker<A, D> as Future>⟧.gives self.new n → ⟦<Worker<A, D> as Future>⟧.gives self.old n }
         ensures waits { result ≡ false → self.new.is_closed ≡ false → Covers cx.new (A.needs self.new.arrivals) }
         ensures rests { result ≡ false → 0 < self.new.resting.count → Covers cx.new (RestingNeed self.new.resting.lines) }
+        ensures none { may_come ≡ false → (self.new ≡ self.old) × (cx.new ≡ cx.old) }
         ensures kept { Keeps cx.old cx.new }
     {
         if !may_come {
@@ -210,18 +215,25 @@ impl<R: ReadPart, W: WriteParts, A: Stream<Item = Line<R, W>>, D: Desk> Future f
     ghost gives = { λ w. WorkerGives R.reads R.is_at_end R.faults W.writes W.faults W.stalls D.answers
         (EndsIf w.is_closed (A.yields w.arrivals)) w.lines.items w.resting.lines w.resting.count w.ended };
 
-    /// Makes a round, a second one where there is more to do, and further ones while a line has a frame.
+    /// Makes a round, a second one where there is more to do, and further ones while a line has a frame. In a round behind one in
+    /// which nothing has come, the lines that wait on either side of those with more to do have no turn.
     fn poll(&mut self, cx: &mut Context<'_>) -> Poll<u64> {
         let mut has_come = true;
-        let mut goes_on = true;
+        let mut going = 0..0;
         for round in 0..MOST_ROUNDS {
-            if !(has_come || goes_on) || (1 < round && !self.has_frame()) {
+            if (!has_come && going.is_empty()) || (1 < round && !self.has_frame()) {
                 break;
             }
-            has_come = self.look(cx, has_come);
-            goes_on = self.take_turns(cx);
+            let had_come = has_come;
+            has_come = self.look(cx, had_come);
+            let turns = if had_come {
+                0..self.lines.len()
+            } else {
+                going.start..going.end
+            };
+            going = self.take_turns(cx, turns);
         }
-        if has_come || goes_on {
+        if has_come || !going.is_empty() {
             return cx.yield_now();
         }
         if self.rest_all() {

@@ -1,7 +1,17 @@
-use Rattle.std.proofs.Common.{refl, arith}
-use Rattle.link_futures.proofs.WorkerLemmas.{AreArmed-set, AreArmed-swap_remove}
+use Rattle.std.proofs.Common.{inl, inr, ⊎_elim, refl, arith}
+use Rattle.link_futures.proofs.WorkerLemmas.{AreArmed-waits, AreArmed-goes_on, AreArmed-ends, AreArmed-all}
 use Rattle.link_futures.proofs.GivesLemmas.{turned, turned_out, contains_set_left, gives_set, gives_removed}
 use Rattle.link_futures.proofs.worker.Worker.take_turns.Goals as goal
+
+pub loop-place-init : goal.loop-place-init
+loop-place-init g c = (
+  (λ k d inside at. c.requires k d inside (⊎_elim (λ had. inl had.0) inr at)),
+  (λ fact held. held),
+  refl,
+  refl,
+  refl,
+  λ n gives. gives,
+)
 
 pub loop-place-preserved-in-Waits : goal.loop-place-preserved-in-Waits
 loop-place-preserved-in-Waits g c =
@@ -10,7 +20,7 @@ loop-place-preserved-in-Waits g c =
     let stream = c.step.ensures.stream in
     let place = c.loop-place.place in
     let lines = c.loop-place.self.lines.items in (
-      (λ none. AreArmed-set g.R.AsyncRead.needs g.W.AsyncWrite.needs c.loop-place.cx c.step.new.cx lines place c.step.new.self keeps (omega arith) (kept.0 none) (c.in-Waits.ensures.armed refl)),
+      AreArmed-waits g.R.AsyncRead.needs g.W.AsyncWrite.needs c.loop-place.cx c.step.new.cx lines place c.loop-place.first c.loop-place.behind c.args.turns.end c.step.new.self keeps kept.0 (c.in-Waits.ensures.armed refl),
       (λ fact held. keeps fact (kept.1 fact held)),
       kept.2,
       kept.3,
@@ -28,7 +38,7 @@ loop-place-preserved-in-GoesOn g c =
     let stream = c.step.ensures.stream in
     let place = c.loop-place.place in
     let lines = c.loop-place.self.lines.items in (
-      (λ none. absurd (cc)),
+      rw c.min-first.ensures (AreArmed-goes_on g.R.AsyncRead.needs g.W.AsyncWrite.needs c.loop-place.cx c.step.new.cx lines place c.loop-place.first c.loop-place.behind c.args.turns.end c.step.new.self keeps (omega arith) kept.0),
       (λ fact held. keeps fact (kept.1 fact held)),
       kept.2,
       kept.3,
@@ -48,7 +58,7 @@ loop-place-preserved g c =
     let lines = c.loop-place.self.lines.items in
     let left = c.drop_line.new.lines.items in
     let n = c.loop-place.self.lines.len in (
-      (λ none. AreArmed-swap_remove g.R.AsyncRead.needs g.W.AsyncWrite.needs c.loop-place.cx c.step.new.cx lines left n place c.step.new.self keeps (omega arith) (omega arith) c.drop_line.ensures.others (kept.0 none)),
+      AreArmed-ends g.R.AsyncRead.needs g.W.AsyncWrite.needs c.loop-place.cx c.step.new.cx lines left n place c.loop-place.first c.loop-place.behind c.args.turns.end c.step.new.self keeps (omega arith) (omega arith) (omega arith) c.drop_line.ensures.others kept.0,
       (λ fact held. keeps fact (kept.1 fact held)),
       kept.2,
       kept.3,
@@ -60,5 +70,12 @@ loop-place-preserved g c =
           (turned_out g.R.AsyncRead.reads g.R.AsyncRead.is_at_end g.R.ReadPart.faults g.W.AsyncWrite.writes g.W.WriteParts.faults g.W.WriteParts.stalls g.D.Desk.answers c.index_mut.result.now c.step.new.self _ _ _ stream.1 c.in-Ends.ensures.ends) c.saturating_add-self.ensures gives),
     )
 
-pub returns-clause-armed : goal.returns-clause-armed
-returns-clause-armed g c = λ none k d inside. c.loop-place.invariant.0 none k d inside (omega arith)
+pub returns-else-place-len-clause-armed : goal.returns-else-place-len-clause-armed
+returns-else-place-len-clause-armed g c =
+    let l = c.loop-place in
+    AreArmed-all g.R.AsyncRead.needs g.W.AsyncWrite.needs l.cx l.self.lines.items l.place l.first l.behind c.args.turns.end (inr (omega arith)) l.invariant.0
+
+pub returns-after-loop-place-clause-armed : goal.returns-after-loop-place-clause-armed
+returns-after-loop-place-clause-armed g c =
+    let l = c.loop-place in
+    AreArmed-all g.R.AsyncRead.needs g.W.AsyncWrite.needs l.cx l.self.lines.items l.place l.first l.behind c.args.turns.end (inl (omega arith)) l.invariant.0
