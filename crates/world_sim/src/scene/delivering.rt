@@ -19,7 +19,6 @@ use kip_msgs::{Request as Message, one_request_a_body};
 use std::alloc::{AllocError, Global};
 
 impl Scene {
-    #[tactic(auto, using(crate::proofs::MailLemmas::small_cut, crate::proofs::MailLemmas::named_more))]
     /// A request is delivered, and its reply is kept.
     pub(crate) fn deliver(&mut self, number: usize) -> Result<Shown, WorldFault>
         requires { Keeps (scene_view self.old) }

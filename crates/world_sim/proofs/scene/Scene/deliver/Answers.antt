@@ -1,7 +1,7 @@
-use Rattle.std.proofs.Common.{◌∙◌, ◌++◌, ◌∷◌, ◌<◌, [], List, Some, ap, length, refl, subst, sym}
+use Rattle.std.proofs.Common.{◌∙◌, ◌++◌, ◌∷◌, ◌<◌, [], List, Some, ap, length, refl, subst}
 use Rattle.std.proofs.lemmas.Result.{err_from_is_err_and}
 use Rattle.world_sim.specs.declared.mail.Reply as answer
-use Rattle.world_sim.specs.Mail.{AreNamed, request_value}
+use Rattle.world_sim.specs.Mail.{request_value}
 use Rattle.world_sim.specs.Scene.{scene_view}
 use Rattle.world_sim.proofs.MailLemmas.{named_more, small_cut}
 use Rattle.world_sim.proofs.Performs.{no_request}
@@ -24,8 +24,7 @@ pub returns-in_default-came : goal.returns-in_default-came
 returns-in_default-came c =
     let q = c.index-request.result.now in
     let (there, pooled) = request_at c.args.self.now.requests.items c.args.number c.in-Some.place _ q c.in-Some.ensures.0 c.in-Some.ensures.1 (ap length c.as_slice.ensures.value) c.index-request.ensures in
-    let come = rw c.in_default-came.is at c.in_ok-came.ensures.came in
-    (
+    let come = rw c.in_default-came.is at c.in_ok-came.ensures.came in (
       answer_forgotten c.one_request_a_body.ensures c.args.self.now c.requires c.args.number q pooled c.answer.new.node c.new-out.result.items c.answer.new.out.items come,
       same_node c.args.self.now c.answer.new.node c.answer.new.replies.items come.step c.answer.ensures.replies,
     )
@@ -48,19 +47,24 @@ returns-in-Replied c =
     come c.new-out.ensures.items r c.push_reserved.new.self.items c.len.result there c.of.ensures
     (c.push_reserved.ensures.items ∙ ap (λ (xs : List answer.Reply). xs ++ r ∷ []) c.answer.ensures.replies) (c.len.ensures ∙ c.push_reserved.new.self.ok.0)
 
+pub invariant_of-self-in-Break-1 : goal.invariant_of-self-in-Break-1
+invariant_of-self-in-Break-1 c = record { named = rw c.answer.ensures.replies c.args.self.now.named; small = c.args.self.now.small }
+
+pub invariant_of-self-in_default-came : goal.invariant_of-self-in_default-came
+invariant_of-self-in_default-came c = record { named = rw c.answer.ensures.replies c.args.self.now.named; small = c.args.self.now.small }
+
 pub invariant_of-self-in-Closes : goal.invariant_of-self-in-Closes
 invariant_of-self-in-Closes c =
     record {
-      named = subst (λ (rs : List answer.Reply). AreNamed c.args.self.now.requests.items rs) (sym c.answer.ensures.replies) c.args.self.now.named;
+      named = rw c.answer.ensures.replies c.args.self.now.named;
       small = small_cut c.answer.new.node c.args.self.now.commits.items c.cut_all.new.commits.items c.args.self.now.small c.cut_all.ensures;
     }
 
 pub invariant_of-self-in-Replied : goal.invariant_of-self-in-Replied
 invariant_of-self-in-Replied c =
+    let below = subst (λ k. c.in-Some.place < k) (ap length c.as_slice.ensures.value) c.in-Some.ensures.1 in
     let one : answer.Reply = record { request = c.in-Some.place; frame = c.of.result } in
     record {
-      named = subst (λ (rs : List answer.Reply). AreNamed c.args.self.now.requests.items rs)
-          (sym (c.push_reserved.ensures.items ∙ ap (λ (xs : List answer.Reply). xs ++ one ∷ []) c.answer.ensures.replies))
-          (named_more c.args.self.now.requests.items c.args.self.now.replies.items one c.args.self.now.named (subst (λ k. c.in-Some.place < k) (ap length c.as_slice.ensures.value) c.in-Some.ensures.1));
+      named = rw (c.push_reserved.ensures.items, c.answer.ensures.replies) (named_more c.args.self.now.requests.items c.args.self.now.replies.items one c.args.self.now.named below);
       small = small_cut c.answer.new.node c.args.self.now.commits.items c.cut_all.new.commits.items c.args.self.now.small c.cut_all.ensures;
     }
