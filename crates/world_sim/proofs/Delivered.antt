@@ -1,5 +1,5 @@
 -- What becomes of messages that the coordinator answers.
-use Rattle.std.proofs.Common.{◌≡◌, ℕ, suc, ◌+◌, ◌≤◌, false, List, [], ◌++◌, length, drop, Some, refl, sym, ap, subst, ◌∙◌, inl, inr, zero-lt-suc}
+use Rattle.std.proofs.Common.{◌≡◌, ℕ, suc, ◌≤◌, false, List, [], ◌++◌, length, drop, Some, refl, sym, ap, subst, ◌∙◌, inl, inr, zero-lt-suc}
 use Rattle.flex_wire.specs.Spelling.{signed}
 use Rattle.kip_msgs.specs.Values.{RequestHeaderValue, HeartbeatRequestValue, ResponseHeaderValue, HeartbeatReplyValue, RequestValue, heartbeat_request, commit_request, commit_reply}
 use Rattle.kip_msgs.specs.Values.{CommitRequestValue}
@@ -17,7 +17,7 @@ use Rattle.coord_node.specs.Answers as node
 use Rattle.world_sim.specs.declared.shown.Shown.{Shown}
 use Rattle.world_sim.specs.declared.shown.Shown.TheVariants as shows
 use Rattle.world_sim.specs.World.{World, Request, Commit, with_coordinator, with_reply}
-use Rattle.world_sim.specs.Acts.{Outcome, IsReplied, IsClosed, IsAnswered, Pools, Answers, BringStep, DeliversIf, no_stamp}
+use Rattle.world_sim.specs.Acts.{Outcome, IsReplied, IsClosed, IsAnswered, Pools, BringStep, DeliversIf, no_stamp}
 use Rattle.world_sim.specs.Acting.{IsShown}
 
 -- a request is a heartbeat

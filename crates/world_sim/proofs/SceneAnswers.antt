@@ -1,6 +1,6 @@
 -- That what a scene's coordinator answers is the world's.
 use Rattle.std.proofs.lemmas.List.{length-map}
-use Rattle.std.proofs.Common.{◌≡◌, ℕ, suc, ◌+◌, ◌≤◌, List, [], ◌∷◌, ◌++◌, length, map, drop, slice_get, Option, Some, None, Ok, refl, sym, ap, ap₂, subst, ◌∙◌, add-one, length-append}
+use Rattle.std.proofs.Common.{◌≡◌, ℕ, suc, ◌≤◌, List, [], ◌∷◌, ◌++◌, length, map, drop, slice_get, Option, Some, None, Ok, refl, sym, ap, ap₂, subst, ◌∙◌, add-one, length-append}
 use Rattle.kip_msgs.specs.Values.{commit_request, heartbeat_request}
 use Rattle.kip_msgs.specs.Laws.{OneRequestABody}
 use Rattle.group_types.specs.Limits.{LARGEST_BODY}
@@ -14,7 +14,7 @@ use Rattle.world_sim.specs.declared.mail.Request as mail
 use Rattle.world_sim.specs.declared.mail.Reply as answer
 use Rattle.world_sim.specs.declared.scene.Scene.{Scene}
 use Rattle.world_sim.specs.declared.shown.Shown.TheVariants as shows
-use Rattle.world_sim.specs.World.{World, Request, Reply, Commit, numbered, cut, with_coordinator, with_reply}
+use Rattle.world_sim.specs.World.{World, Request, Commit, numbered, cut, with_coordinator, with_reply}
 use Rattle.world_sim.specs.Acts.{Bring, Deliver, Forgotten, IsRefused, ActStep, BringStep, no_stamp}
 use Rattle.world_sim.specs.Invariant.{Keeps}
 use Rattle.world_sim.specs.Mail.{request_value, reply_value, replies_of}

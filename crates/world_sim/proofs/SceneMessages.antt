@@ -14,7 +14,7 @@ use Rattle.world_sim.specs.declared.shown.Shown.TheVariants as shows
 use Rattle.world_sim.specs.declared.fault.WorldFault.{WorldFault}
 use Rattle.world_sim.specs.declared.fault.WorldFault.TheVariants as faults
 use Rattle.world_sim.specs.World.{World, Request, Commit, numbered, cut, with_commit}
-use Rattle.world_sim.specs.Acts.{Commits, Deliver, Outcome, IsCommitted, IsRefused, NoSuchClient, NoSuchMessage, WrongState, Forgotten, ActStep, CommitsBy, CommitsIf, CommitsStep, DeliversIf, DeliverStep, commit_by, is_forgotten, may_commit}
+use Rattle.world_sim.specs.Acts.{Commits, Deliver, Outcome, IsCommitted, IsRefused, WrongState, Forgotten, ActStep, CommitsBy, CommitsIf, CommitsStep, DeliversIf, DeliverStep, commit_by, is_forgotten, may_commit}
 use Rattle.world_sim.specs.Invariant.{Keeps}
 use Rattle.world_sim.specs.Acting.{Acted, IsRefusedFor}
 use Rattle.world_sim.specs.Clients.{IsCommitOf}
