@@ -57,9 +57,8 @@ impl Scene {
     }
 }
 
-/// The coordinator answers a request, whose body is read once, and appends the frame of its reply; one more reply has a place then.
-/// None where the request is a join under an id that its group doesn't remember (ours): nothing has changed then, nor where memory is
-/// short.
+/// The coordinator answers a request, whose body is read once: the frame of its reply is appended, and there is room for one more reply.
+/// Gives None for a join under an id that its group doesn't remember (ours). Nothing has changed then, nor where memory is short.
 fn answer(
     alloc: Global,
     node: &mut Node,
