@@ -1,5 +1,5 @@
 -- What becomes of messages that the coordinator answers.
-use Rattle.std.proofs.Common.{◌≡◌, ℕ, suc, ◌+◌, ◌≤◌, List, [], ◌++◌, length, drop, Some, refl, sym, ap, subst, ◌∙◌, inl, inr, zero-lt-suc}
+use Rattle.std.proofs.Common.{◌≡◌, ℕ, suc, ◌≤◌, false, List, [], ◌++◌, length, drop, Some, refl, sym, ap, subst, ◌∙◌, inl, inr, zero-lt-suc}
 use Rattle.flex_wire.specs.Spelling.{signed}
 use Rattle.kip_msgs.specs.Values.{RequestHeaderValue, HeartbeatRequestValue, ResponseHeaderValue, HeartbeatReplyValue, RequestValue, heartbeat_request, commit_request, commit_reply}
 use Rattle.kip_msgs.specs.Values.{CommitRequestValue}
@@ -14,11 +14,19 @@ use Rattle.coord_node.specs.Coordinator.{Coordinator, Answer, Frame, Replied, Cl
 use Rattle.coord_node.specs.Replies.{heartbeat_reply_value}
 use Rattle.coord_node.specs.Steps.{RequestStep, Sends, Step, message_of, IsRequest}
 use Rattle.coord_node.specs.Answers as node
+use Rattle.world_sim.specs.declared.shown.Shown.{Shown}
 use Rattle.world_sim.specs.declared.shown.Shown.TheVariants as shows
 use Rattle.world_sim.specs.World.{World, Request, Commit, with_coordinator, with_reply}
-use Rattle.world_sim.specs.Acts.{Outcome, IsReplied, IsClosed, IsAnswered, Pools, Answers, BringStep, no_stamp}
+use Rattle.world_sim.specs.Acts.{Outcome, IsReplied, IsClosed, IsAnswered, Pools, BringStep, DeliversIf, no_stamp}
 use Rattle.world_sim.specs.Acting.{IsShown}
-use Rattle.world_sim.specs.Passing.{AnswersOne, IsHeartbeat}
+
+-- a request is a heartbeat
+abbrev pub IsHeartbeat : Request → Type 0
+IsHeartbeat q = (header : RequestHeaderValue) × (v : HeartbeatRequestValue) × SpellsRequest (heartbeat_request header v) q.body
+
+-- the coordinator answers a request at the clock, and the reply is kept
+abbrev pub AnswersOne : Request → World → Shown → World → Type 0
+AnswersOne q w shown new = (outcome : Outcome) × DeliversIf false w q outcome new × IsShown shown outcome
 
 some_bytes : (header : RequestHeaderValue) (v : CommitRequestValue) → 1 ≤ length (request_body (commit_request header v))
 unfolding request_body request_header_fields signed
@@ -62,25 +70,25 @@ module _ (one_request : OneRequestABody) (w : World) where
     kept bytes (inr (none, is, same)) = let never : Replied bytes ≡ Closes = is in absurd (cc)
 
   -- the code's answer to a request, and what is kept
-  pub replied : (q : Request) → IsHeartbeat (Some q) → (c : Coordinator) (before after : List ℕ) → before ≡ []
+  pub replied : (q : Request) → IsHeartbeat q → (c : Coordinator) (before after : List ℕ) → before ≡ []
       → node.Answers w.coordinator (Frame q.body q.stamp w.clock) kinds.Replied c before after
-      → AnswersOne (Some q) w (shows.Replied (suc (length w.replies))) (with_reply (with_coordinator w c) (record { request = q; body = drop 4 after }))
+      → AnswersOne q w (shows.Replied (suc (length w.replies))) (with_reply (with_coordinator w c) (record { request = q; body = drop 4 after }))
   replied q (header, v, spells) c before after empty answers = by answers.answer answers.is_answered answers.step (answers.bytes ∙ ap (λ (b : List ℕ). b ++ bytes_of answers.answer) empty)
     where
       by : (answer : Answer) → node.IsAnswered kinds.Replied answer → Step w.coordinator (Frame q.body q.stamp w.clock) answer c → after ≡ bytes_of answer
-          → AnswersOne (Some q) w (shows.Replied (suc (length w.replies))) (with_reply (with_coordinator w c) (record { request = q; body = drop 4 after }))
+          → AnswersOne q w (shows.Replied (suc (length w.replies))) (with_reply (with_coordinator w c) (record { request = q; body = drop 4 after }))
       by (Replied bytes) is step all =
           let one = kept q header v spells c bytes step in
-          subst (λ (f : List ℕ). AnswersOne (Some q) w (shows.Replied (suc (length w.replies))) (with_reply (with_coordinator w c) (record { request = q; body = drop 4 f }))) (sym all)
+          subst (λ (f : List ℕ). AnswersOne q w (shows.Replied (suc (length w.replies))) (with_reply (with_coordinator w c) (record { request = q; body = drop 4 f }))) (sym all)
           (IsReplied (suc (length w.replies)) one.0, (Replied bytes, c, step, one.1), (one.0, refl))
       by Closes never step all = absurd never
       by (Done n) never step all = absurd never
 
   pub closed : (q : Request) (c : Coordinator) (before after : List ℕ) → node.Answers w.coordinator (Frame q.body q.stamp w.clock) kinds.Closes c before after
-      → AnswersOne (Some q) w shows.Closed (with_coordinator w c)
+      → AnswersOne q w shows.Closed (with_coordinator w c)
   closed q c before after answers = by answers.answer answers.is_answered answers.step
     where
-      by : (answer : Answer) → node.IsAnswered kinds.Closes answer → Step w.coordinator (Frame q.body q.stamp w.clock) answer c → AnswersOne (Some q) w shows.Closed (with_coordinator w c)
+      by : (answer : Answer) → node.IsAnswered kinds.Closes answer → Step w.coordinator (Frame q.body q.stamp w.clock) answer c → AnswersOne q w shows.Closed (with_coordinator w c)
       by (Replied bytes) never step = absurd never
       by Closes is step = (IsClosed, (Closes, c, step, (refl, refl)), refl)
       by (Done n) never step = absurd never

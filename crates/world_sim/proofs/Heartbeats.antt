@@ -222,9 +222,9 @@ module _ (g : Group) (sound : IsSound g) (a : Arrival) (answer : Answer) (new : 
       → MatchOption name (IsRefused codes.CoordinatorNotAvailable g answer new) (λ n. TakesIn g (draft_under n TheSender g a) q a.image answer new) → Turn g q a.stamp answer new
   joins_under joins verdict None named step = unchanged g q a.stamp answer new step.1 (unavailable answer step.0)
   joins_under joins verdict (Some name) named step =
-      let none = none_applies (checks_of Joins TheSender g q a.stamp) refl verdict in
-      let in_time = or_false (is_overtaken a.stamp TheSender.own) (is_of_past g.past q.member a.stamp) none.1.1.0 in
-      by_sender joins name named TheSender.own TheSender.other refl refl none.0 none.1.0 in_time.0 in_time.1 none.1.1.1.0 step
+      let (valid, (supported, (on_time, (released, _)))) = none_applies (checks_of Joins TheSender g q a.stamp) refl verdict in
+      let (in_time, past) = or_false (is_overtaken a.stamp TheSender.own) (is_of_past g.past q.member a.stamp) on_time in
+      by_sender joins name named TheSender.own TheSender.other refl refl valid supported in_time past released step
 
   join_step : q.epoch ≡ pos 0 → StepBy Joins TheSender g a answer new → Turn g q a.stamp answer new
   join_step joins step =
@@ -238,7 +238,9 @@ module _ (g : Group) (sound : IsSound g) (a : Arrival) (answer : Answer) (new : 
   beat_step n step =
       by_verdict (verdict_on (Beats n) TheSender g q a.stamp) (StepOf (Beats n) TheSender g a) g q a.stamp answer new
       (fails_first (checks_of (Beats n) TheSender g q a.stamp) refl)
-      (λ verdict is. let none = none_applies (checks_of (Beats n) TheSender g q a.stamp) refl verdict in accepted TheSender.own refl none.1.1.1.0 none.1.1.1.1.0 is) step
+      (λ verdict is.
+      let (_, (_, (_, (in_time, (current, _))))) = none_applies (checks_of (Beats n) TheSender g q a.stamp) refl verdict in
+      accepted TheSender.own refl in_time current is) step
     where
       accepted : (own : Option Record) → record_under g.records q.member ≡ own → is_overtaken a.stamp own ≡ false → is_fenced n own (are_granted g.grants q.member q.owned) ≡ false
           → BeatsWith own g a answer new → Turn g q a.stamp answer new
@@ -253,7 +255,9 @@ module _ (g : Group) (sound : IsSound g) (a : Arrival) (answer : Answer) (new : 
   leave_step goes step =
       by_verdict (verdict_on Leaves TheSender g q a.stamp) (StepOf Leaves TheSender g a) g q a.stamp answer new
       (fails_first (checks_of Leaves TheSender g q a.stamp) refl)
-      (λ verdict is. let none = none_applies (checks_of Leaves TheSender g q a.stamp) refl verdict in accepted TheSender.own refl none.1.0 none.1.1.0 is) step
+      (λ verdict is.
+      let (_, (there, (in_time, _))) = none_applies (checks_of Leaves TheSender g q a.stamp) refl verdict in
+      accepted TheSender.own refl there in_time is) step
     where
       accepted : (own : Option Record) → record_under g.records q.member ≡ own → is_none own ≡ false → is_overtaken a.stamp own ≡ false
           → StepOf Leaves TheSender g a answer new → Turn g q a.stamp answer new
@@ -267,7 +271,9 @@ module _ (g : Group) (sound : IsSound g) (a : Arrival) (answer : Answer) (new : 
   away_step goes step =
       by_verdict (verdict_on GoesAway TheSender g q a.stamp) (StepOf GoesAway TheSender g a) g q a.stamp answer new
       (fails_first (checks_of GoesAway TheSender g q a.stamp) refl)
-      (λ verdict is. let none = none_applies (checks_of GoesAway TheSender g q a.stamp) refl verdict in accepted TheSender.own refl none.1.1.0 is) step
+      (λ verdict is.
+      let (_, (_, (in_time, _))) = none_applies (checks_of GoesAway TheSender g q a.stamp) refl verdict in
+      accepted TheSender.own refl in_time is) step
     where
       accepted : (own : Option Record) → record_under g.records q.member ≡ own → is_overtaken a.stamp own ≡ false
           → GoesAwayWith own g a answer new → Turn g q a.stamp answer new

@@ -1,11 +1,11 @@
 -- What the code's requests and replies are once there is one more.
-use Rattle.std.proofs.Common.{◌≡◌, ℕ, zero, suc, ◌+◌, ◌<◌, ◌≤◌, List, [], ◌∷◌, ◌++◌, length, map, slice_get, Option, Some, None, unwrap_or, ◌⊎◌, refl, sym, ap, ap₂, subst, inl, inr, arith, length-append}
+use Rattle.std.proofs.Common.{◌≡◌, ℕ, zero, suc, ◌<◌, ◌≤◌, List, [], ◌∷◌, ◌++◌, length, map, slice_get, Option, Some, None, unwrap_or, ◌⊎◌, refl, sym, ap, ap₂, subst, inl, inr, arith, length-append}
 use Rattle.std.specs.List.{Contains}
 use Rattle.world_sim.specs.declared.mail.Request as mail
 use Rattle.world_sim.specs.declared.mail.Reply as answer
 use Rattle.group_types.specs.Limits.{LARGEST_BODY}
 use Rattle.coord_node.specs.Coordinator.{Coordinator}
-use Rattle.world_sim.specs.World.{Request, Reply, Commit, numbered, cut}
+use Rattle.world_sim.specs.World.{Request, Commit, numbered, cut}
 use Rattle.world_sim.specs.Acts.{no_stamp}
 use Rattle.world_sim.specs.Mail.{request_value, reply_value, replies_of, AreNamed, AreSmall}
 use Rattle.world_sim.proofs.Lists.{In, from_in, in_map, to_in}

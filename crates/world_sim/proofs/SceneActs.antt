@@ -14,7 +14,7 @@ use Rattle.world_sim.specs.declared.state.ClientState.{ClientState}
 use Rattle.world_sim.specs.declared.fault.WorldFault.{WorldFault}
 use Rattle.world_sim.specs.declared.fault.WorldFault.TheVariants as faults
 use Rattle.world_sim.specs.World.{World, Request, Reply, numbered, with_client, with_request}
-use Rattle.world_sim.specs.Acts.{Asks, GivesUp, Release, Take, Is, IsSent, IsIgnored, WrongState, ActStep, stamp_of}
+use Rattle.world_sim.specs.Acts.{Asks, GivesUp, Release, Take, Is, IsSent, IsIgnored, ActStep, stamp_of}
 use Rattle.world_sim.specs.Mail.{request_value, requests_of, replies_of, AreNamed}
 use Rattle.world_sim.specs.Scene.{scene_view}
 use Rattle.world_sim.specs.Acting.{Acted}

@@ -1,5 +1,5 @@
 -- What a scene is as a world, once something in it has changed.
-use Rattle.std.proofs.Common.{◌≡◌, ℕ, zero, suc, ◌+◌, ◌<◌, List, [], ◌∷◌, ◌++◌, length, map, set, slice_get, get_or, Option, Some, unwrap_or, refl, sym, ap, ap₂, ◌∙◌, arith, add-one}
+use Rattle.std.proofs.Common.{◌≡◌, ℕ, zero, suc, ◌+◌, ◌<◌, List, [], ◌∷◌, ◌++◌, length, map, set, slice_get, get_or, Option, Some, unwrap_or, refl, sym, ap, ap₂, subst, ◌∙◌, arith, add-one}
 use Rattle.std.proofs.lemmas.List.{set-get_or}
 use Rattle.group_types.proofs.Lookups.{not_none}
 use Rattle.member_core.specs.Client.{Client}
@@ -47,6 +47,13 @@ mapped f [] place x is = absurd (not_none x is)
 mapped f (y ∷ ys) zero x is = ap Some (ap f (some_same y x is))
 mapped f (y ∷ ys) (suc place) x is = mapped f ys place x is
 
+-- the request at a place is the one of its number
+pub request_at : (xs : List mail.Request) (n place count : ℕ) (q : mail.Request) → n ≡ place + 1 → place < count → count ≡ length xs → q ≡ get_or xs place q
+    → (slice_get (requests_of xs) place ≡ Some (request_value q)) × (numbered (requests_of xs) n ≡ Some (request_value q))
+request_at xs n place count q number below all is =
+    let there = mapped request_value xs place q (indexed xs place q (subst (λ k. place < k) all below) is) in
+    (there, at_number (requests_of xs) n place number ∙ there)
+
 -- ---- worlds
 
 module _ (s : Scene) where
@@ -59,6 +66,10 @@ module _ (s : Scene) where
 
   pub same_world : (clients : List Client) → clients ≡ s.clients.items → record w { clients = clients } ≡ w
   same_world clients now = ap (λ (xs : List Client). record w { clients = xs }) now
+
+  pub same_node : (c : Coordinator) (replies : List answer.Reply) → c ≡ s.node → replies ≡ s.replies.items
+      → record w { coordinator = c; replies = replies_of s.requests.items replies } ≡ w
+  same_node c replies same kept = ap₂ (λ (n : Coordinator) (rs : List answer.Reply). record w { coordinator = n; replies = replies_of s.requests.items rs }) same kept
 
   pub sent_world : (n place : ℕ) (c : Client) (clients : List Client) (requests : List mail.Request) (q : mail.Request) → AreNamed s.requests.items s.replies.items
       → n ≡ place + 1 → clients ≡ set s.clients.items place c → requests ≡ s.requests.items ++ q ∷ []

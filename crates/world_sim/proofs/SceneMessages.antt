@@ -1,5 +1,5 @@
 -- That a scene's deliveries and commits are the world's.
-use Rattle.std.proofs.Common.{◌≡◌, ℕ, suc, ◌<◌, ◌≤◌, Bool, true, false, ◌&&◌, nat_le, List, length, slice_get, Option, Some, Ok, Err, Result, IsTrue, refl, sym, ap, ap₂, subst, ◌∙◌, arith}
+use Rattle.std.proofs.Common.{◌≡◌, ℕ, suc, ◌<◌, ◌≤◌, Bool, true, false, ◌&&◌, nat_le, List, length, Option, Some, Ok, IsTrue, refl, sym, ap, ap₂, subst, ◌∙◌, arith}
 use Rattle.std.proofs.lemmas.Bool.{le-leb, leb-true}
 use Rattle.kip_msgs.specs.Values.{CommitRequestTopicValue}
 use Rattle.group_types.specs.Limits.{LARGEST_BODY}
@@ -14,12 +14,12 @@ use Rattle.world_sim.specs.declared.shown.Shown.TheVariants as shows
 use Rattle.world_sim.specs.declared.fault.WorldFault.{WorldFault}
 use Rattle.world_sim.specs.declared.fault.WorldFault.TheVariants as faults
 use Rattle.world_sim.specs.World.{World, Request, Commit, numbered, cut, with_commit}
-use Rattle.world_sim.specs.Acts.{Commits, Deliver, Outcome, IsCommitted, IsRefused, NoSuchClient, NoSuchMessage, WrongState, Forgotten, ActStep, CommitsBy, CommitsIf, CommitsStep, DeliversIf, DeliverStep, commit_by, is_forgotten, may_commit}
+use Rattle.world_sim.specs.Acts.{Commits, Deliver, Outcome, IsCommitted, IsRefused, WrongState, Forgotten, ActStep, CommitsBy, CommitsIf, CommitsStep, DeliversIf, DeliverStep, commit_by, is_forgotten, may_commit}
 use Rattle.world_sim.specs.Invariant.{Keeps}
 use Rattle.world_sim.specs.Acting.{Acted, IsRefusedFor}
 use Rattle.world_sim.specs.Clients.{IsCommitOf}
-use Rattle.world_sim.specs.Passing.{Answered, AnswersOne, IsHeartbeat}
 use Rattle.world_sim.specs.Stands.{CannotCommit}
+use Rattle.world_sim.proofs.Delivered.{AnswersOne, IsHeartbeat}
 use Rattle.world_sim.proofs.Numbered.{numbered_in}
 use Rattle.world_sim.proofs.RequestSizes.{few_if_within}
 
@@ -33,21 +33,21 @@ above_false a b above =
 -- ---- deliveries
 
 module _ (w : World) (n : ℕ) (q : Request) (pooled : numbered w.requests n ≡ Some q) where
-  pub is_heartbeat : Keeps w → IsHeartbeat (Some q)
+  pub is_heartbeat : Keeps w → IsHeartbeat q
   is_heartbeat keeps =
       let says = keeps.requests q (numbered_in w.requests n q pooled) in
       (header_of q.stamp.frame, heartbeat_value says.heartbeat, says.spells)
 
-  delivers : (b : Bool) (spelled : IsHeartbeat (Some q)) (outcome : Outcome) (new : World) → is_forgotten w.coordinator spelled.1 ≡ b → DeliversIf b w q outcome new
+  delivers : (b : Bool) (spelled : IsHeartbeat q) (outcome : Outcome) (new : World) → is_forgotten w.coordinator spelled.1 ≡ b → DeliversIf b w q outcome new
       → ActStep w (Deliver n) outcome new
   delivers b (header, v, spells) outcome new is step =
       subst (λ (o : Option Request). DeliverStep o w outcome new) (sym pooled)
       (header, v, spells, subst (λ t. DeliversIf t w q outcome new) (sym is) step)
 
-  pub forgets : (spelled : IsHeartbeat (Some q)) → is_forgotten w.coordinator spelled.1 ≡ true → ActStep w (Deliver n) (IsRefused Forgotten) w
+  pub forgets : (spelled : IsHeartbeat q) → is_forgotten w.coordinator spelled.1 ≡ true → ActStep w (Deliver n) (IsRefused Forgotten) w
   forgets spelled is = delivers true spelled (IsRefused Forgotten) w is (refl, refl)
 
-  pub delivered : (spelled : IsHeartbeat (Some q)) (shown : Shown) (new : World) → is_forgotten w.coordinator spelled.1 ≡ false → AnswersOne (Some q) w shown new
+  pub delivered : (spelled : IsHeartbeat q) (shown : Shown) (new : World) → is_forgotten w.coordinator spelled.1 ≡ false → AnswersOne q w shown new
       → Acted w (Deliver n) (Ok shown) new
   delivered spelled shown new is (outcome, step, shows_it) = (outcome, delivers false spelled outcome new is step, shows_it)
 
@@ -103,17 +103,3 @@ module _ (w : World) (n : ℕ) (c : Client) (there : numbered w.clients n ≡ So
   pub commits_short : (number : ℕ) (k : Commit) → number ≡ suc (length w.commits) → number ≤ GREATEST_NUMBER → IsCommitOf c number topics k → IsRefusedFor faults.NoMemory w (Commits n topics)
   commits_short number k is below made =
       commits_not number faults.NoMemory is below (made.may, few_if_within (commit_for c number topics) k.body made.spells.bytes made.limit)
-
--- ---- whichever came of a delivery
-
-pub delivered_any : (w : World) (n place : ℕ) (q : Request) (pooled : numbered w.requests n ≡ Some q) → slice_get w.requests place ≡ Some q
-    → (spelled : IsHeartbeat (Some q)) → is_forgotten w.coordinator spelled.1 ≡ false
-    → (r : Result Shown WorldFault) (new : World) → Answered w place r new → Acted w (Deliver n) r new
-delivered_any w n place q pooled there spelled is (Ok shown) new answers =
-    delivered w n q pooled spelled shown new is (subst (λ (o : Option Request). AnswersOne o w shown new) there answers)
-delivered_any w n place q pooled there spelled is (Err faults.NoSuchClient) new never = absurd never
-delivered_any w n place q pooled there spelled is (Err faults.NoSuchMessage) new never = absurd never
-delivered_any w n place q pooled there spelled is (Err faults.WrongState) new never = absurd never
-delivered_any w n place q pooled there spelled is (Err faults.NoMemory) new same = ((q, pooled), same)
-delivered_any w n place q pooled there spelled is (Err faults.TooLarge) new never = absurd never
-delivered_any w n place q pooled there spelled is (Err faults.Forgotten) new never = absurd never

@@ -5,7 +5,7 @@ use Rattle.group_types.proofs.Lookups.{not_none}
 use Rattle.world_sim.specs.declared.mail.Request as mail
 use Rattle.world_sim.specs.declared.mail.Reply as answer
 use Rattle.world_sim.specs.declared.scene.Scene.{Scene}
-use Rattle.world_sim.specs.World.{Request, Reply, numbered}
+use Rattle.world_sim.specs.World.{Request, numbered}
 use Rattle.world_sim.specs.Acts.{no_stamp}
 use Rattle.world_sim.specs.Invariant.{Keeps}
 use Rattle.world_sim.specs.Mail.{request_value, reply_value, replies_of}

@@ -1,23 +1,21 @@
 //! Requests that are delivered.
-ghost use Rattle.std.specs.Prelude.{◌≡◌, ◌<◌, IfOk, vec_len};
-ghost use Rattle.kip_msgs.specs.Values.{RequestHeaderValue, HeartbeatRequestValue, heartbeat_request};
+ghost use Rattle.std.specs.Prelude.{◌≡◌, ◌<◌, IfOk, IfSome, OnErr, vec_capacity, vec_len};
+ghost use Rattle.kip_msgs.specs.Values.{RequestValue};
 ghost use Rattle.kip_msgs.specs.Spelling.{SpellsRequest};
-ghost use Rattle.kip_msgs.specs.Views.{heartbeat_request_value};
-ghost use Rattle.world_sim.specs.Acts as acts;
+ghost use Rattle.kip_msgs.specs.Views.{request_value};
 ghost use Rattle.world_sim.specs.Acts.{Deliver};
 ghost use Rattle.world_sim.specs.Acting.{Acted};
 ghost use Rattle.world_sim.specs.Invariant.{Keeps};
-ghost use Rattle.world_sim.specs.Mail.{requests_of};
-ghost use Rattle.world_sim.specs.Passing.{Answered, SpellsHeartbeat};
+ghost use Rattle.world_sim.specs.Passing.{joins_forgotten, AnswersUnlessForgotten};
 ghost use Rattle.world_sim.specs.Scene.{scene_view};
 
 use super::{Scene, cut_all, place_of};
 use crate::fault::WorldFault;
 use crate::frame::Frame;
-use crate::mail::Reply;
+use crate::mail::{Reply, Request};
 use crate::shown::Shown;
-use coord_node::{Answered as Kind, Node};
-use kip_msgs::{HeartbeatRequest, MsgFault, Request, one_request_a_body, read_request};
+use coord_node::{Answered, Moment, Node, ParsedBody};
+use kip_msgs::{Request as Message, one_request_a_body};
 use std::alloc::{AllocError, Global};
 
 impl Scene {
@@ -26,35 +24,27 @@ impl Scene {
         requires { Keeps (scene_view self.old) }
         ensures { Acted (scene_view self.old) (Deliver number) result (scene_view self.new) }
     {
+        one_request_a_body();
         let Some(place) = place_of(number, self.requests.as_slice().len()) else {
             return Err(WorldFault::NoSuchMessage);
         };
-        let body = self.requests[place].frame.body();
-        let forgotten = is_forgotten(self.alloc, &self.node, body)?;
-        if forgotten {
-            return Err(WorldFault::Forgotten);
-        }
-        self.answer(place)
-    }
-
-    #[tactic(auto, using(crate::proofs::MailLemmas::small_cut, crate::proofs::MailLemmas::named_more))]
-    /// The coordinator answers the request at a place.
-    fn answer(&mut self, place: usize) -> Result<Shown, WorldFault>
-        requires place { place < vec_len self.old.requests }
-        requires spelled { SpellsHeartbeat (requests_of self.old.requests.items) place }
-        ensures { Answered (scene_view self.old) place result (scene_view self.new) }
-    {
-        one_request_a_body();
-        self.replies.reserve(1)?;
         let request = &self.requests[place];
         let mut out = Vec::new(self.alloc);
-        let answered = self
-            .node
-            .answer(request.frame.body(), request.stamp, self.clock, &mut out)?;
+        let came = answer(
+            self.alloc,
+            &mut self.node,
+            request,
+            self.clock,
+            &mut self.replies,
+            &mut out,
+        )?;
+        let Some(answered) = came else {
+            return Err(WorldFault::Forgotten);
+        };
         cut_all(&mut self.commits, &self.node);
         match answered {
-            Kind::Closes => Ok(Shown::Closed),
-            Kind::Replied => {
+            Answered::Closes => Ok(Shown::Closed),
+            Answered::Replied => {
                 self.replies.push_reserved(Reply {
                     request: place,
                     frame: Frame::of(out),
@@ -67,24 +57,49 @@ impl Scene {
     }
 }
 
-/// Whether the body is a join under an id that its group doesn't remember (ours). Fails where memory is short.
-fn is_forgotten(alloc: Global, node: &Node, body: &[u8]) -> Result<bool, AllocError>
-    ensures { IfOk result (λ forgotten. (header : RequestHeaderValue) (v : HeartbeatRequestValue)
-        → SpellsRequest (heartbeat_request header v) body.now → forgotten ≡ acts.is_forgotten node.now v) }
+/// The coordinator answers a request, whose body is read once: the frame of its reply is appended, and there is room for one more reply.
+/// Gives None for a join under an id that its group doesn't remember (ours). Nothing has changed then, nor where memory is short.
+fn answer(
+    alloc: Global,
+    node: &mut Node,
+    request: &Request,
+    clock: Moment,
+    replies: &mut Vec<Reply>,
+    out: &mut Vec<u8>,
+) -> Result<Option<Answered>, AllocError>
+    ensures came { IfOk result (λ came.
+        AnswersUnlessForgotten node.old request.now clock came node.new out.old.items out.new.items) }
+    ensures err { OnErr result (node.new ≡ node.old) }
+    ensures replies { replies.new.items ≡ replies.old.items }
+    ensures room { IfOk result (λ came. IfSome came (λ answered. vec_len replies.new < vec_capacity replies.new)) }
+{
+    let body = ParsedBody::of(alloc, request.frame.body())?;
+    if is_forgotten(node, &body) {
+        return Ok(None);
+    }
+    replies.reserve(1)?;
+    let answered = node.answer_parsed(&body, request.stamp, clock, out)?;
+    Ok(Some(answered))
+}
+
+/// Whether the body is a join under an id that its group doesn't remember.
+fn is_forgotten(node: &Node, body: &ParsedBody<'_>) -> bool
+    ensures { (v : RequestValue) → SpellsRequest v body.now → result ≡ joins_forgotten node.now v }
 {
     one_request_a_body();
-    match read_request(alloc, body) {
-        Ok(Request::Heartbeat(_, v)) => Ok(joins_forgotten(node, &v)),
-        Ok(Request::Commit(_, _)) => Ok(false),
-        Err(MsgFault::NoMemory) => Err(AllocError),
-        Err(_) => Ok(false),
+    match body.request() {
+        Some(message) => joins_forgotten(node, message),
+        None => false,
     }
 }
 
-/// Whether the heartbeat is such a join.
+/// Whether the request is such a join.
 #[tactic(auto, using(crate::proofs::Forgotten::not_remembered))]
-fn joins_forgotten(node: &Node, v: &HeartbeatRequest<'_>) -> bool
-    ensures { result ≡ acts.is_forgotten node.now (heartbeat_request_value v.now) }
+fn joins_forgotten(node: &Node, message: &Message<'_>) -> bool
+    ensures { result ≡ joins_forgotten node.now (request_value message.now) }
 {
+    let Message::Heartbeat(_, v) = message else {
+        return false;
+    };
     v.member_epoch == 0 && !v.member_id.is_empty() && !node.remembers(v.group_id, v.member_id)
 }

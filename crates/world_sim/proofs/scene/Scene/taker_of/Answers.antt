@@ -1,5 +1,4 @@
 use Rattle.std.proofs.Common.{◌≡◌, ◌∙◌, ◌<◌, ◌+◌, ◌-◌, length, ap, sym, subst, arith}
-use Rattle.world_sim.specs.World.{Reply}
 use Rattle.world_sim.specs.declared.mail.Reply as answer
 use Rattle.world_sim.specs.Mail.{reply_value}
 use Rattle.world_sim.proofs.SceneLemmas.{indexed, some_same}

@@ -1,7 +1,7 @@
-use Rattle.std.proofs.Common.{◌≡◌, ◌<◌, subst, if◌then◌else◌}
+use Rattle.std.proofs.Common.{◌≡◌, ◌<◌, subst}
 use Rattle.member_core.specs.Client.{Client}
 use Rattle.world_sim.proofs.SceneLemmas.{indexed, put_back}
-use Rattle.std.proofs.Common.{true, false, refl}
+use Rattle.std.proofs.Common.{false, refl}
 use Rattle.std.proofs.lemmas.Result.{err_from_is_err_and}
 use Rattle.member_core.specs.Taking.{Takes}
 use Rattle.world_sim.proofs.Took.{untaken}
