@@ -6,6 +6,8 @@ mod beats;
 #[cfg(test)]
 mod lines;
 #[cfg(test)]
+mod noting;
+#[cfg(test)]
 mod numbering;
 #[cfg(test)]
 mod streams;

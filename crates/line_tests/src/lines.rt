@@ -1,6 +1,7 @@
 //! Lines over readers and writers in memory, with replies worked out by hand from the Kafka protocol guide and KIP-848.
 ghost use Rattle.std.specs.Prelude.{⊤};
 
+use crate::noting::Noting;
 use crate::numbering::{Numbering, put_numbers};
 use crate::streams::{
     Frames, drain, feed, numbered_rows, output_within, put_words, task_of, written,
@@ -15,6 +16,7 @@ use link_futures::{
 use std::alloc::{AllocError, AllocGlobal, Global};
 use std::collections::hash_map::RandomState;
 use std::random::RandomSource;
+use std::sync::atomic::{AtomicBool, Ordering};
 use std::test::Fail;
 use test_support::frames::{JOIN, JOINED, STRANGER, TAKEN, UNKNOWN};
 use test_support::tables::{Answers, cut, number, wrong_rows};
@@ -230,8 +232,7 @@ impl Streaming {
     /// Tells the numbers of a worker's replies, line by line.
     fn tell_turns(&self, alloc: Global, words: &str, out: &mut String) -> Result<(), AllocError> {
         let (lines, far_ends) = self.piped_lines(alloc, words)?;
-        let worker = Worker::new(alloc, stream::iter(lines), Numbering::new());
-        let _ = output_within(&self.task, worker, 1_000);
+        let _ = self.ended_within(alloc, lines, Numbering::new(), 1_000)?;
         for far in far_ends {
             let bytes = written(alloc, &self.task, far)?;
             put_numbers(bytes.as_slice(), out)?;
@@ -259,16 +260,13 @@ impl Streaming {
         session.into_parts().0
     }
 
-    /// Tells what a worker's lines have written. A line that finds no memory is let go, and is no line that has ended: then the row
-    /// is asked again.
+    /// Tells how many of a worker's lines have ended, and what each has written.
     fn tell_worker(&self, alloc: Global, words: &str, out: &mut String) -> Result<(), AllocError> {
         let (lines, far_ends) = self.piped_lines(alloc, words)?;
-        let wanted = lines.len() as u64;
-        let ended = self.ended_within(alloc, lines, 1_000)?;
-        if ended != Some(wanted) {
-            return Err(AllocError);
-        }
-        write!(out, "{wanted}")?;
+        put_ended(
+            self.ended_within(alloc, lines, self.desk(alloc)?, 1_000)?,
+            out,
+        )?;
         self.tell_written(alloc, far_ends, out)
     }
 
@@ -290,21 +288,29 @@ impl Streaming {
         let (polls, words) = cut(words);
         let mut lines = Vec::new(alloc);
         lines.push(self.line_of(alloc, words)?)?;
-        match self.ended_within(alloc, lines, number(polls))? {
-            Some(ended) => write!(out, "{ended}"),
-            None => out.push_str("no end"),
-        }
+        put_ended(
+            self.ended_within(alloc, lines, self.desk(alloc)?, number(polls))?,
+            out,
+        )
     }
 
-    /// How many of these lines have ended once their worker is ready, if it is within `polls` polls.
-    fn ended_within<W: WriteParts>(
+    /// How many of these lines have ended once their worker is ready, if it is within `polls` polls. Fails where one of them has ended
+    /// for want of memory.
+    fn ended_within<W: WriteParts, D: Desk>(
         &self,
         alloc: Global,
         lines: Vec<FedLine<W>>,
+        desk: D,
         polls: usize,
     ) -> Result<Option<u64>, AllocError> {
-        let worker = Worker::new(alloc, stream::iter(lines), self.desk(alloc)?);
-        Ok(output_within(&self.task, worker, polls))
+        let has_lacked = AtomicBool::new(false);
+        let desk = Noting::new(desk, &has_lacked);
+        let worker = Worker::new(alloc, stream::iter(lines), desk);
+        let ended = output_within(&self.task, worker, polls);
+        if has_lacked.load(Ordering::SeqCst) {
+            return Err(AllocError);
+        }
+        Ok(ended)
     }
 
     /// Lines that write into pipes, and the other ends of the pipes.
@@ -370,6 +376,14 @@ impl Streaming {
         let mut node = Node::new(alloc, 0, self.hasher);
         node.set_image(Image::of(alloc, topics).map_err(|_| AllocError)?);
         Ok(Solo::new(node, Still))
+    }
+}
+
+/// Puts how many lines have ended, where the worker is ready.
+fn put_ended(ended: Option<u64>, out: &mut String) -> Result<(), AllocError> {
+    match ended {
+        Some(ended) => write!(out, "{ended}"),
+        None => out.push_str("no end"),
     }
 }
 
