@@ -1,5 +1,5 @@
 -- The snapshot of whatever log a replica has applied can be written.
-use Rattle.std.proofs.Common.{◌≡◌, ℕ, ◌+◌, ◌<◌, ◌^◌, true, List, [], ◌∷◌, length, map, Option, Some, None, sym, ap, subst, ◌∙◌, is_some, bytes_eq, arith}
+use Rattle.std.proofs.Common.{◌≡◌, ℕ, ◌<◌, ◌^◌, true, List, [], ◌∷◌, map, Option, Some, None, sym, ap, subst, ◌∙◌, is_some, bytes_eq, arith}
 use Rattle.std.specs.Prelude.{All, IfSome}
 use Rattle.std.specs.List.{AllByRecursion, cons_option}
 use Rattle.std.specs.Set.{is_member}
@@ -20,7 +20,7 @@ use Rattle.coord_replica.specs.Applying.{LogRun, answers_given, moment_after}
 use Rattle.coord_replica.specs.Entries.{event_of, event_under, events_of}
 use Rattle.coord_replica.specs.Laws.{IsOfLog, LogsWithFewOffsetsCanBeWritten}
 use Rattle.coord_replica.specs.Replicas.{LogState, log_opening}
-use Rattle.coord_replica.specs.Snapshots.{SnapshotValue, place_of}
+use Rattle.coord_replica.specs.Snapshots.{SnapshotValue}
 use Rattle.coord_replica.proofs.Runs.{replicas_are_runs}
 
 -- ---- the events of entries
@@ -82,7 +82,7 @@ place_fits v is =
     let leadership : is.state.leadership < 2 ^ 31 = small.leadership in
     let moment : is.state.moment < 2 ^ 63 = small.moment in
     subst FitsPlace (sym is.of.place) (record {
-      applied = subst FitsNumber (sym (replicas_are_runs is.salt is.entries is.answers is.state is.run).applied) is.place;
+      applied = subst FitsNumber (sym (replicas_are_runs is.salt is.entries is.answers is.state is.run).applied) is.count;
       leadership = record { sfits = omega (arith, leadership) };
       moment = record { sfits = omega (arith, moment) };
     })

@@ -103,7 +103,7 @@ pub record IsOfLog (v : SnapshotValue) : Type 0 where
   pub answers : List (Option Answer)
   pub state : LogState
   pub fits : FitsNumber salt
-  pub place : FitsNumber (length entries)
+  pub count : FitsNumber (length entries)
   pub each : All FitsEntry entries
   pub run : LogRun (log_opening salt) entries answers state
   pub few : HasFewOffsets state.coordinator
