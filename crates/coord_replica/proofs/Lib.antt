@@ -8,3 +8,4 @@ pub mod Taken
 pub mod Histories
 pub mod SnapshotLaws
 pub mod Restored
+pub mod Written

@@ -1,8 +1,9 @@
 -- What holds of every run over a log, and after every history of replicas (ours).
-use Rattle.std.specs.Prelude.{◌≡◌, ℕ, ◌<◌, ◌≤◌, List, ◌++◌, length, All, Contains, Option, None, IfSome}
+use Rattle.std.specs.Prelude.{◌≡◌, ℕ, ◌<◌, ◌≤◌, List, ◌++◌, length, All, Contains, Option, None, IfSome, IfErr, Result}
 use Rattle.std.specs.List.Sorted.{IsNonDecreasing}
 use Rattle.coord_node.specs.Coordinator.{Answer, opening}
 use Rattle.coord_node.specs.Steps.{Run}
+use Rattle.replica_entries.specs.Spelling.{FitsEntry}
 use Rattle.replica_entries.specs.Values.{EntryValue}
 use Rattle.coord_replica.specs.Applying.{LogRun, answers_given, refusal_of}
 use Rattle.coord_replica.specs.Entries.{events_of, leaderships_of, moment_in, moments_of, stamp_under}
@@ -11,8 +12,12 @@ use Rattle.coord_replica.specs.Proposing.{IsAboveEarlier, Proposes}
 use Rattle.replica_snapshots.specs.Nodes.{FitsSection, sections_of}
 use Rattle.replica_snapshots.specs.Places.{FitsPlace}
 use Rattle.replica_snapshots.specs.Restoring.{CanBeNode}
+use Rattle.replica_snapshots.specs.Runs.{HasFewOffsets}
+use Rattle.replica_snapshots.specs.Spelling.{FitsNumber}
+use Rattle.replica_snapshots.specs.declared.fault.SnapshotFault.{SnapshotFault}
+use Rattle.replica_snapshots.specs.declared.fault.SnapshotFault.TheVariants.{NoMemory}
 use Rattle.coord_replica.specs.Replicas.{LogState, ReplicaState, log_opening}
-use Rattle.coord_replica.specs.Snapshots.{IsSnapshotOf, SnapshotValue, SpellsLog, part, sections_in}
+use Rattle.coord_replica.specs.Snapshots.{IsSnapshotOf, PutsPart, SnapshotValue, SpellsLog, part, sections_in}
 
 -- what the coordinator's run says of the entries that were applied
 pub record IsRunOf (salt : ℕ) (entries : List EntryValue) (answers : List (Option Answer)) (s : LogState) : Type 0 where
@@ -89,6 +94,27 @@ abbrev pub LogsCanBeRestored : Type 0
 LogsCanBeRestored =
     (salt : ℕ) (entries : List EntryValue) (answers : List (Option Answer)) (s : LogState)
     → LogRun (log_opening salt) entries answers s → CanBeNode s.coordinator
+
+-- The snapshot of a replica that has applied a log. Each entry of the log has a spelling, as whatever is proposed or read of bytes has. The
+-- salt and the number of entries are those of the code, and no group has more offsets than a count can say.
+pub record IsOfLog (v : SnapshotValue) : Type 0 where
+  pub salt : ℕ
+  pub entries : List EntryValue
+  pub answers : List (Option Answer)
+  pub state : LogState
+  pub fits : FitsNumber salt
+  pub count : FitsNumber (length entries)
+  pub each : All FitsEntry entries
+  pub run : LogRun (log_opening salt) entries answers state
+  pub few : HasFewOffsets state.coordinator
+  pub of : IsSnapshotOf state v
+
+-- whatever log a replica has applied since its opening, no put of its snapshot is refused but for want of memory, where no group has more
+-- offsets than a count can say
+abbrev pub LogsWithFewOffsetsCanBeWritten : Type 0
+LogsWithFewOffsetsCanBeWritten =
+    (v : SnapshotValue) (result : Result ℕ SnapshotFault) (old new : List ℕ) (from size : ℕ)
+    → IsOfLog v → PutsPart result old new v from size → IfErr result (λ fault. fault ≡ NoMemory)
 
 -- all sections are the snapshot
 abbrev pub SectionsMakeASnapshot : Type 0

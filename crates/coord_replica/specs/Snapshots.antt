@@ -5,6 +5,7 @@ use Rattle.replica_snapshots.specs.declared.fault.SnapshotFault.{SnapshotFault}
 use Rattle.replica_snapshots.specs.declared.fault.SnapshotFault.TheVariants.{NoMemory}
 use Rattle.replica_snapshots.specs.Nodes.{NodeValue, IsOf, SpellsNode, section_fields, FitsSection, sections_of, between}
 use Rattle.replica_snapshots.specs.Places.{PlaceValue, place_fields, FitsPlace}
+use Rattle.replica_snapshots.specs.Puttable.{CanPutSection}
 use Rattle.replica_snapshots.specs.Views.{listed_node, place_value}
 use Rattle.coord_replica.specs.declared.snapshot.Snapshot.{Snapshot}
 use Rattle.coord_replica.specs.Replicas.{LogState}
@@ -49,7 +50,8 @@ abbrev pub sections_in : SnapshotValue → ℕ
 sections_in v = length (sections_of v.node)
 
 -- A part is appended, up to the next section that is to be written: until there are so many bytes of sections, and no further, or none is
--- left; at least one, where one is left. Or no byte changes. Where all fits, only the want of memory is in the way.
+-- left; at least one, where one is left. Or no byte changes. Where the place fits, and each section fits or can be written, only the want
+-- of memory is in the way.
 pub record PutsPart (result : Result ℕ SnapshotFault) (old new : List ℕ) (v : SnapshotValue) (from size : ℕ) : Type 0 where
   pub put : IfOk result (λ next. new ≡ old ++ part v from next)
   pub place : from ≡ 0 → OnOk result (FitsPlace v.place)
@@ -60,3 +62,4 @@ pub record PutsPart (result : Result ℕ SnapshotFault) (old new : List ℕ) (v 
   pub none : IfOk result (λ next. sections_in v ≤ from → next ≡ from)
   pub err : OnErr result (new ≡ old)
   pub fitting : FitsPlace v.place → All FitsSection (sections_of v.node) → IfErr result (λ fault. fault ≡ NoMemory)
+  pub can : FitsPlace v.place → All CanPutSection (sections_of v.node) → IfErr result (λ fault. fault ≡ NoMemory)

@@ -1,8 +1,9 @@
 //! Laws of logs and replicas, proved where nothing runs.
-ghost use Rattle.coord_replica.specs.Laws.{AnswersAreTheLogs, LogsCanBeRestored, LogsNeverFall, OneAnswerAPlace, OneStateAPlace, ProposalsAreTaken, ReplicasAreRuns};
-ghost use Rattle.coord_replica.specs.Laws.{OneStateASnapshot, PartsFollow, ReplicasFollowTheLog, SameEntriesSameReplica, SectionsMakeASnapshot, StampsRise};
+ghost use Rattle.coord_replica.specs.Laws.{AnswersAreTheLogs, LogsCanBeRestored, LogsNeverFall, LogsWithFewOffsetsCanBeWritten, OneAnswerAPlace, OneStateAPlace, ProposalsAreTaken};
+ghost use Rattle.coord_replica.specs.Laws.{OneStateASnapshot, PartsFollow, ReplicasAreRuns, ReplicasFollowTheLog, SameEntriesSameReplica, SectionsMakeASnapshot, StampsRise};
 
 use coord_node::one_answer;
+use replica_snapshots::runs_with_few_offsets_can_be_written;
 
 /// A replica that applied a list of entries since its opening has the state, and gave the answers, of the coordinator's run over their
 /// events.
@@ -67,6 +68,14 @@ pub fn one_state_a_snapshot()
 pub fn logs_can_be_restored()
     ensures { LogsCanBeRestored }
 {}
+
+/// Whatever log a replica has applied since its opening, no part of its snapshot is refused but for want of memory, where no group has
+/// more offsets than a count can say.
+pub fn logs_with_few_offsets_can_be_written()
+    ensures { LogsWithFewOffsetsCanBeWritten }
+{
+    runs_with_few_offsets_can_be_written();
+}
 
 /// All sections of a replica, one behind the other, are its snapshot.
 pub fn sections_make_a_snapshot()

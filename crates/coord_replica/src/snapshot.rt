@@ -37,7 +37,7 @@ impl Snapshot<'_> {
     ///
     /// Refused, with no byte changed: `TooLong` only where a text has over 32,767 bytes, where there is more of something than a
     /// count can say, or where a partition's index is outside 0 to 99,999, or metadata has over 4,096 bytes, as in no group that
-    /// requests lead to; `NoMemory`.
+    /// requests lead to, but for one of 2^32 - 1 offsets or more (`logs_with_few_offsets_can_be_written`); `NoMemory`.
     pub fn put(&self, from: usize, size: usize, out: &mut Vec<u8>) -> Result<usize, SnapshotFault>
         ensures { PutsPart result out.old.items out.new.items (snapshot_value self.now) from size }
     {

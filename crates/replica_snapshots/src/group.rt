@@ -31,7 +31,7 @@ pub struct ReadGroup<'a> {
 ///
 /// Refused, with no byte changed: `TooLong` only where a text has over 32,767 bytes, where there is more of something than a count
 /// can say, or where a partition's index is outside 0 to 99,999, or metadata has over 4,096 bytes, as in no group that requests lead
-/// to; `NoMemory`.
+/// to, but for one of 2^32 - 1 offsets or more (`runs_with_few_offsets_are_put`); `NoMemory`.
 pub fn put_group(out: &mut Vec<u8>, name: &str, group: &Group) -> Result<(), SnapshotFault>
     ensures { let g : Named = (name.now, held_of group.now) in
         PutsWhere result out.old.items out.new.items (CanPutNamed g) (FitsNamed g) (named_fields g) }
