@@ -33,7 +33,8 @@ have_names topics all name t there =
     (All-map FitsText (λ (e : Entry). e.name) topics (All-weaker FitsTopic (λ e. FitsText e.name) (λ e fits. fits.name) topics all))
     ((is_member-Decides bytes_eq-Decides names name).0 among)
 
-event_fits : (leadership : ℕ) (content : ContentValue) → leadership < 2 ^ 31 → FitsNumbers content → FitsTopics content → IfSome (event_under leadership content) FitsEvent
+event_fits : (leadership : ℕ) (content : ContentValue) → leadership < 2 ^ 31 → FitsNumbers content → FitsTopics content
+    → IfSome (event_under leadership content) FitsEvent
 event_fits leadership (frame f) small numbers topics =
     let connection = numbers.connection in
     let number = numbers.number in
@@ -43,7 +44,8 @@ event_fits leadership (tick moment) small numbers topics = omega (arith, numbers
 event_fits leadership (image list) small numbers topics = have_names list topics.1
 event_fits leadership leads small numbers topics = tt
 
-front_fits : (event : Option Event) (events : List Event) → IfSome event FitsEvent → AllByRecursion FitsEvent events → AllByRecursion FitsEvent (cons_option event events)
+front_fits : (event : Option Event) (events : List Event) → IfSome event FitsEvent → AllByRecursion FitsEvent events
+    → AllByRecursion FitsEvent (cons_option event events)
 front_fits None events one all = all
 front_fits (Some event) events one all = (one, all)
 
@@ -65,7 +67,8 @@ record HasSmall (s : LogState) : Type 0 where
   pub leadership : s.leadership < 2 ^ 31
   pub moment : s.moment < 2 ^ 63
 
-keeps_small : (s t : LogState) (entries : List EntryValue) (answers : List (Option Answer)) → LogRun s entries answers t → AllByRecursion FitsEntry entries → HasSmall s → HasSmall t
+keeps_small : (s t : LogState) (entries : List EntryValue) (answers : List (Option Answer))
+    → LogRun s entries answers t → AllByRecursion FitsEntry entries → HasSmall s → HasSmall t
 keeps_small s t [] [] run all small = subst HasSmall (sym run) small
 keeps_small s t [] (a ∷ answers) run all small = absurd run
 keeps_small s t (e ∷ es) [] run all small = absurd run

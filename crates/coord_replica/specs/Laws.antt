@@ -95,8 +95,8 @@ LogsCanBeRestored =
     (salt : ℕ) (entries : List EntryValue) (answers : List (Option Answer)) (s : LogState)
     → LogRun (log_opening salt) entries answers s → CanBeNode s.coordinator
 
--- The snapshot of a replica that has applied a log. Each entry of the log has a spelling, as whatever is proposed or read of bytes has. The
--- salt and the number of entries are those of the code, and no group has more offsets than a count can say.
+-- The snapshot of a replica that has applied a log. Each entry of the log has a spelling, as whatever is proposed or read of bytes has.
+-- The salt and the number of entries are of 64 bits, as the code's are. No group has more offsets than a count can say.
 pub record IsOfLog (v : SnapshotValue) : Type 0 where
   pub salt : ℕ
   pub entries : List EntryValue
