@@ -27,8 +27,9 @@ const MOST_ROUNDS: usize = 4;
 /// Many lines over one desk. In a round it looks once for an arrival, unless it is to be woken for the next, and gives each line one
 /// turn, so no line waits for another to end, and lines that have frames are answered frame by frame in turn. A poll is one round, a
 /// second one where a line has more to do, which mostly finds that it waits, and further ones while a line has a frame, up to
-/// `MOST_ROUNDS`. Where there are many lines, one that waits for its reader alone rests until it is woken. It is ready, with the number
-/// of lines that have ended, once arrivals have ended and no line is left. The desk hears of each end.
+/// `MOST_ROUNDS`. Where nothing has come since the last round, only the lines from the first to the last that have more to do have a
+/// turn: the others wait. Where there are many lines, one that waits for its reader alone rests until it is woken. It is ready, with
+/// the number of lines that have ended, once arrivals have ended and no line is left. The desk hears of each end.
 #[derive(Drop)]
 pub struct Worker<A: Stream, D> {
     arrivals: A,
@@ -215,8 +216,7 @@ impl<R: ReadPart, W: WriteParts, A: Stream<Item = Line<R, W>>, D: Desk> Future f
     ghost gives = { λ w. WorkerGives R.reads R.is_at_end R.faults W.writes W.faults W.stalls D.answers
         (EndsIf w.is_closed (A.yields w.arrivals)) w.lines.items w.resting.lines w.resting.count w.ended };
 
-    /// Makes a round, a second one where there is more to do, and further ones while a line has a frame. In a round behind one in
-    /// which nothing has come, the lines that wait on either side of those with more to do have no turn.
+    /// Makes a round, a second one where there is more to do, and further ones while a line has a frame.
     fn poll(&mut self, cx: &mut Context<'_>) -> Poll<u64> {
         let mut has_come = true;
         let mut going = 0..0;
