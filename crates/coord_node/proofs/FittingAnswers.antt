@@ -167,14 +167,14 @@ module _ (g : Group) (sound : IsConsistent g) (d : Draft) (ready : IsReady g d) 
 
 -- ---- by the kind of heartbeat
 
-made_fits : (salt serial : ℕ) → FitsText (made_id salt serial)
+pub made_fits : (salt serial : ℕ) → FitsText (made_id salt serial)
 made_fits salt serial =
     record {
       length = let is = length-made_id salt serial in omega (arith, is);
       utf8 = IsUtf8-from_ascii (made_id salt serial) (hyphenated_ascii lower (to_be_bytes w64 salt ++ to_be_bytes w64 serial) (inl refl));
     }
 
-name_fits : (g : Group) (member : Text) (name : Name) → IsNamed g member (Some name) → FitsText member → FitsText name.id
+pub name_fits : (g : Group) (member : Text) (name : Name) → IsNamed g member (Some name) → FitsText member → FitsText name.id
 name_fits g [] name (Some serial, is_serial, is) fits =
     let id : name.id ≡ made_id g.salt serial = ap (λ (x : Name). x.id) (some_is name (name_of_serial g serial) is) in
     subst FitsText (sym id) (made_fits g.salt serial)
@@ -191,14 +191,14 @@ join_names g serial now id None None q h fits = fits
 join_names g serial now id None (Some old) q h fits = fits
 
 -- a check that would refuse doesn't apply
-passed : (b : Bool) (v rest : Verdict) → (v ≡ Accepted → ⊥) → cond b v rest ≡ Accepted → (b ≡ false) × (rest ≡ Accepted)
+pub passed : (b : Bool) (v rest : Verdict) → (v ≡ Accepted → ⊥) → cond b v rest ≡ Accepted → (b ≡ false) × (rest ≡ Accepted)
 passed true v rest fails is = absurd (fails is)
 passed false v rest fails is = (refl, is)
 
-refuses : (code : _) → Refused code ≡ Accepted → ⊥
+pub refuses : (code : _) → Refused code ≡ Accepted → ⊥
 refuses code is = cc
 
-overtakes : Overtaken ≡ Accepted → ⊥
+pub overtakes : Overtaken ≡ Accepted → ⊥
 overtakes is = cc
 
 module _ (g : Group) (sound : IsConsistent g) (stored : AreImageTopics g.view) (h : Arrival) (present : AreImageTopics h.image) (fits : FitsText h.heartbeat.member) (a : Answer) (n : Group) where

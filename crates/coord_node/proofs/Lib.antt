@@ -2,6 +2,7 @@ pub mod LengthLemmas
 pub mod ReplyLemmas
 pub mod RunLemmas
 pub mod GroupLemmas
+pub mod ViewLemmas
 pub mod RestoredGroups
 pub mod KeptLemmas
 pub mod ShortIds

@@ -9,12 +9,11 @@ use Rattle.std.proofs.lemmas.List.{length-map, map-append, take_all}
 use Rattle.group_types.proofs.Lookups.{not_none, some_is}
 use Rattle.group_types.specs.Text.{Text}
 use Rattle.coord_node.specs.declared.kept.Kept.{Kept}
-use Rattle.coord_node.specs.Coordinator.{Coordinator}
-use Rattle.coord_node.specs.Kept.{group_in}
-use Rattle.coord_node.specs.NodeView.{Entries, IsOneMore, entry_in, groups_of}
-use Rattle.coord_node.specs.Restored.{CanBeKept, named_group, with_group_if}
+use Rattle.coord_node.specs.Nodes.{Named, NodeValue, held_of}
+use Rattle.coord_node.specs.NodeView.{Entries, IsOneMore, groups_of, named_in}
+use Rattle.coord_node.specs.Restored.{listed_named, with_named_if}
 use Rattle.coord_node.specs.declared.restored.NamedGroup.{NamedGroup}
-use Rattle.coord_node.proofs.GroupLemmas.{OfEach, OfEach-push, as_map-push, entry_at, get-as_map, len-as_map}
+use Rattle.coord_node.proofs.GroupLemmas.{OfEach, OfEach-push, entry_at, get-as_map}
 
 -- ---- a name among those that are there
 
@@ -45,18 +44,13 @@ take_one (y ∷ ys) zero x at = ap (λ z. z ∷ []) (some_is y x at)
 take_one (y ∷ ys) (suc i) x at = ap (λ zs. y ∷ zs) (take_one ys i x at)
 
 -- one more of them is listed
-pub one_listed : (list new : List NamedGroup) (es : Entries) (i : ℕ) (x : NamedGroup) (e : String Global × Kept) → map named_group list ≡ map entry_in (take i es)
-    → slice_get es i ≡ Some e → named_group x ≡ entry_in e → new ≡ list ++ x ∷ [] → map named_group new ≡ map entry_in (take (i + 1) es)
+pub one_listed : (list new : List NamedGroup) (es : Entries) (i : ℕ) (x : NamedGroup) (e : String Global × Kept) → map listed_named list ≡ map named_in (take i es)
+    → slice_get es i ≡ Some e → listed_named x ≡ named_in e → new ≡ list ++ x ∷ [] → map listed_named new ≡ map named_in (take (i + 1) es)
 one_listed list new es i x e before at same pushed =
     let next : suc i ≡ i + 1 = omega arith in
-    ap (map named_group) pushed ∙ map-append named_group list (x ∷ []) ∙ ap (λ done. done ++ named_group x ∷ []) before
-    ∙ ap (λ last. map entry_in (take i es) ++ last ∷ []) same
-    ∙ sym (ap (map entry_in) (take_one es i e at) ∙ map-append entry_in (take i es) (e ∷ [])) ∙ ap (λ n. map entry_in (take n es)) next
-
--- all of them are, and each once
-pub each_once : (list : List NamedGroup) (es : Entries) (n : ℕ) → length es ≤ n → IsDistinct string_eq (keys_of es) → map named_group list ≡ map entry_in (take n es) → length list ≡ finite.len (groups_of es)
-each_once list es n long unique are =
-    sym (length-map list named_group) ∙ ap length (are ∙ ap (map entry_in) (take_all n es long)) ∙ length-map es entry_in ∙ sym (len-as_map (λ (k : Kept). k.group.state) es unique)
+    ap (map listed_named) pushed ∙ map-append listed_named list (x ∷ []) ∙ ap (λ done. done ++ listed_named x ∷ []) before
+    ∙ ap (λ last. map named_in (take i es) ++ last ∷ []) same
+    ∙ sym (ap (map named_in) (take_one es i e at) ∙ map-append named_in (take i es) (e ∷ [])) ∙ ap (λ n. map named_in (take n es)) next
 
 -- ---- one group more
 
@@ -68,15 +62,15 @@ module _ {E : Type 0} (old new : Entries) (name : Text) (k : Kept) where
   each_still P (Ok false) each here more same err = subst (OfEach P) (sym (same refl)) each
   each_still P (Err e) each here more same err = subst (OfEach P) (sym err) each
 
-  module _ (c : Coordinator) (same_groups : groups_of old ≡ c.groups) where
+  module _ (n : NodeValue) (same_groups : map named_in old ≡ n.groups) where
     -- the node with the groups that there are now
-    pub group_added : (r : Result Bool E) → IfOk r (λ yes. IsTrue yes ↔ CanBeKept (groups_of old) name) → IfOk r (λ yes. IsTrue yes → IsOneMore old name k new)
-        → IfOk r (λ yes. yes ≡ false → new ≡ old) → IfOk r (λ yes. (record c { groups = groups_of new }) ≡ with_group_if yes c name (group_in k))
-    group_added (Ok true) can more same =
+    pub group_added : (r : Result Bool E) → IfOk r (λ yes. IsTrue yes → IsOneMore old name k new) → IfOk r (λ yes. yes ≡ false → new ≡ old)
+        → IfOk r (λ yes. (record n { groups = map named_in new }) ≡ with_named_if yes n (name, held_of k.group))
+    group_added (Ok true) more same =
         let it = more refl in
-        let now : groups_of new ≡ finite.insert c.groups name (group_in k) =
-        ap groups_of it.entries ∙ as_map-push (λ (x : Kept). x.group.state) old it.key k name it.named (can.0 refl).absent
-        ∙ ap (λ groups. finite.insert groups name (group_in k)) same_groups in
-        λ i. record c { groups = now i }
-    group_added (Ok false) can more same = λ i. record c { groups = (ap groups_of (same refl) ∙ same_groups) i }
-    group_added (Err e) can more same = tt
+        let now : map named_in new ≡ n.groups ++ (name, held_of k.group) ∷ [] =
+        ap (map named_in) it.entries ∙ map-append named_in old ((it.key, k) ∷ []) ∙ ap (λ (t : Text). map named_in old ++ (t, held_of k.group) ∷ []) it.named
+        ∙ ap (λ (groups : List Named). groups ++ (name, held_of k.group) ∷ []) same_groups in
+        λ i. record n { groups = now i }
+    group_added (Ok false) more same = λ i. record n { groups = (ap (map named_in) (same refl) ∙ same_groups) i }
+    group_added (Err e) more same = tt

@@ -1,5 +1,6 @@
 pub mod Replies
 pub mod Coordinator
+pub mod Nodes
 pub mod Steps
 pub mod Laws
 pub mod Stored

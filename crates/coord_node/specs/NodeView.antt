@@ -1,5 +1,4 @@
--- A node's fields as the coordinator's state: the order in which the groups were made is forgotten, and what is known of their
--- views.
+-- A node's fields as its value: what is known of the groups' views is forgotten.
 use Rattle.std.specs.Prelude.{true, false, ◌≡◌, ◌<◌, ◌≤◌, List, [], ◌∷◌, ◌++◌, String, length, map}
 use Rattle.std.specs.declared.alloc.Global.{Global}
 use Rattle.std.specs.FinMap as finite
@@ -12,7 +11,8 @@ use Rattle.group_types.specs.Group.{Group}
 use Rattle.group_types.specs.HeartbeatStep as group
 use Rattle.coord_node.specs.declared.kept.Kept.{Kept}
 use Rattle.coord_node.specs.declared.node.Node.TheInside.{Inside}
-use Rattle.coord_node.specs.Coordinator.{Coordinator, Groups}
+use Rattle.coord_node.specs.Coordinator.{Groups}
+use Rattle.coord_node.specs.Nodes.{Named, NodeValue, held_of}
 use Rattle.coord_node.specs.Answers.{succeeds}
 use Rattle.coord_node.specs.Kept.{HasRightNumber, group_in}
 
@@ -28,8 +28,12 @@ entry_in e = (string_bytes e.0, group_in e.1)
 abbrev pub groups_of : Entries → Groups
 groups_of entries = finite.from_entries (map entry_in entries)
 
-abbrev pub node_view : Inside → Coordinator
-node_view n = record { salt = n.salt; groups = groups_of n.groups.entries; image = n.image }
+-- a group under the bytes of its name
+abbrev pub named_in : String Global × Kept → Named
+named_in e = (string_bytes e.0, held_of e.1.group)
+
+abbrev pub node_view : Inside → NodeValue
+node_view n = record { salt = n.salt; image = n.image; groups = map named_in n.groups.entries }
 
 -- what is known of each group
 abbrev pub AreKept : Inside → Type 0

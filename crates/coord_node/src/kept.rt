@@ -42,7 +42,7 @@ impl Kept {
 
     /// A group that was restored, of whose view nothing is known. Takes no memory.
     pub(crate) fn of(group: Group) -> Kept
-        ensures group { group_in result ≡ group.state }
+        ensures group { result.group ≡ group }
         ensures known { result.known ≡ None }
     {
         Kept { group, known: None }

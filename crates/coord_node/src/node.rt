@@ -9,10 +9,11 @@ ghost use Rattle.group_types.specs.Limits.{SMALLEST_BODY as FEWEST_BYTES, LARGES
 ghost use Rattle.group_types.specs.Images.{AreImageTopics};
 ghost use Rattle.group_epochs.specs.Request.{arrival_of};
 ghost use Rattle.group_core.specs.Outcome.{answer_of};
-ghost use Rattle.coord_node.specs.Coordinator.{opening, Done, Frame, Tick, committed_at, is_remembered_at};
+ghost use Rattle.coord_node.specs.Coordinator.{Done, Frame, Tick, committed_at, is_remembered_at};
+ghost use Rattle.coord_node.specs.Nodes.{HasEachOnce, coordinator_of, held_of, node_opening};
 ghost use Rattle.coord_node.specs.Steps.{HeartbeatAt, Step};
 ghost use Rattle.coord_node.specs.Answers.{Answers, AnswersRequest, AnswersHeartbeat, ClosesAtOnce, CommitsIn, IsCommitted, IsSendable, IsSent};
-ghost use Rattle.coord_node.specs.Restored.{CanBeKept, named_group, with_group_if};
+ghost use Rattle.coord_node.specs.Restored.{CanBeKept, listed_named, with_named_if};
 
 use crate::absent::reply_of_absent;
 use crate::admission::{admit, restore};
@@ -63,12 +64,12 @@ impl Drop for Node {
 }
 
 impl Model for Node {
-    ghost use Rattle.coord_node.specs.Coordinator.{Coordinator};
-    ghost use Rattle.coord_node.specs.Stored.{coordinator_code};
+    ghost use Rattle.coord_node.specs.Nodes.{NodeValue};
+    ghost use Rattle.coord_node.specs.Stored.{node_code};
 
-    ghost Value = { Coordinator };
+    ghost Value = { NodeValue };
 
-    ghost coded = { coordinator_code };
+    ghost coded = { node_code };
 
     ghost use Rattle.coord_node.specs.NodeView.{IsNode, node_view};
 
@@ -80,7 +81,7 @@ impl Model for Node {
 impl Node {
     /// A node with no groups and no topics. The salt is the first half of the ids that it makes. Takes no memory.
     pub fn new(alloc: Global, salt: u64, hasher: RandomState) -> Node
-        ensures { result ≡ opening salt }
+        ensures { result ≡ node_opening salt }
     {
         Node {
             alloc,
@@ -123,15 +124,16 @@ impl Node {
 
     /// How many groups the node has.
     pub fn group_count(&self) -> usize
-        ensures { result ≡ finite.len self.now.groups }
+        ensures count { result ≡ length self.now.groups }
+        ensures once { HasEachOnce self.now }
     {
         self.groups.len()
     }
 
-    /// All groups with their names, each once, in the order of their making. Fails where memory is short.
+    /// All groups with their names, each name once, in the order of their making. Fails where memory is short.
     pub fn groups(&self) -> Result<Vec<NamedGroup<'_>>, AllocError>
-        ensures groups { IfOk result (λ list. finite.from_entries (map named_group list.items) ≡ self.now.groups) }
-        ensures once { IfOk result (λ list. length list.items ≡ finite.len self.now.groups) }
+        ensures groups { IfOk result (λ list. map listed_named list.items ≡ self.now.groups) }
+        ensures once { HasEachOnce self.now }
     {
         listed(self.alloc, &self.groups)
     }
@@ -139,8 +141,8 @@ impl Node {
     /// Adds a group that was restored under a name, behind the others, and says whether it did: the name is one that a join may have,
     /// the node has no group of it, and has room for one more. If not, or where memory is short, nothing changes.
     pub fn restore_group(&mut self, name: &str, group: Group) -> Result<bool, AllocError>
-        ensures can { IfOk result (λ yes. IsTrue yes ↔ CanBeKept self.old.groups name.now) }
-        ensures kept { IfOk result (λ yes. self.new ≡ with_group_if yes self.old name.now group.state) }
+        ensures can { IfOk result (λ yes. IsTrue yes ↔ CanBeKept (coordinator_of self.old).groups name.now) }
+        ensures kept { IfOk result (λ yes. self.new ≡ with_named_if yes self.old (name.now, held_of group)) }
         ensures err { OnErr result (self.new ≡ self.old) }
     {
         restore(self.alloc, &mut self.groups, name, Kept::of(group))
@@ -148,7 +150,7 @@ impl Node {
 
     /// The group of a name, where the node has it.
     pub fn group(&self, name: &str) -> Option<&Group>
-        ensures { option_map (λ g. g.state) (option_copied result) ≡ finite.get self.now.groups name.now }
+        ensures { option_map (λ g. g.state) (option_copied result) ≡ finite.get (coordinator_of self.now).groups name.now }
     {
         match self.groups.get(name) {
             Some(kept) => Some(&kept.group),
@@ -158,7 +160,7 @@ impl Node {
 
     /// Whether the node has the group, and the group the member, or remembers it as a former one. Takes no memory.
     pub fn remembers(&self, group: &str, id: &str) -> bool
-        ensures { result ≡ is_remembered_at (finite.get self.now.groups group.now) id.now }
+        ensures { result ≡ is_remembered_at (finite.get (coordinator_of self.now).groups group.now) id.now }
     {
         match self.groups.get(group) {
             Some(kept) => kept.group.remembers(id),
@@ -168,7 +170,7 @@ impl Node {
 
     /// What was last committed in a group for an index of a topic; none where the node has no such group. Takes no memory.
     pub fn committed(&self, group: &str, name: &str, index: i32) -> Option<&Committed>
-        ensures { option_copied result ≡ committed_at (finite.get self.now.groups group.now) (name.now, index) }
+        ensures { option_copied result ≡ committed_at (finite.get (coordinator_of self.now).groups group.now) (name.now, index) }
     {
         match self.groups.get(group) {
             Some(kept) => kept.group.committed(name, index),
@@ -179,7 +181,7 @@ impl Node {
     /// Removes the members whose session or release deadline has come from all groups (KIP-848, "Session Management", "Rebalance
     /// Timeout"), and says how many. Takes no memory.
     pub fn tick(&mut self, now: Moment) -> usize
-        ensures { Step self.old (Tick now) (Done result) self.new }
+        ensures { Step (coordinator_of self.old) (Tick now) (Done result) (coordinator_of self.new) }
     {
         tick_all(&mut self.groups, now)
     }
@@ -195,7 +197,7 @@ impl Node {
         out: &mut Vec<u8>,
     ) -> Result<Answered, AllocError>
         ensures step { IfOk result (λ answered.
-            Answers self.old (Frame body.now stamp now) answered self.new out.old.items out.new.items) }
+            Answers (coordinator_of self.old) (Frame body.now stamp now) answered (coordinator_of self.new) out.old.items out.new.items) }
         ensures err { OnErr result ((self.new ≡ self.old) × (out.new.items ≡ out.old.items)) }
         // A body that closes at once takes no memory.
         ensures at_once { ClosesAtOnce body.now → result ≡ Ok Answered.Closes }
@@ -216,7 +218,7 @@ impl Node {
         out: &mut Vec<u8>,
     ) -> Result<Answered, AllocError>
         ensures step { IfOk result (λ answered.
-            Answers self.old (Frame parsed.now stamp now) answered self.new out.old.items out.new.items) }
+            Answers (coordinator_of self.old) (Frame parsed.now stamp now) answered (coordinator_of self.new) out.old.items out.new.items) }
         ensures err { OnErr result ((self.new ≡ self.old) × (out.new.items ≡ out.old.items)) }
         // A body that is no request takes no memory.
         ensures no_request { ((v : RequestValue) → ¬ SpellsRequest v parsed.now) → result ≡ Ok Answered.Closes }
@@ -237,7 +239,7 @@ impl Node {
     ) -> Result<Answered, AllocError>
         requires length { (FEWEST_BYTES ≤ length parsed.now) × (length parsed.now ≤ MOST_BYTES) }
         ensures step { IfOk result (λ answered.
-            Answers self.old (Frame parsed.now stamp now) answered self.new out.old.items out.new.items) }
+            Answers (coordinator_of self.old) (Frame parsed.now stamp now) answered (coordinator_of self.new) out.old.items out.new.items) }
         ensures err { OnErr result ((self.new ≡ self.old) × (out.new.items ≡ out.old.items)) }
         ensures no_request { ((v : RequestValue) → ¬ SpellsRequest v parsed.now) → result ≡ Ok Answered.Closes }
     {
@@ -261,7 +263,7 @@ impl Node {
         requires size { length (request_body (request_value request.now)) ≤ size }
         requires most { size ≤ MOST_BYTES }
         ensures step { IfOk result (λ answered.
-            AnswersRequest self.old (request_value request.now) stamp now answered self.new out.old.items out.new.items) }
+            AnswersRequest (coordinator_of self.old) (request_value request.now) stamp now answered (coordinator_of self.new) out.old.items out.new.items) }
         ensures err { OnErr result ((self.new ≡ self.old) × (out.new.items ≡ out.old.items)) }
     {
         match request {
@@ -285,8 +287,8 @@ impl Node {
         out: &mut Vec<u8>,
     ) -> Result<Answered, AllocError>
         requires id { length request.now.member_id.now ≤ LONGEST_STRING }
-        ensures step { IfOk result (λ answered. AnswersHeartbeat self.old correlation
-            (arrival_of (heartbeat_request_value request.now) stamp now self.old.image) answered self.new
+        ensures step { IfOk result (λ answered. AnswersHeartbeat (coordinator_of self.old) correlation
+            (arrival_of (heartbeat_request_value request.now) stamp now self.old.image) answered (coordinator_of self.new)
             out.old.items out.new.items) }
         ensures err { OnErr result ((self.new ≡ self.old) × (out.new.items ≡ out.old.items)) }
     {
@@ -306,7 +308,7 @@ impl Node {
         requires fits { FitsCommitRequest (commit_request_value request.now) }
         requires size { length (commit_request_fields (commit_request_value request.now)) + 10 ≤ size }
         requires most { size ≤ MOST_BYTES }
-        ensures step { OnOk result (IsCommitted self.old correlation (commit_request_value request.now) self.new
+        ensures step { OnOk result (IsCommitted (coordinator_of self.old) correlation (commit_request_value request.now) (coordinator_of self.new)
             out.old.items out.new.items) }
         ensures err { OnErr result ((self.new ≡ self.old) × (out.new.items ≡ out.old.items)) }
     {
@@ -322,7 +324,7 @@ impl Node {
         &mut self,
         request: &CommitRequest<'a>,
     ) -> Result<CommitReply<'a>, AllocError>
-        ensures step { IfOk result (λ reply. CommitsIn self.old (commit_request_value request.now) (commit_reply_value reply) self.new) }
+        ensures step { IfOk result (λ reply. CommitsIn (coordinator_of self.old) (commit_request_value request.now) (commit_reply_value reply) (coordinator_of self.new)) }
         ensures err { OnErr result (self.new ≡ self.old) }
     {
         match place_of(&self.groups, self.last, request.group_id) {
@@ -345,8 +347,8 @@ impl Node {
         out: &mut Vec<u8>,
     ) -> Result<Outcome, AllocError>
         requires id { length request.now.member_id.now ≤ LONGEST_STRING }
-        ensures step { IfOk result (λ outcome. HeartbeatAt (finite.get self.old.groups request.now.group_id.now) self.old
-            (arrival_of (heartbeat_request_value request.now) stamp now self.old.image) (answer_of outcome) self.new) }
+        ensures step { IfOk result (λ outcome. HeartbeatAt (finite.get (coordinator_of self.old).groups request.now.group_id.now) (coordinator_of self.old)
+            (arrival_of (heartbeat_request_value request.now) stamp now self.old.image) (answer_of outcome) (coordinator_of self.new)) }
         ensures sendable { IfOk result (λ outcome. IsSendable (answer_of outcome) (vec_capacity out.new - length out.new.items)) }
         ensures out { out.new.items ≡ out.old.items }
         ensures err { OnErr result (self.new ≡ self.old) }
@@ -370,9 +372,9 @@ impl Node {
         out: &mut Vec<u8>,
     ) -> Result<Outcome, AllocError>
         requires id { length request.now.member_id.now ≤ LONGEST_STRING }
-        requires absent { finite.get self.old.groups request.now.group_id.now ≡ None }
-        ensures step { IfOk result (λ outcome. HeartbeatAt (finite.get self.old.groups request.now.group_id.now) self.old
-            (arrival_of (heartbeat_request_value request.now) stamp now self.old.image) (answer_of outcome) self.new) }
+        requires absent { finite.get (coordinator_of self.old).groups request.now.group_id.now ≡ None }
+        ensures step { IfOk result (λ outcome. HeartbeatAt (finite.get (coordinator_of self.old).groups request.now.group_id.now) (coordinator_of self.old)
+            (arrival_of (heartbeat_request_value request.now) stamp now self.old.image) (answer_of outcome) (coordinator_of self.new)) }
         ensures sendable { IfOk result (λ outcome. IsSendable (answer_of outcome) (vec_capacity out.new - length out.new.items)) }
         ensures out { out.new.items ≡ out.old.items }
         ensures err { OnErr result (self.new ≡ self.old) }

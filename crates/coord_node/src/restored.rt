@@ -1,8 +1,8 @@
 //! The groups of a node as they are read out.
 ghost use Rattle.std.specs.Prelude.{◌≡◌, IfOk, length, map};
 ghost use Rattle.std.specs.FinMap as finite;
-ghost use Rattle.coord_node.specs.NodeView.{groups_of};
-ghost use Rattle.coord_node.specs.Restored.{named_group};
+ghost use Rattle.coord_node.specs.NodeView.{groups_of, named_in};
+ghost use Rattle.coord_node.specs.Restored.{listed_named};
 
 use crate::kept::Kept;
 use group_core::Group;
@@ -22,8 +22,8 @@ pub(crate) fn listed(
     alloc: Global,
     groups: &IndexMap<String, Kept, RandomState>,
 ) -> Result<Vec<NamedGroup<'_>>, AllocError>
-    ensures groups { IfOk result (λ list. finite.from_entries (map named_group list.items) ≡ groups_of groups.now.entries) }
-    ensures once { IfOk result (λ list. length list.items ≡ finite.len (groups_of groups.now.entries)) }
+    ensures groups { IfOk result (λ list. map listed_named list.items ≡ map named_in groups.now.entries) }
+    ensures once { length groups.now.entries ≡ finite.len (groups_of groups.now.entries) }
 {
     let mut list = Vec::new(alloc);
     for place in 0..groups.len() {

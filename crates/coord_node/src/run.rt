@@ -1,6 +1,7 @@
 //! Lists of events.
 ghost use Rattle.std.specs.Prelude.{◌≡◌, ◌<◌, [], length, OnOk, OnErr};
 ghost use Rattle.coord_node.specs.Events.{Runs};
+ghost use Rattle.coord_node.specs.Nodes.{coordinator_of};
 
 use crate::event::NodeEvent;
 use crate::node::Node;
@@ -15,7 +16,7 @@ impl Node {
         events: &mut VecDeque<NodeEvent>,
         out: &mut Vec<u8>,
     ) -> Result<(), AllocError>
-        ensures run { Runs self.old events.old.items self.new events.new.items out.old.items out.new.items }
+        ensures run { Runs (coordinator_of self.old) events.old.items (coordinator_of self.new) events.new.items out.old.items out.new.items }
         ensures all { OnOk result (events.new.items ≡ []) }
         ensures left { OnErr result (0 < length events.new.items) }
     {

@@ -1,9 +1,10 @@
 -- A replica's snapshot: the place in the log, and the node (ours).
 use Rattle.std.specs.Prelude.{◌≡◌, ℕ, suc, ◌==◌, ◌<◌, ◌≤◌, ◌-◌, List, [], ◌++◌, length, All, Result, OnOk, OnErr, IfOk, IfErr, if◌then◌else◌}
 use Rattle.std.specs.List.{flat_map}
+use Rattle.coord_node.specs.Nodes.{NodeValue}
 use Rattle.replica_snapshots.specs.declared.fault.SnapshotFault.{SnapshotFault}
 use Rattle.replica_snapshots.specs.declared.fault.SnapshotFault.TheVariants.{NoMemory}
-use Rattle.replica_snapshots.specs.Nodes.{NodeValue, IsOf, SpellsNode, section_fields, FitsSection, sections_of, between}
+use Rattle.replica_snapshots.specs.Nodes.{IsOf, SpellsNode, section_fields, FitsSection, sections_of, between}
 use Rattle.replica_snapshots.specs.Places.{PlaceValue, place_fields, FitsPlace}
 use Rattle.replica_snapshots.specs.Puttable.{CanPutSection}
 use Rattle.replica_snapshots.specs.Views.{listed_node, place_value}

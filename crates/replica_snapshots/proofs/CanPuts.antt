@@ -1,6 +1,7 @@
 -- What has a spelling can be written.
 use Rattle.std.proofs.lemmas.List.Elements.{All-weaker}
-use Rattle.replica_snapshots.specs.Groups.{FitsNamed, Named, parts_of}
+use Rattle.coord_node.specs.Nodes.{Named}
+use Rattle.replica_snapshots.specs.Groups.{FitsNamed, parts_of}
 use Rattle.replica_snapshots.specs.Nodes.{FitsSection, Head, OneGroup, Section}
 use Rattle.replica_snapshots.specs.Parts.{MemberPart}
 use Rattle.replica_snapshots.specs.Puttable.{CanPutGrant, CanPutMember, CanPutNamed, CanPutSection}

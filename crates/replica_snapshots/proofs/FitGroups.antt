@@ -46,10 +46,11 @@ use Rattle.group_types.proofs.Renewals.{changed_is_consistent, renewed_is_consis
 use Rattle.group_types.proofs.Senders.{named_fresh, other_is, own_is}
 use Rattle.group_types.proofs.SetLemmas.{has-common, has-in_order, has-nothing, size-nothing}
 use Rattle.group_core.proofs.FewPartitions.{few_shown, share_of_view}
+use Rattle.coord_node.proofs.FittingAnswers.{name_fits}
 use Rattle.replica_snapshots.specs.Spelling.{FitsEpoch, FitsFormer, FitsIndex, FitsMetadata, FitsNumber, FitsOffset, FitsPartitions, FitsRecord, FitsStamp}
 use Rattle.replica_snapshots.specs.Runs.{HaveNames}
 use Rattle.replica_snapshots.proofs.FitKeys.{fewer_keys, put_in}
-use Rattle.replica_snapshots.proofs.FitRecords.{AreFew, FitsHeartbeat, FitsSerial, away_fits, beat_fits, name_fits, new_fits, rejoined_fits, sent_fits, serial_fits, set_fits, settled_fits}
+use Rattle.replica_snapshots.proofs.FitRecords.{AreFew, FitsHeartbeat, FitsSerial, away_fits, beat_fits, new_fits, rejoined_fits, sent_fits, serial_fits, set_fits, settled_fits}
 
 -- ---- what a group consists of
 

@@ -32,9 +32,10 @@ use Rattle.coord_node.specs.Coordinator.{Answer, Coordinator, Event, Frame, Imag
 use Rattle.coord_node.specs.Laws.{IsServing, StepsAreSound}
 use Rattle.coord_node.specs.Steps.{CommitAt, HeartbeatAt, IsRequest, Makes, MakesBy, RequestStep, RunBy, Step, all_ticked, has_room, is_success, with_group}
 use Rattle.coord_node.proofs.SoundGroups.{opening_serves}
-use Rattle.replica_snapshots.specs.Groups.{HeldGroup, Named, numbers_of, parts_of}
+use Rattle.coord_node.specs.Nodes.{HeldGroup, Named, NodeValue, state_of}
+use Rattle.replica_snapshots.specs.Groups.{numbers_of, parts_of}
 use Rattle.replica_snapshots.specs.Laws.{RunsWithFewOffsetsArePut, RunsWithFewOffsetsCanBeWritten}
-use Rattle.replica_snapshots.specs.Nodes.{FitsHead, IsOf, NodeValue, OneGroup, head_of, sections_of, state_of}
+use Rattle.replica_snapshots.specs.Nodes.{FitsHead, IsOf, OneGroup, head_of, sections_of}
 use Rattle.replica_snapshots.specs.Parts.{grant_of, member_part}
 use Rattle.replica_snapshots.specs.Puttable.{CanPutMember, CanPutParts, CanPutSection}
 use Rattle.replica_snapshots.specs.Runs.{FitsEvent, HasFewOffsets, HaveNames}

@@ -15,9 +15,10 @@ use Rattle.group_types.specs.Group.{Group, Grants, Records}
 use Rattle.group_types.specs.Sound.{IsSound}
 use Rattle.group_reconcile.specs.Holders.{Holders, pairs}
 use Rattle.group_reconcile.proofs.Pairs.{has-pairs}
+use Rattle.coord_node.specs.Nodes.{HeldGroup, Named, NodeValue}
 use Rattle.replica_snapshots.specs.Parts.{GroupParts, member_part}
-use Rattle.replica_snapshots.specs.Groups.{HeldGroup, parts_of, group_fields, FitsGroup, Named, named_fields, FitsNamed}
-use Rattle.replica_snapshots.specs.Nodes.{VERSION, HeadValue, head_fields, FitsHead, NodeValue, head_of, node_fields, FitsNode}
+use Rattle.replica_snapshots.specs.Groups.{parts_of, group_fields, FitsGroup, named_fields, FitsNamed}
+use Rattle.replica_snapshots.specs.Nodes.{VERSION, HeadValue, head_fields, FitsHead, head_of, node_fields, FitsNode}
 use Rattle.replica_snapshots.proofs.Begins.{Begins, of_field, nothing_begins, pair_begins, made_begins, array_begins, elements_hold}
 use Rattle.replica_snapshots.proofs.FieldLaws.{number_begins, text_begins, topic_begins, parts_begin}
 use Rattle.replica_snapshots.proofs.Told.{HoldersHaveRecords, OwnersHaveRecords, holds_own, same_records, same_holders, same_target}

@@ -9,11 +9,12 @@ use Rattle.group_types.specs.Topics.{Topics}
 use Rattle.group_types.specs.Group.{Group}
 use Rattle.coord_node.specs.declared.restored.NamedGroup.{NamedGroup}
 use Rattle.coord_node.specs.Coordinator.{Coordinator}
-use Rattle.coord_node.specs.Restored.{named_group}
+use Rattle.coord_node.specs.Nodes.{state_of}
+use Rattle.coord_node.specs.Restored.{listed_named}
 use Rattle.replica_snapshots.specs.declared.fault.SnapshotFault.{SnapshotFault}
 use Rattle.replica_snapshots.specs.declared.node.Sections.{Sections}
-use Rattle.replica_snapshots.specs.Nodes.{head_with, state_of, IsOf, Head, OneGroup, sections_of}
-use Rattle.replica_snapshots.specs.Views.{listed_named, listed_node}
+use Rattle.replica_snapshots.specs.Nodes.{head_with, IsOf, Head, OneGroup, sections_of}
+use Rattle.replica_snapshots.specs.Views.{listed_node}
 use Rattle.replica_snapshots.specs.Writing.{PutsUpToWhere, PutsWhere}
 
 states_listed : (list : List NamedGroup) → map state_of (map listed_named list) ≡ map named_group list

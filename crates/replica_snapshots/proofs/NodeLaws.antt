@@ -14,9 +14,10 @@ use Rattle.group_types.proofs.Orders.{text_cmp_total, text_cmp-IsAntisymmetric}
 use Rattle.coord_node.specs.Coordinator.{Coordinator, Groups, opening}
 use Rattle.coord_node.specs.Restored.{CanBeKept, with_group_if}
 use Rattle.coord_node.specs.Steps.{with_group}
-use Rattle.replica_snapshots.specs.Groups.{Named, named_fields, FitsNamed}
+use Rattle.coord_node.specs.Nodes.{Named, NodeValue, state_of, coordinator_of}
+use Rattle.replica_snapshots.specs.Groups.{named_fields, FitsNamed}
 use Rattle.replica_snapshots.specs.Laws.{OneCoordinatorARun}
-use Rattle.replica_snapshots.specs.Nodes.{HeadValue, head_fields, FitsHead, NodeValue, head_of, node_fields, state_of, coordinator_of, IsOf, SpellsNode}
+use Rattle.replica_snapshots.specs.Nodes.{HeadValue, head_fields, FitsHead, head_of, node_fields, IsOf, SpellsNode}
 use Rattle.replica_snapshots.specs.Restoring.{AddsEach, ReadsGroup, ReadsGroups}
 use Rattle.replica_snapshots.proofs.GroupLaws.{node_begins}
 

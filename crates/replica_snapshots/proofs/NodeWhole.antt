@@ -15,12 +15,13 @@ use Rattle.group_types.proofs.Lookups.{text_ties}
 use Rattle.group_types.proofs.Orders.{text_cmp_total, text_cmp-IsAntisymmetric}
 use Rattle.coord_node.specs.Coordinator.{Coordinator, Groups}
 use Rattle.coord_node.specs.Restored.{IsGroupId}
+use Rattle.coord_node.specs.Nodes.{Named, NodeValue, state_of}
 use Rattle.replica_snapshots.specs.declared.fault.SnapshotFault.{SnapshotFault}
 use Rattle.replica_snapshots.specs.declared.fault.SnapshotFault.TheVariants.{Wire, BadValue, Unsound, Respelled, TooLong, NoMemory}
 use Rattle.replica_snapshots.specs.Building.{CanEach}
 use Rattle.replica_snapshots.specs.Faults.{fault_number}
-use Rattle.replica_snapshots.specs.Groups.{Named, named_fields}
-use Rattle.replica_snapshots.specs.Nodes.{NodeValue, head_fields, head_of, state_of, IsOf, SpellsNode}
+use Rattle.replica_snapshots.specs.Groups.{named_fields}
+use Rattle.replica_snapshots.specs.Nodes.{head_fields, head_of, IsOf, SpellsNode}
 use Rattle.replica_snapshots.specs.Restoring.{CanBeNode, CanKeep, keeping}
 use Rattle.replica_snapshots.proofs.Inserted.{KeysApart, none_found, still_none}
 use Rattle.replica_snapshots.proofs.NodeLaws.{bare}

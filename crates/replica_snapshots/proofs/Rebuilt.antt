@@ -26,8 +26,9 @@ use Rattle.group_reconcile.specs.Holders.{Held, Holders, holds, is_from_zero, pa
 use Rattle.group_reconcile.proofs.Pairs.{has-held_pairs}
 use Rattle.group_core.specs.Group.{GroupValue}
 use Rattle.group_core.specs.Restoring.{with_member}
+use Rattle.coord_node.specs.Nodes.{HeldGroup}
 use Rattle.replica_snapshots.specs.Building.{Built, CanEach, with_each, CanAddFormer, with_former, CanAddGrant, with_grant, CanAddMember, with_part}
-use Rattle.replica_snapshots.specs.Groups.{HeldGroup, FitsGroup}
+use Rattle.replica_snapshots.specs.Groups.{FitsGroup}
 use Rattle.replica_snapshots.specs.Parts.{MemberPart, grant_of, grants_of, member_part}
 use Rattle.replica_snapshots.specs.Spelling.{FitsGrant, FitsMember}
 use Rattle.replica_snapshots.proofs.Inserted.{KeysApart, apart_sorted, kept_by}

@@ -6,7 +6,8 @@ use Rattle.std.proofs.lemmas.List.{take_more, get_or-drop}
 use Rattle.std.proofs.lemmas.List.Concat.{flat_map-append}
 use Rattle.std.proofs.lemmas.List.Elements.{All-from_recursion, All-push, All-weaker, recursion_from_All}
 use Rattle.std.proofs.lemmas.Option.{get_or_from_slice_get, slice_get_within, none-some, same_Some}
-use Rattle.replica_snapshots.specs.Groups.{Named, named_fields, FitsNamed}
+use Rattle.coord_node.specs.Nodes.{Named}
+use Rattle.replica_snapshots.specs.Groups.{named_fields, FitsNamed}
 use Rattle.replica_snapshots.specs.Laws.{SectionsMakeTheNode}
 use Rattle.replica_snapshots.specs.Nodes.{head_fields, head_of, Section, OneGroup, section_fields, FitsSection, sections_of, between}
 use Rattle.replica_snapshots.specs.declared.fault.SnapshotFault.{SnapshotFault}

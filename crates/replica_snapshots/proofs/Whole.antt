@@ -22,12 +22,12 @@ use Rattle.group_reconcile.specs.Holders.{Held, Holders, holder_at, pairs}
 use Rattle.range_assign.specs.Shares.{AreShares, spread_of}
 use Rattle.group_core.specs.Group.{GroupValue}
 use Rattle.group_core.specs.Restoring.{CanBeFinished, finished, nothing_restored}
+use Rattle.coord_node.specs.Nodes.{held_of, HeldGroup}
 use Rattle.replica_snapshots.specs.Building.{Built, CanEach, Finishes, with_each, with_former, with_grant, CanAddMember, with_part, with_share, CanAddOffset, with_committed, CanAddLast, with_formers, with_members, with_last, last_fields, FitLast, numbers_in}
 use Rattle.replica_snapshots.specs.declared.fault.SnapshotFault.{SnapshotFault}
 use Rattle.replica_snapshots.specs.declared.fault.SnapshotFault.TheVariants.{NoMemory}
 use Rattle.replica_snapshots.specs.declared.numbers.Numbers.{Numbers}
-use Rattle.replica_snapshots.specs.Views.{held_of}
-use Rattle.replica_snapshots.specs.Groups.{HeldGroup, group_fields, FitsGroup, numbers_of, parts_of}
+use Rattle.replica_snapshots.specs.Groups.{group_fields, FitsGroup, numbers_of, parts_of}
 use Rattle.replica_snapshots.specs.Parts.{MemberPart, member_part}
 use Rattle.replica_snapshots.specs.Spelling.{FitsMember, lists_fields, numbers_fields, parts_fields, topic_fields}
 use Rattle.replica_snapshots.proofs.GroupLaws.{holders_have, owners_have}

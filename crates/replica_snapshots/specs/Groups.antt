@@ -2,17 +2,13 @@
 use Rattle.std.specs.Prelude.{◌≡◌, ℕ, ◌-◌, ◌<◌, List, ◌++◌, map}
 use Rattle.std.specs.FinMap as finite
 use Rattle.flex_wire.specs.Spelling.{compact_string, FitsText}
-use Rattle.group_types.specs.Text.{Text}
 use Rattle.group_types.specs.Group.{Group}
 use Rattle.group_types.specs.Sound.{IsSound}
-use Rattle.group_reconcile.specs.Holders.{Holders, pairs}
+use Rattle.group_reconcile.specs.Holders.{pairs}
+use Rattle.coord_node.specs.Nodes.{HeldGroup, Named}
 use Rattle.replica_snapshots.specs.declared.numbers.Numbers.{Numbers}
 use Rattle.replica_snapshots.specs.Parts.{GroupParts, member_part}
 use Rattle.replica_snapshots.specs.Spelling.{parts_fields, FitsParts}
-
--- a group, and who holds which partition since which target
-abbrev pub HeldGroup : Type 0
-HeldGroup = Group × Holders
 
 -- the numbers of a group: of the ids, how many were made
 abbrev pub numbers_of : Group → Numbers
@@ -48,9 +44,6 @@ pub record FitsGroup (g : HeldGroup) : Type 0 where
   pub parts : FitsParts (parts_of g)
 
 -- A group under its name.
-abbrev pub Named : Type 0
-Named = Text × HeldGroup
-
 abbrev pub named_fields : Named → List ℕ
 named_fields g = compact_string g.0 ++ group_fields g.1
 

@@ -4,8 +4,9 @@ use Rattle.std.specs.List.{flat_map}
 use Rattle.flex_wire.specs.Laws.{BeginsNoOther}
 use Rattle.coord_node.specs.Coordinator.{Answer, Coordinator, Event, opening}
 use Rattle.coord_node.specs.Steps.{Run}
+use Rattle.coord_node.specs.Nodes.{NodeValue}
 use Rattle.replica_snapshots.specs.Groups.{named_fields, FitsNamed}
-use Rattle.replica_snapshots.specs.Nodes.{head_fields, FitsHead, NodeValue, node_fields, FitsNode, SpellsNode, section_fields, FitsSection, IsOf, sections_of}
+use Rattle.replica_snapshots.specs.Nodes.{head_fields, FitsHead, node_fields, FitsNode, SpellsNode, section_fields, FitsSection, IsOf, sections_of}
 use Rattle.replica_snapshots.specs.Places.{place_fields, FitsPlace}
 use Rattle.replica_snapshots.specs.Puttable.{CanPutSection}
 use Rattle.replica_snapshots.specs.Restoring.{CanBeNode}

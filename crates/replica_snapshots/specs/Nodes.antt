@@ -5,12 +5,11 @@ use Rattle.std.specs.FinMap as finite
 use Rattle.flex_wire.specs.Spelling.{int16, array_count, FitsCount}
 use Rattle.flex_wire.specs.Composed.{array, FitsArray}
 use Rattle.kip_msgs.specs.Spelling.{fields}
-use Rattle.group_types.specs.Text.{Text}
 use Rattle.group_types.specs.Topics.{Topics}
-use Rattle.group_types.specs.Group.{Group}
 use Rattle.coord_node.specs.Coordinator.{Coordinator}
+use Rattle.coord_node.specs.Nodes.{Named, NodeValue, coordinator_of}
 use Rattle.replica_snapshots.specs.Spelling.{number64, FitsNumber, topic_fields, FitsTopic}
-use Rattle.replica_snapshots.specs.Groups.{Named, named_fields, FitsNamed}
+use Rattle.replica_snapshots.specs.Groups.{named_fields, FitsNamed}
 
 -- the version in which nodes are spelled
 abbrev pub VERSION : ℤ
@@ -39,12 +38,6 @@ pub record FitsHead (h : HeadValue) : Type 0 where
   pub image : FitsArray FitsTopic (finite.entries h.image)
   pub groups : FitsCount h.groups
 
--- a node: its salt, its image, and its groups in the order of their making
-pub record NodeValue : Type 0 where
-  pub salt : ℕ
-  pub image : Topics
-  pub groups : List Named
-
 abbrev pub head_of : NodeValue → HeadValue
 head_of n = head_with n.salt n.image (length n.groups)
 
@@ -57,14 +50,6 @@ pub record FitsNode (n : NodeValue) : Type 0 where
   pub groups : All FitsNamed n.groups
 
 -- ---- what a node's bytes say of its coordinator
-
--- a group's state under its name
-abbrev pub state_of : Named → Text × Group
-state_of g = (g.0, g.1.0)
-
--- The coordinator that a node is: the order in which its groups were made is forgotten, and since when each partition is granted.
-abbrev pub coordinator_of : NodeValue → Coordinator
-coordinator_of n = record { salt = n.salt; groups = finite.from_entries (map state_of n.groups); image = n.image }
 
 -- A node as a coordinator: no two of its groups have one name.
 pub record IsOf (c : Coordinator) (n : NodeValue) : Type 0 where

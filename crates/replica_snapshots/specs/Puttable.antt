@@ -8,7 +8,8 @@ use Rattle.group_types.specs.Group.{Committed, Past}
 use Rattle.group_types.specs.Text.{Text}
 use Rattle.group_types.specs.Topics.{Topic}
 use Rattle.group_reconcile.specs.Holders.{pairs}
-use Rattle.replica_snapshots.specs.Groups.{Named, parts_of}
+use Rattle.coord_node.specs.Nodes.{Named}
+use Rattle.replica_snapshots.specs.Groups.{parts_of}
 use Rattle.replica_snapshots.specs.Nodes.{FitsHead, Head, OneGroup, Section}
 use Rattle.replica_snapshots.specs.Parts.{GroupParts, MemberPart}
 use Rattle.replica_snapshots.specs.Spelling.{FitsFormer, FitsNumbers, FitsOffset, FitsPartition, FitsPartitions, FitsRecord, FitsTopic}

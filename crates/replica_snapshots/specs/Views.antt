@@ -1,14 +1,13 @@
 -- What is written and read, as values.
 use Rattle.std.specs.Prelude.{ℕ, List, map}
-use Rattle.group_core.specs.Group.{GroupValue}
-use Rattle.coord_node.specs.declared.restored.NamedGroup.{NamedGroup}
+use Rattle.coord_node.specs.Nodes.{Named, NodeValue, held_of}
+use Rattle.coord_node.specs.Restored.{listed_named}
 use Rattle.replica_snapshots.specs.declared.cursor.Cursor.{Cursor}
 use Rattle.replica_snapshots.specs.declared.group.ReadGroup.{ReadGroup}
 use Rattle.replica_snapshots.specs.declared.head.Head.{Head}
 use Rattle.replica_snapshots.specs.declared.node.Sections.{Sections}
 use Rattle.replica_snapshots.specs.declared.place.Place.{Place}
-use Rattle.replica_snapshots.specs.Groups.{HeldGroup, Named}
-use Rattle.replica_snapshots.specs.Nodes.{HeadValue, NodeValue}
+use Rattle.replica_snapshots.specs.Nodes.{HeadValue}
 use Rattle.replica_snapshots.specs.Places.{PlaceValue}
 
 -- the bytes that a cursor hasn't read
@@ -19,10 +18,6 @@ unread c = c.rest.now
 abbrev pub head_value : Head → HeadValue
 head_value h = record { salt = h.salt; image = h.image; groups = h.groups }
 
--- a group with its holders
-abbrev pub held_of : GroupValue → HeldGroup
-held_of g = (g.state, g.holders)
-
 -- a group that was read, under its name
 abbrev pub named_of : ReadGroup → Named
 named_of r = (r.name.now, held_of r.group)
@@ -30,10 +25,6 @@ named_of r = (r.name.now, held_of r.group)
 -- a place in a log
 abbrev pub place_value : Place → PlaceValue
 place_value p = record { applied = p.applied; leadership = p.leadership; moment = p.moment }
-
--- a group that is listed, with its holders, under its name
-abbrev pub listed_named : NamedGroup → Named
-listed_named g = (g.name.now, held_of g.group.now)
 
 -- a node whose groups are listed
 abbrev pub listed_node : Sections → NodeValue

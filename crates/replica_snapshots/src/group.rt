@@ -1,9 +1,10 @@
 //! A group under its name, written and read.
 
 ghost use Rattle.std.specs.Prelude.{◌≡◌, ◌++◌, ℕ, List, IfErr, IfOk};
+ghost use Rattle.coord_node.specs.Nodes.{Named, held_of};
 ghost use Rattle.replica_snapshots.specs.Spelling.{parts_fields, FitsParts};
-ghost use Rattle.replica_snapshots.specs.Groups.{numbers_of, parts_of, group_fields, FitsGroup, Named, named_fields, FitsNamed};
-ghost use Rattle.replica_snapshots.specs.Views.{held_of, named_of};
+ghost use Rattle.replica_snapshots.specs.Groups.{numbers_of, parts_of, group_fields, FitsGroup, named_fields, FitsNamed};
+ghost use Rattle.replica_snapshots.specs.Views.{named_of};
 ghost use Rattle.group_reconcile.specs.Holders.{pairs};
 ghost use Rattle.replica_snapshots.specs.Puttable.{CanPutNamed, CanPutParts};
 ghost use Rattle.replica_snapshots.specs.Writing.{PutsUpToWhere, PutsWhere};

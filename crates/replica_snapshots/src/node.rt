@@ -2,11 +2,11 @@
 
 ghost use Rattle.std.specs.Prelude.{◌≡◌, ◌++◌, ℕ, List, IfErr, IfOk, IfSome, MatchResult, length, slice_get};
 ghost use Rattle.std.specs.List.{AllByRecursion, flat_map};
-ghost use Rattle.coord_node.specs.Coordinator.{Coordinator};
+ghost use Rattle.coord_node.specs.Nodes.{HasEachOnce, Named, NodeValue, with_named};
 ghost use Rattle.replica_snapshots.specs.Building.{CanEach, with_each};
-ghost use Rattle.replica_snapshots.specs.Groups.{FitsNamed, Named, named_fields};
-ghost use Rattle.replica_snapshots.specs.Nodes.{FitsSection, IsOf, SpellsNode, section_fields, sections_of};
-ghost use Rattle.replica_snapshots.specs.Restoring.{CanBeNode, CanKeep, keeping, ReadsGroup, ReadsGroups};
+ghost use Rattle.replica_snapshots.specs.Groups.{FitsNamed, named_fields};
+ghost use Rattle.replica_snapshots.specs.Nodes.{FitsNode, FitsSection, node_fields, section_fields, sections_of};
+ghost use Rattle.replica_snapshots.specs.Restoring.{CanBeRestored, CanKeep, ReadsGroup, ReadsGroups};
 ghost use Rattle.replica_snapshots.specs.Views.{listed_node};
 ghost use Rattle.replica_snapshots.specs.Puttable.{CanPutSection};
 ghost use Rattle.replica_snapshots.specs.Writing.{PutsSections, PutsUpToWhere};
@@ -33,7 +33,8 @@ pub struct Sections<'a> {
 impl<'a> Sections<'a> {
     /// The sections of a node. Fails where memory is short.
     pub fn of(alloc: Global, node: &'a Node) -> Result<Sections<'a>, AllocError>
-        ensures { IfOk result (λ sections. IsOf node.now (listed_node sections)) }
+        ensures node { IfOk result (λ sections. listed_node sections ≡ node.now) }
+        ensures once { HasEachOnce node.now }
     {
         let groups = node.groups()?;
         Ok(Sections {
@@ -90,22 +91,24 @@ impl<'a> Sections<'a> {
 }
 
 /// Reads a node from the front of bytes, and gives the bytes behind it: the one node that they begin with, or a fault. Whatever the bytes
-/// are, the node is sound. A node that was written is never refused but for want of memory.
+/// are, the node is sound, and is written as it was read. A node that was written is never refused but for want of memory.
 pub fn read_node(
     alloc: Global,
     hasher: RandomState,
     bytes: &[u8],
 ) -> Result<(Node, &[u8]), SnapshotFault>
-    ensures found { IfOk result (λ x. (written : List ℕ) × SpellsNode x.0 written × (bytes.now ≡ written ++ x.1.now)) }
-    ensures only { (c : Coordinator) (written rest : List ℕ) → SpellsNode c written → bytes.now ≡ written ++ rest
-        → IfOk result (λ x. (x.0 ≡ c) × (x.1.now ≡ rest)) }
-    ensures whole { (c : Coordinator) (written rest : List ℕ) → SpellsNode c written → CanBeNode c → bytes.now ≡ written ++ rest
+    ensures found { IfOk result (λ x. FitsNode x.0 × HasEachOnce x.0 × (bytes.now ≡ node_fields x.0 ++ x.1.now)) }
+    ensures only { (n : NodeValue) (rest : List ℕ) → FitsNode n → bytes.now ≡ node_fields n ++ rest
+        → IfOk result (λ x. (x.0 ≡ n) × (x.1.now ≡ rest)) }
+    ensures whole { (n : NodeValue) (rest : List ℕ) → CanBeRestored n → bytes.now ≡ node_fields n ++ rest
         → IfErr result (λ fault. fault ≡ NoMemory) }
 {
     let (head, rest) = read_head(alloc, bytes)?;
     let mut node = Node::new(alloc, head.salt, hasher);
     node.set_image(head.image);
     let rest = read_groups(alloc, hasher, &mut node, head.groups, rest, bytes.len())?;
+    // so that its groups are known to have each name once
+    let _ = node.group_count();
     Ok((node, rest))
 }
 
@@ -119,9 +122,9 @@ fn read_groups<'a>(
     size: usize,
 ) -> Result<&'a [u8], SnapshotFault>
     ensures found { IfOk result (λ rest. ReadsGroups count bytes.now rest.now node.old node.new) }
-    ensures whole { (groups : List Named) (rest : List ℕ) → (length groups ≡ count) × AllByRecursion FitsNamed groups → CanEach CanKeep keeping node.old groups
+    ensures whole { (groups : List Named) (rest : List ℕ) → (length groups ≡ count) × AllByRecursion FitsNamed groups → CanEach CanKeep with_named node.old groups
         → bytes.now ≡ flat_map named_fields groups ++ rest
-        → MatchResult result (λ left. (node.new ≡ with_each keeping node.old groups) × (left.now ≡ rest)) (λ fault. fault ≡ NoMemory) }
+        → MatchResult result (λ left. (node.new ≡ with_each with_named node.old groups) × (left.now ≡ rest)) (λ fault. fault ≡ NoMemory) }
 {
     let mut rest = bytes;
     for _ in 0..count {
@@ -142,7 +145,7 @@ fn add_group<'a>(
 ) -> Result<&'a [u8], SnapshotFault>
     ensures found { IfOk result (λ rest. ReadsGroup bytes.now rest.now node.old node.new) }
     ensures whole { (g : Named) (rest : List ℕ) → FitsNamed g → CanKeep node.old g → bytes.now ≡ named_fields g ++ rest
-        → MatchResult result (λ left. (node.new ≡ keeping node.old g) × (left.now ≡ rest)) (λ fault. fault ≡ NoMemory) }
+        → MatchResult result (λ left. (node.new ≡ with_named node.old g) × (left.now ≡ rest)) (λ fault. fault ≡ NoMemory) }
 {
     let (read, rest) = read_group(alloc, hasher, bytes)?;
     if !node.restore_group(read.name, read.group)? {

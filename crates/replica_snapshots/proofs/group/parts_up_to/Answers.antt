@@ -1,8 +1,8 @@
 use Rattle.std.proofs.lemmas.Result.{err_from_is_err_and}
+use Rattle.coord_node.specs.Nodes.{held_of}
 use Rattle.replica_snapshots.specs.Puttable.{CanPutLists}
 use Rattle.replica_snapshots.specs.Spelling.{parts_fields, lists_fields, FitsLists}
 use Rattle.replica_snapshots.specs.Groups.{parts_of}
-use Rattle.replica_snapshots.specs.Views.{held_of}
 use Rattle.replica_snapshots.proofs.Puts.{both, refitted, stopped}
 use Rattle.replica_snapshots.proofs.group.parts_up_to.Goals as goal
 

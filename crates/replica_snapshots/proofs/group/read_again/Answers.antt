@@ -1,8 +1,9 @@
 use Rattle.std.proofs.Common.{◌≡◌, ℕ, List, ◌++◌, ap, sym, subst, ◌∙◌, append_assoc}
 use Rattle.std.proofs.lemmas.Result.{err_from_is_err_and}
 use Rattle.flex_wire.specs.Spelling.{compact_string}
-use Rattle.replica_snapshots.specs.Groups.{Named, FitsNamed, group_fields, named_fields}
-use Rattle.replica_snapshots.specs.Views.{held_of, unread}
+use Rattle.coord_node.specs.Nodes.{Named, held_of}
+use Rattle.replica_snapshots.specs.Groups.{FitsNamed, group_fields, named_fields}
+use Rattle.replica_snapshots.specs.Views.{unread}
 use Rattle.replica_snapshots.proofs.ReadingLaws.{stopped, taken, text_is_read}
 use Rattle.replica_snapshots.proofs.group.read_again.Goals as goal
 

@@ -1,5 +1,5 @@
 use Rattle.std.proofs.lemmas.Result.{err_from_is_err_and}
-use Rattle.replica_snapshots.specs.Views.{held_of}
+use Rattle.coord_node.specs.Nodes.{held_of}
 use Rattle.replica_snapshots.proofs.CanPuts.{named_can}
 use Rattle.replica_snapshots.proofs.group.spelled.Goals as goal
 

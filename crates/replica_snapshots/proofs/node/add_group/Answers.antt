@@ -1,7 +1,7 @@
 use Rattle.std.proofs.Common.{true, ap, sym, subst, ◌∙◌, true≢false}
 use Rattle.std.proofs.lemmas.Result.{err_from_is_err_and}
 use Rattle.coord_node.specs.Restored.{CanBeKept, with_group_if}
-use Rattle.replica_snapshots.specs.Groups.{Named}
+use Rattle.coord_node.specs.Nodes.{Named}
 use Rattle.replica_snapshots.specs.Views.{named_of}
 use Rattle.replica_snapshots.proofs.NodeLaws.{group_read}
 use Rattle.replica_snapshots.proofs.node.add_group.Goals as goal

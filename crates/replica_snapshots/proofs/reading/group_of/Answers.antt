@@ -4,11 +4,12 @@ use Rattle.std.specs.FinMap as finite
 use Rattle.flex_wire.specs.Composed.{array}
 use Rattle.range_assign.specs.Shares.{shares_in}
 use Rattle.group_core.specs.Restoring.{nothing_restored}
+use Rattle.coord_node.specs.Nodes.{HeldGroup, held_of}
 use Rattle.replica_snapshots.specs.declared.numbers.Numbers.{Numbers}
 use Rattle.replica_snapshots.specs.Building.{Built, CanAddLast, last_fields, with_last}
-use Rattle.replica_snapshots.specs.Groups.{HeldGroup, numbers_of, parts_of}
+use Rattle.replica_snapshots.specs.Groups.{numbers_of, parts_of}
 use Rattle.replica_snapshots.specs.Spelling.{topic_fields}
-use Rattle.replica_snapshots.specs.Views.{held_of, unread}
+use Rattle.replica_snapshots.specs.Views.{unread}
 use Rattle.replica_snapshots.specs.declared.fault.SnapshotFault.TheVariants.{NoMemory}
 use Rattle.replica_snapshots.proofs.PartReads.{view_is_read}
 use Rattle.replica_snapshots.proofs.ReadingLaws.{stopped, taken}

@@ -2,8 +2,9 @@ use Rattle.std.proofs.Common.{◌≡◌, ◌+◌, List, None, Some, Ok, length, 
 use Rattle.std.specs.Prelude.{slice_get}
 use Rattle.std.proofs.lemmas.Option.{slice_get_past, slice_get_read}
 use Rattle.coord_node.specs.declared.restored.NamedGroup.{NamedGroup}
+use Rattle.coord_node.specs.Restored.{listed_named}
 use Rattle.replica_snapshots.specs.Nodes.{FitsSection, OneGroup, Section, section_fields, sections_of}
-use Rattle.replica_snapshots.specs.Views.{listed_named, listed_node}
+use Rattle.replica_snapshots.specs.Views.{listed_node}
 use Rattle.replica_snapshots.specs.Puttable.{CanPutSection}
 use Rattle.replica_snapshots.specs.Writing.{PutsUpToWhere}
 use Rattle.replica_snapshots.proofs.Listed.{group_behind, known_none, known_some, none_behind, up_to}
