@@ -16,8 +16,8 @@ use Rattle.replica_snapshots.specs.Runs.{HasFewOffsets}
 use Rattle.replica_snapshots.specs.Spelling.{FitsNumber}
 use Rattle.replica_snapshots.specs.declared.fault.SnapshotFault.{SnapshotFault}
 use Rattle.replica_snapshots.specs.declared.fault.SnapshotFault.TheVariants.{NoMemory}
-use Rattle.coord_replica.specs.Replicas.{LogState, ReplicaState, log_opening}
-use Rattle.coord_replica.specs.Snapshots.{IsSnapshotOf, PutsPart, SnapshotValue, SpellsLog, part, sections_in}
+use Rattle.coord_replica.specs.Replicas.{LogState, ReplicaState, ReplicaValue, log_opening}
+use Rattle.coord_replica.specs.Snapshots.{IsSnapshotOf, PutsPart, SnapshotValue, SpellsLog, part, restored, sections_in, snapshot_fields, snapshot_of}
 
 -- what the coordinator's run says of the entries that were applied
 pub record IsRunOf (salt : ℕ) (entries : List EntryValue) (answers : List (Option Answer)) (s : LogState) : Type 0 where
@@ -127,3 +127,12 @@ abbrev pub PartsFollow : Type 0
 PartsFollow =
     (v : SnapshotValue) (from middle next : ℕ) → from < middle → middle ≤ next → next ≤ sections_in v
     → part v from middle ++ part v middle next ≡ part v from next
+
+-- all parts of a snapshot are the snapshot, and no more
+abbrev pub AllPartsAreTheSnapshot : Type 0
+AllPartsAreTheSnapshot = (v : SnapshotValue) → part v 0 (sections_in v) ≡ snapshot_fields v
+
+-- .. so a replica that was restored of a snapshot is written as the bytes that it was read of
+abbrev pub RestoredIsWrittenTheSame : Type 0
+RestoredIsWrittenTheSame =
+    (v : SnapshotValue) (r : ReplicaValue) → r ≡ restored v → part (snapshot_of r) 0 (sections_in (snapshot_of r)) ≡ snapshot_fields v

@@ -1,12 +1,15 @@
--- A replica's fields as its state.
+-- A replica's fields as its value.
 use Rattle.std.specs.Prelude.{◌<◌, ◌^◌}
 use Rattle.coord_replica.specs.declared.replica.Replica.TheInside.{Inside}
-use Rattle.coord_replica.specs.Replicas.{ReplicaState}
+use Rattle.coord_replica.specs.Replicas.{ReplicaValue}
 
-abbrev pub replica_view : Inside → ReplicaState
+abbrev pub replica_view : Inside → ReplicaValue
 replica_view r =
     record {
-      log = record { coordinator = r.node; applied = r.applied; leadership = r.leadership; moment = r.moment };
+      node = r.node;
+      applied = r.applied;
+      leadership = r.leadership;
+      moment = r.moment;
       leading = r.leading;
       proposed = r.proposed;
     }

@@ -1,42 +1,70 @@
 -- A replica's snapshot: the place in the log, and the node (ours).
-use Rattle.std.specs.Prelude.{◌≡◌, ℕ, suc, ◌==◌, ◌<◌, ◌≤◌, ◌-◌, List, [], ◌++◌, length, All, Result, OnOk, OnErr, IfOk, IfErr, if◌then◌else◌}
+use Rattle.std.specs.Prelude.{◌≡◌, ℕ, suc, ◌==◌, ◌<◌, ◌≤◌, ◌-◌, None, List, [], ◌++◌, length, All, Result, OnOk, OnErr, IfOk, IfErr, if◌then◌else◌}
 use Rattle.std.specs.List.{flat_map}
-use Rattle.coord_node.specs.Nodes.{NodeValue}
+use Rattle.coord_node.specs.Nodes.{HasEachOnce, NodeValue}
 use Rattle.replica_snapshots.specs.declared.fault.SnapshotFault.{SnapshotFault}
 use Rattle.replica_snapshots.specs.declared.fault.SnapshotFault.TheVariants.{NoMemory}
-use Rattle.replica_snapshots.specs.Nodes.{IsOf, SpellsNode, section_fields, FitsSection, sections_of, between}
+use Rattle.replica_snapshots.specs.Nodes.{IsOf, node_fields, FitsNode, section_fields, FitsSection, sections_of, between}
 use Rattle.replica_snapshots.specs.Places.{PlaceValue, place_fields, FitsPlace}
 use Rattle.replica_snapshots.specs.Puttable.{CanPutSection}
 use Rattle.replica_snapshots.specs.Views.{listed_node, place_value}
 use Rattle.coord_replica.specs.declared.snapshot.Snapshot.{Snapshot}
-use Rattle.coord_replica.specs.Replicas.{LogState}
+use Rattle.coord_replica.specs.Replicas.{LogState, ReplicaValue, log_of}
 
 -- the place to which a log has come
 abbrev pub place_of : LogState → PlaceValue
 place_of s = record { applied = s.applied; leadership = s.leadership; moment = s.moment }
 
--- Bytes that spell what a beginning of the log comes to: its place, and a node of its coordinator.
-pub record SpellsLog (s : LogState) (bytes : List ℕ) : Type 0 where
-  pub written : List ℕ
-  pub place : FitsPlace (place_of s)
-  pub spelled : bytes ≡ place_fields (place_of s) ++ written
-  pub node : SpellsNode s.coordinator written
-
--- ---- written section by section
-
--- a place, and a node whose groups are listed
+-- a place, and a node
 pub record SnapshotValue : Type 0 where
   pub place : PlaceValue
   pub node : NodeValue
 
--- a snapshot as it is kept while it is written
-abbrev pub snapshot_value : Snapshot → SnapshotValue
-snapshot_value s = record { place = place_value s.place; node = listed_node s.sections }
+-- A snapshot: the place, and the node.
+abbrev pub snapshot_fields : SnapshotValue → List ℕ
+snapshot_fields v = place_fields v.place ++ node_fields v.node
+
+-- A snapshot that has a spelling; no two groups have one name.
+pub record FitsSnapshot (v : SnapshotValue) : Type 0 where
+  pub place : FitsPlace v.place
+  pub node : FitsNode v.node
+  pub once : HasEachOnce v.node
+
+-- the snapshot of a replica
+abbrev pub snapshot_of : ReplicaValue → SnapshotValue
+snapshot_of r = record { place = place_of (log_of r); node = r.node }
+
+-- the replica that is restored of a snapshot: it doesn't lead
+abbrev pub restored : SnapshotValue → ReplicaValue
+restored v =
+    record {
+      node = v.node;
+      applied = v.place.applied;
+      leadership = v.place.leadership;
+      moment = v.place.moment;
+      leading = None;
+      proposed = 0;
+    }
+
+-- ---- what a snapshot says of the log
 
 -- It is that of what a beginning of the log comes to.
 pub record IsSnapshotOf (s : LogState) (v : SnapshotValue) : Type 0 where
   pub place : v.place ≡ place_of s
   pub node : IsOf s.coordinator v.node
+
+-- Bytes that spell what a beginning of the log comes to.
+pub record SpellsLog (s : LogState) (bytes : List ℕ) : Type 0 where
+  pub snapshot : SnapshotValue
+  pub fits : FitsSnapshot snapshot
+  pub spelled : bytes ≡ snapshot_fields snapshot
+  pub of : IsSnapshotOf s snapshot
+
+-- ---- written section by section
+
+-- a snapshot as it is kept while it is written
+abbrev pub snapshot_value : Snapshot → SnapshotValue
+snapshot_value s = record { place = place_value s.place; node = listed_node s.sections }
 
 -- what stands in front of a section: the place before the first
 abbrev pub in_front : PlaceValue → ℕ → List ℕ

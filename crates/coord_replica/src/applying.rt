@@ -7,6 +7,7 @@ ghost use Rattle.replica_entries.specs.Views.{entry_value, frame_value};
 ghost use Rattle.coord_replica.specs.declared.fault.ReplicaFault.TheVariants.{NoMemory};
 ghost use Rattle.coord_replica.specs.Applying.{AppliesBytes, AppliesEntry, AppliesQuietly, checked, refusal_at, refusal_of};
 ghost use Rattle.coord_replica.specs.Entries.{stamp_under};
+ghost use Rattle.coord_replica.specs.Replicas.{log_of, replica_state};
 
 use crate::applied::Applied;
 use crate::fault::ReplicaFault;
@@ -28,10 +29,10 @@ impl Replica {
         bytes: &[u8],
         out: &mut Vec<u8>,
     ) -> Result<Applied, ReplicaFault>
-        ensures applied { IfOk result (λ what. AppliesBytes self.old bytes.now what self.new out.old.items out.new.items) }
-        ensures taken { OnOk result (refusal_at self.old.log place bytes.now ≡ None) }
-        ensures refused { IfErr result (λ fault. (fault ≡ NoMemory) ⊎ (refusal_at self.old.log place bytes.now ≡ Some fault)) }
-        ensures out_of_place { place ≢ self.old.log.applied + 1 → result ≡ Err ReplicaFault.OutOfPlace }
+        ensures applied { IfOk result (λ what. AppliesBytes (replica_state self.old) bytes.now what (replica_state self.new) out.old.items out.new.items) }
+        ensures taken { OnOk result (refusal_at (log_of self.old) place bytes.now ≡ None) }
+        ensures refused { IfErr result (λ fault. (fault ≡ NoMemory) ⊎ (refusal_at (log_of self.old) place bytes.now ≡ Some fault)) }
+        ensures out_of_place { place ≢ self.old.applied + 1 → result ≡ Err ReplicaFault.OutOfPlace }
         ensures err { OnErr result ((self.new ≡ self.old) × (out.new.items ≡ out.old.items)) }
     {
         if place == 0 || place - 1 != self.applied {
@@ -43,10 +44,10 @@ impl Replica {
 
     /// The same for an entry that was read.
     fn apply_entry(&mut self, entry: Entry<'_>, out: &mut Vec<u8>) -> Result<Applied, ReplicaFault>
-        requires room { self.old.log.applied + 1 < 2 ^ 64 }
+        requires room { self.old.applied + 1 < 2 ^ 64 }
         requires fits { FitsEntry (entry_value entry) }
-        ensures applied { IfOk result (λ what. AppliesEntry self.old (entry_value entry.entry) what self.new out.old.items out.new.items) }
-        ensures refused { IfErr result (λ fault. (fault ≡ NoMemory) ⊎ (refusal_of self.old.log (entry_value entry.entry) ≡ Some fault)) }
+        ensures applied { IfOk result (λ what. AppliesEntry (replica_state self.old) (entry_value entry.entry) what (replica_state self.new) out.old.items out.new.items) }
+        ensures refused { IfErr result (λ fault. (fault ≡ NoMemory) ⊎ (refusal_of (log_of self.old) (entry_value entry.entry) ≡ Some fault)) }
         ensures err { OnErr result ((self.new ≡ self.old) × (out.new.items ≡ out.old.items)) }
     {
         let Entry {
@@ -68,12 +69,12 @@ impl Replica {
         frame: LoggedFrame<'_>,
         out: &mut Vec<u8>,
     ) -> Result<Applied, ReplicaFault>
-        requires room { self.old.log.applied + 1 < 2 ^ 64 }
+        requires room { self.old.applied + 1 < 2 ^ 64 }
         requires fits { FitsEntry (record { leadership = leadership; content = frame_content (frame_value frame) }) }
-        ensures applied { IfOk result (λ what. AppliesEntry self.old (record { leadership = leadership; content = frame_content (frame_value frame.entry) })
-            what self.new out.old.items out.new.items) }
+        ensures applied { IfOk result (λ what. AppliesEntry (replica_state self.old) (record { leadership = leadership; content = frame_content (frame_value frame.entry) })
+            what (replica_state self.new) out.old.items out.new.items) }
         ensures refused { IfErr result (λ fault. (fault ≡ NoMemory)
-            ⊎ (refusal_of self.old.log (record { leadership = leadership; content = frame_content (frame_value frame.entry) }) ≡ Some fault)) }
+            ⊎ (refusal_of (log_of self.old) (record { leadership = leadership; content = frame_content (frame_value frame.entry) }) ≡ Some fault)) }
         ensures err { OnErr result ((self.new ≡ self.old) × (out.new.items ≡ out.old.items)) }
     {
         self.check(leadership, frame.moment)?;
@@ -91,10 +92,10 @@ impl Replica {
 
     /// The coordinator meets a moment.
     fn apply_tick(&mut self, leadership: u32, moment: Moment) -> Result<Applied, ReplicaFault>
-        requires room { self.old.log.applied + 1 < 2 ^ 64 }
+        requires room { self.old.applied + 1 < 2 ^ 64 }
         requires fits { moment < 2 ^ 63 }
-        ensures applied { IfOk result (λ what. AppliesQuietly self.old (record { leadership = leadership; content = tick moment }) what self.new) }
-        ensures refused { IfErr result (λ fault. refusal_of self.old.log (record { leadership = leadership; content = tick moment }) ≡ Some fault) }
+        ensures applied { IfOk result (λ what. AppliesQuietly (replica_state self.old) (record { leadership = leadership; content = tick moment }) what (replica_state self.new)) }
+        ensures refused { IfErr result (λ fault. refusal_of (log_of self.old) (record { leadership = leadership; content = tick moment }) ≡ Some fault) }
         ensures err { OnErr result (self.new ≡ self.old) }
     {
         self.check(leadership, moment)?;
@@ -110,11 +111,11 @@ impl Replica {
         leadership: u32,
         topics: Vec<TopicEntry>,
     ) -> Result<Applied, ReplicaFault>
-        requires room { self.old.log.applied + 1 < 2 ^ 64 }
-        ensures applied { IfOk result (λ what. AppliesQuietly self.old (record { leadership = leadership; content = image (entries_of topics.items) })
-            what self.new) }
+        requires room { self.old.applied + 1 < 2 ^ 64 }
+        ensures applied { IfOk result (λ what. AppliesQuietly (replica_state self.old) (record { leadership = leadership; content = image (entries_of topics.items) })
+            what (replica_state self.new)) }
         ensures refused { IfErr result (λ fault. (fault ≡ NoMemory)
-            ⊎ (refusal_of self.old.log (record { leadership = leadership; content = image (entries_of topics.items) }) ≡ Some fault)) }
+            ⊎ (refusal_of (log_of self.old) (record { leadership = leadership; content = image (entries_of topics.items) }) ≡ Some fault)) }
         ensures err { OnErr result (self.new ≡ self.old) }
     {
         self.check(leadership, self.moment)?;
@@ -126,10 +127,10 @@ impl Replica {
 
     /// A leadership begins, and ends this replica's own.
     fn apply_leads(&mut self, leadership: u32) -> Result<Applied, ReplicaFault>
-        requires room { self.old.log.applied + 1 < 2 ^ 64 }
+        requires room { self.old.applied + 1 < 2 ^ 64 }
         requires fits { leadership < 2 ^ 31 }
-        ensures applied { IfOk result (λ what. AppliesQuietly self.old (record { leadership = leadership; content = leads }) what self.new) }
-        ensures refused { IfErr result (λ fault. refusal_of self.old.log (record { leadership = leadership; content = leads }) ≡ Some fault) }
+        ensures applied { IfOk result (λ what. AppliesQuietly (replica_state self.old) (record { leadership = leadership; content = leads }) what (replica_state self.new)) }
+        ensures refused { IfErr result (λ fault. refusal_of (log_of self.old) (record { leadership = leadership; content = leads }) ≡ Some fault) }
         ensures err { OnErr result (self.new ≡ self.old) }
     {
         if leadership != self.leadership + 1 {
@@ -144,7 +145,7 @@ impl Replica {
 
     /// Whether an entry is of the present leadership, and not before the log's moment.
     fn check(&self, leadership: u32, moment: Moment) -> Result<(), ReplicaFault>
-        ensures { result ≡ checked self.now.log leadership moment }
+        ensures { result ≡ checked (log_of self.now) leadership moment }
     {
         if leadership != self.leadership {
             return Err(ReplicaFault::OtherLeadership);

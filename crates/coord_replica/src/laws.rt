@@ -1,6 +1,6 @@
 //! Laws of logs and replicas, proved where nothing runs.
-ghost use Rattle.coord_replica.specs.Laws.{AnswersAreTheLogs, LogsCanBeRestored, LogsNeverFall, LogsWithFewOffsetsCanBeWritten, OneAnswerAPlace, OneStateAPlace, ProposalsAreTaken};
-ghost use Rattle.coord_replica.specs.Laws.{OneStateASnapshot, PartsFollow, ReplicasAreRuns, ReplicasFollowTheLog, SameEntriesSameReplica, SectionsMakeASnapshot, StampsRise};
+ghost use Rattle.coord_replica.specs.Laws.{AllPartsAreTheSnapshot, AnswersAreTheLogs, LogsCanBeRestored, LogsNeverFall, LogsWithFewOffsetsCanBeWritten, OneAnswerAPlace, OneStateAPlace, OneStateASnapshot};
+ghost use Rattle.coord_replica.specs.Laws.{PartsFollow, ProposalsAreTaken, ReplicasAreRuns, ReplicasFollowTheLog, RestoredIsWrittenTheSame, SameEntriesSameReplica, SectionsMakeASnapshot, StampsRise};
 
 use coord_node::one_answer;
 use replica_snapshots::runs_with_few_offsets_can_be_written;
@@ -85,4 +85,14 @@ pub fn sections_make_a_snapshot()
 /// One part of a snapshot behind another is a part.
 pub fn parts_follow()
     ensures { PartsFollow }
+{}
+
+/// All parts of a snapshot, one behind the other, are the snapshot, and no more.
+pub fn all_parts_are_the_snapshot()
+    ensures { AllPartsAreTheSnapshot }
+{}
+
+/// A replica that was restored of a snapshot is written as the bytes that it was read of.
+pub fn restored_is_written_the_same()
+    ensures { RestoredIsWrittenTheSame }
 {}

@@ -9,6 +9,7 @@ ghost use Rattle.coord_replica.specs.declared.fault.ReplicaFault.TheVariants.{No
 ghost use Rattle.coord_replica.specs.Entries.{stamp_under};
 ghost use Rattle.coord_replica.specs.Faults.{fault_of_topics};
 ghost use Rattle.coord_replica.specs.Proposing.{IsAboveEarlier, IsInTime, IsUnproposed, IsUnwritten, ProposesBytes, begun, frame_proposed, moment_proposed, next_leadership, under_present};
+ghost use Rattle.coord_replica.specs.Replicas.{replica_state};
 
 use crate::fault::ReplicaFault;
 use crate::leading::Leading;
@@ -24,10 +25,10 @@ const GREATEST_MOMENT: u64 = 0x7fff_ffff_ffff_ffff;
 impl Replica {
     /// Appends the entry by which the next leadership begins. Refused where there is no greater number for it.
     pub fn lead(&self, out: &mut Vec<u8>) -> Result<(), ReplicaFault>
-        ensures proposed { OnOk result (out.new.items ≡ out.old.items ++ entry_fields (next_leadership self.now)) }
-        ensures fits { OnOk result (FitsEntry (next_leadership self.now)) }
-        ensures fault { IfErr result (IsUnwritten (next_leadership self.now)) }
-        ensures fitting { self.now.log.leadership + 1 < 2 ^ 31 → IfErr result (λ fault. fault ≡ NoMemory) }
+        ensures proposed { OnOk result (out.new.items ≡ out.old.items ++ entry_fields (next_leadership (replica_state self.now))) }
+        ensures fits { OnOk result (FitsEntry (next_leadership (replica_state self.now))) }
+        ensures fault { IfErr result (IsUnwritten (next_leadership (replica_state self.now))) }
+        ensures fitting { self.now.leadership + 1 < 2 ^ 31 → IfErr result (λ fault. fault ≡ NoMemory) }
         ensures err { OnErr result (out.new.items ≡ out.old.items) }
     {
         put(out, self.leadership + 1, Content::Leads)
@@ -35,7 +36,8 @@ impl Replica {
 
     /// Leads under the present leadership from here on. The clock is this machine's, in milliseconds.
     pub fn begin(&mut self, clock: u64)
-        ensures { self.new ≡ begun self.old clock }
+        ensures state { replica_state self.new ≡ begun (replica_state self.old) clock }
+        ensures node { self.new.node ≡ self.old.node }
     {
         self.leading = Some(Leading {
             clock,
@@ -53,13 +55,14 @@ impl Replica {
         clock: u64,
         out: &mut Vec<u8>,
     ) -> Result<(), ReplicaFault>
-        ensures proposed { OnOk result (ProposesBytes self.old (frame_proposed self.old clock connection number body.now) self.new
+        ensures proposed { OnOk result (ProposesBytes (replica_state self.old) (frame_proposed (replica_state self.old) clock connection number body.now) (replica_state self.new)
             out.old.items out.new.items) }
         // Whatever the clock says.
-        ensures in_time { IsInTime self.old (moment_proposed self.old clock) }
-        ensures above { IsAboveEarlier self.old.log.leadership (stamp_under self.old.log.leadership connection number) }
-        ensures fault { IfErr result (IsUnproposed self.old (under_present self.old (frame_proposed self.old clock connection number body.now))) }
+        ensures in_time { IsInTime (replica_state self.old) (moment_proposed (replica_state self.old) clock) }
+        ensures above { IsAboveEarlier self.old.leadership (stamp_under self.old.leadership connection number) }
+        ensures fault { IfErr result (IsUnproposed (replica_state self.old) (under_present (replica_state self.old) (frame_proposed (replica_state self.old) clock connection number body.now))) }
         ensures fits { IsSome self.old.leading → connection < 2 ^ 31 → number < 2 ^ 63 → IsBody body.now → IfErr result (λ fault. fault ≡ NoMemory) }
+        ensures node { self.new.node ≡ self.old.node }
         ensures err { OnErr result ((self.new ≡ self.old) × (out.new.items ≡ out.old.items)) }
     {
         let moment = self.moment_of_proposal(clock)?;
@@ -76,10 +79,11 @@ impl Replica {
 
     /// Appends the entry of a tick.
     pub fn propose_tick(&mut self, clock: u64, out: &mut Vec<u8>) -> Result<(), ReplicaFault>
-        ensures proposed { OnOk result (ProposesBytes self.old (tick (moment_proposed self.old clock)) self.new out.old.items out.new.items) }
-        ensures in_time { IsInTime self.old (moment_proposed self.old clock) }
-        ensures fault { IfErr result (IsUnproposed self.old (under_present self.old (tick (moment_proposed self.old clock)))) }
+        ensures proposed { OnOk result (ProposesBytes (replica_state self.old) (tick (moment_proposed (replica_state self.old) clock)) (replica_state self.new) out.old.items out.new.items) }
+        ensures in_time { IsInTime (replica_state self.old) (moment_proposed (replica_state self.old) clock) }
+        ensures fault { IfErr result (IsUnproposed (replica_state self.old) (under_present (replica_state self.old) (tick (moment_proposed (replica_state self.old) clock)))) }
         ensures fits { IsSome self.old.leading → IfErr result (λ fault. fault ≡ NoMemory) }
+        ensures node { self.new.node ≡ self.old.node }
         ensures err { OnErr result ((self.new ≡ self.old) × (out.new.items ≡ out.old.items)) }
     {
         let moment = self.moment_of_proposal(clock)?;
@@ -94,8 +98,9 @@ impl Replica {
         topics: Vec<TopicEntry>,
         out: &mut Vec<u8>,
     ) -> Result<(), ReplicaFault>
-        ensures proposed { OnOk result (ProposesBytes self.old (image (entries_of topics.items)) self.new out.old.items out.new.items) }
-        ensures fault { IfErr result (IsUnproposed self.old (under_present self.old (image (entries_of topics.items)))) }
+        ensures proposed { OnOk result (ProposesBytes (replica_state self.old) (image (entries_of topics.items)) (replica_state self.new) out.old.items out.new.items) }
+        ensures fault { IfErr result (IsUnproposed (replica_state self.old) (under_present (replica_state self.old) (image (entries_of topics.items)))) }
+        ensures node { self.new.node ≡ self.old.node }
         ensures err { OnErr result ((self.new ≡ self.old) × (out.new.items ≡ out.old.items)) }
     {
         if self.leading.is_none() {
@@ -106,7 +111,7 @@ impl Replica {
 
     /// The moment of the next proposal: this leader's time by its clock, but not before the log's nor an earlier proposal's.
     fn moment_of_proposal(&self, clock: u64) -> Result<Moment, ReplicaFault>
-        ensures { MatchResult result (λ moment. (moment ≡ moment_proposed self.now clock) × IsSome self.now.leading × (moment < 2 ^ 63))
+        ensures { MatchResult result (λ moment. (moment ≡ moment_proposed (replica_state self.now) clock) × IsSome self.now.leading × (moment < 2 ^ 63))
             (λ fault. (fault ≡ ReplicaFault.NotLeading) × (self.now.leading ≡ None)) }
     {
         let Some(began) = self.leading else {

@@ -1,6 +1,6 @@
 //! The replica and what can be read of it.
 ghost use Rattle.std.specs.Prelude.{◌≡◌};
-ghost use Rattle.coord_replica.specs.Replicas.{replica_opening};
+ghost use Rattle.coord_replica.specs.Replicas.{value_opening};
 
 use crate::leading::Leading;
 use coord_node::{Moment, Node};
@@ -40,10 +40,10 @@ impl Drop for Replica {
 }
 
 impl Model for Replica {
-    ghost use Rattle.coord_replica.specs.Replicas.{ReplicaState};
+    ghost use Rattle.coord_replica.specs.Replicas.{ReplicaValue};
     ghost use Rattle.coord_replica.specs.Stored.{replica_code};
 
-    ghost Value = { ReplicaState };
+    ghost Value = { ReplicaValue };
 
     ghost coded = { replica_code };
 
@@ -58,7 +58,7 @@ impl Replica {
     /// A replica that has applied no entry. All replicas of a log have one salt, the first half of the ids that they make. Takes no
     /// memory.
     pub fn new(alloc: Global, salt: u64, hasher: RandomState) -> Replica
-        ensures { result ≡ replica_opening salt }
+        ensures { result ≡ value_opening salt }
     {
         Replica {
             alloc,
@@ -73,28 +73,28 @@ impl Replica {
 
     /// How many entries of the log were applied: the place of the last one.
     pub fn place(&self) -> u64
-        ensures { result ≡ self.now.log.applied }
+        ensures { result ≡ self.now.applied }
     {
         self.applied
     }
 
     /// The number of the last leadership that began, 0 before the first.
     pub fn leadership(&self) -> u32
-        ensures { result ≡ self.now.log.leadership }
+        ensures { result ≡ self.now.leadership }
     {
         self.leadership
     }
 
     /// The greatest moment of an entry that was applied.
     pub fn moment(&self) -> Moment
-        ensures { result ≡ self.now.log.moment }
+        ensures { result ≡ self.now.moment }
     {
         self.moment
     }
 
     /// The coordinator.
     pub fn node(&self) -> &Node
-        ensures { result.now ≡ self.now.log.coordinator }
+        ensures { result.now ≡ self.now.node }
     {
         &self.node
     }

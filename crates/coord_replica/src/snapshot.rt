@@ -1,15 +1,14 @@
 //! A replica's snapshot, written part by part, and the replica that is restored of one.
 
 ghost use Rattle.std.specs.Prelude.{◌≡◌, ℕ, IfErr, IfOk};
-ghost use Rattle.coord_node.specs.Coordinator.{Coordinator};
-ghost use Rattle.replica_snapshots.specs.Nodes.{SpellsNode};
+ghost use Rattle.coord_node.specs.Nodes.{HasEachOnce, NodeValue, coordinator_of};
+ghost use Rattle.replica_snapshots.specs.Nodes.{FitsNode, node_fields};
 ghost use Rattle.replica_snapshots.specs.Places.{FitsPlace};
-ghost use Rattle.replica_snapshots.specs.Restoring.{CanBeNode};
+ghost use Rattle.replica_snapshots.specs.Restoring.{CanBeNode, CanBeRestored};
 ghost use Rattle.replica_snapshots.specs.Views.{place_value};
 ghost use Rattle.replica_snapshots.specs.Writing.{Puts};
 ghost use Rattle.replica_snapshots.specs.declared.fault.SnapshotFault.TheVariants.{NoMemory};
-ghost use Rattle.coord_replica.specs.Replicas.{LogState, following};
-ghost use Rattle.coord_replica.specs.Snapshots.{IsSnapshotOf, PutsPart, SpellsLog, in_front, place_of, sections_in, snapshot_value};
+ghost use Rattle.coord_replica.specs.Snapshots.{FitsSnapshot, PutsPart, SnapshotValue, in_front, restored, sections_in, snapshot_fields, snapshot_of, snapshot_value};
 
 use crate::replica::Replica;
 use coord_node::Moment;
@@ -67,7 +66,8 @@ impl Snapshot<'_> {
 impl Replica {
     /// The snapshot of what was applied. Fails where memory is short.
     pub fn snapshot(&self) -> Result<Snapshot<'_>, AllocError>
-        ensures { IfOk result (λ snapshot. IsSnapshotOf self.now.log (snapshot_value snapshot)) }
+        ensures snapshot { IfOk result (λ snapshot. snapshot_value snapshot ≡ snapshot_of self.now) }
+        ensures once { HasEachOnce self.now.node }
     {
         let place = Place {
             applied: self.applied,
@@ -79,15 +79,17 @@ impl Replica {
     }
 
     /// A replica restored of a snapshot's bytes: it has applied just what the one had that it was written of, and doesn't lead. Whatever the
-    /// bytes are, it is sound, or there is a fault. A snapshot that was written is never refused but for want of memory.
+    /// bytes are, it is sound, or there is a fault; and its own snapshot has the same bytes. A snapshot that was written is never refused but
+    /// for want of memory.
     pub fn restore(
         alloc: Global,
         hasher: RandomState,
         bytes: &[u8],
     ) -> Result<Replica, SnapshotFault>
-        ensures found { IfOk result (λ replica. SpellsLog replica.log bytes.now × (replica ≡ following replica.log)) }
-        ensures only { (s : LogState) → SpellsLog s bytes.now → IfOk result (λ replica. replica ≡ following s) }
-        ensures whole { (s : LogState) → SpellsLog s bytes.now → CanBeNode s.coordinator → IfErr result (λ fault. fault ≡ NoMemory) }
+        ensures found { IfOk result (λ replica. (v : SnapshotValue) × FitsSnapshot v × (bytes.now ≡ snapshot_fields v) × (replica ≡ restored v)) }
+        ensures only { (v : SnapshotValue) → FitsSnapshot v → bytes.now ≡ snapshot_fields v → IfOk result (λ replica. replica ≡ restored v) }
+        ensures whole { (v : SnapshotValue) → FitsSnapshot v → CanBeNode (coordinator_of v.node) → bytes.now ≡ snapshot_fields v
+            → IfErr result (λ fault. fault ≡ NoMemory) }
     {
         match read_place(alloc, bytes) {
             Ok((place, written)) => match Replica::at_place(alloc, hasher, place, written) {
@@ -106,9 +108,9 @@ impl Replica {
         written: &[u8],
     ) -> Result<Replica, SnapshotFault>
         requires { FitsPlace (place_value place) }
-        ensures found { IfOk result (λ replica. (place_of replica.log ≡ place_value place)
-            × SpellsNode replica.log.coordinator written.now × (replica ≡ following replica.log)) }
-        ensures whole { (c : Coordinator) → SpellsNode c written.now → CanBeNode c → IfErr result (λ fault. fault ≡ NoMemory) }
+        ensures found { IfOk result (λ replica. (n : NodeValue) × FitsNode n × HasEachOnce n × (written.now ≡ node_fields n)
+            × (replica ≡ restored (record { place = place_value place; node = n }))) }
+        ensures whole { (n : NodeValue) → CanBeRestored n → written.now ≡ node_fields n → IfErr result (λ fault. fault ≡ NoMemory) }
     {
         let (node, rest) = read_node(alloc, hasher, written)?;
         if !rest.is_empty() {
