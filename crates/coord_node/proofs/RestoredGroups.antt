@@ -1,11 +1,8 @@
 -- A group that was restored, among those of a node.
-use Rattle.std.proofs.Common.{◌≡◌, ℕ, zero, suc, ◌+◌, ◌≤◌, Bool, true, false, not, List, [], ◌∷◌, ◌++◌, length, map, take, option_map, Option, Some, None, is_some, Result, Ok, Err, IfOk, OnErr, String, Global, refl, sym, ap, subst, ◌∙◌, arith, true≢false}
+use Rattle.std.proofs.Common.{◌≡◌, ℕ, zero, suc, ◌+◌, Bool, true, false, not, List, [], ◌∷◌, ◌++◌, map, take, option_map, Option, Some, None, is_some, Result, Ok, Err, IfOk, OnErr, String, Global, refl, sym, ap, subst, ◌∙◌, arith, true≢false}
 use Rattle.std.specs.Prelude.{◌↔◌, IsTrue, slice_get}
 use Rattle.std.specs.FinMap as finite
-use Rattle.std.specs.List.{IsDistinct}
-use Rattle.std.specs.Map.{keys_of}
-use Rattle.std.specs.String.{string_eq}
-use Rattle.std.proofs.lemmas.List.{length-map, map-append, take_all}
+use Rattle.std.proofs.lemmas.List.{map-append}
 use Rattle.group_types.proofs.Lookups.{not_none, some_is}
 use Rattle.group_types.specs.Text.{Text}
 use Rattle.coord_node.specs.declared.kept.Kept.{Kept}

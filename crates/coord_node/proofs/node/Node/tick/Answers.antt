@@ -1,6 +1,5 @@
-use Rattle.std.proofs.Common.{◌≡◌, ap, ◌∙◌}
+use Rattle.std.proofs.Common.{ap, ◌∙◌}
 use Rattle.coord_node.specs.Coordinator.{Coordinator, Done}
-use Rattle.coord_node.specs.Nodes.{coordinator_of}
 use Rattle.coord_node.specs.Steps.{all_ticked, removed_from_all}
 use Rattle.coord_node.proofs.ViewLemmas.{coordinator-is, groups-in}
 use Rattle.coord_node.proofs.node.Node.tick.Goals as goal
