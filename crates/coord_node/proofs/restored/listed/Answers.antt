@@ -14,3 +14,6 @@ loop-place-preserved c =
 
 pub returns-clause-once : goal.returns-clause-once
 returns-clause-once c = sym (len-as_map group_in c.args.groups.now.entries c.len-place-end.ensures.unique)
+
+pub returns-in_err-push-clause-once : goal.returns-in_err-push-clause-once
+returns-in_err-push-clause-once c = sym (len-as_map group_in c.args.groups.now.entries c.len-place-end.ensures.unique)

@@ -36,6 +36,10 @@ invariant_of-self c =
       few = c.admit.ensures.few c.self.invariant.few;
     }
 
+pub admit-requires : goal.admit-requires
+admit-requires c =
+    ap (λ (x : Coordinator). finite.get x.groups c.args.request.now.group_id.now) (coordinator-is c.self.inside c.args.self.now c.self.view_is) ∙ c.requires.absent
+
 pub returns-in-Ok-clause-step : goal.returns-in-Ok-clause-step
 returns-in-Ok-clause-step c =
     let n = coordinator_of c.args.self.now in
