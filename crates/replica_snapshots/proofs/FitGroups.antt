@@ -46,7 +46,7 @@ use Rattle.group_types.proofs.Renewals.{changed_is_consistent, renewed_is_consis
 use Rattle.group_types.proofs.Senders.{named_fresh, other_is, own_is}
 use Rattle.group_types.proofs.SetLemmas.{has-common, has-in_order, has-nothing, size-nothing}
 use Rattle.group_core.proofs.FewPartitions.{few_shown, share_of_view}
-use Rattle.coord_node.proofs.FittingAnswers.{name_fits}
+use Rattle.coord_node.proofs.FittingAnswers.{name_fits, overtakes, passed, refuses}
 use Rattle.replica_snapshots.specs.Spelling.{FitsEpoch, FitsFormer, FitsIndex, FitsMetadata, FitsNumber, FitsOffset, FitsPartitions, FitsRecord, FitsStamp}
 use Rattle.replica_snapshots.specs.Runs.{HaveNames}
 use Rattle.replica_snapshots.proofs.FitKeys.{fewer_keys, put_in}
@@ -473,17 +473,6 @@ handed_written g old heir is there none id =
     }
 
 -- ---- by the kind of heartbeat
-
--- a check that would refuse doesn't apply
-passed : (b : Bool) (v rest : Verdict) → (v ≡ Accepted → ⊥) → cond b v rest ≡ Accepted → (b ≡ false) × (rest ≡ Accepted)
-passed true v rest fails is = absurd (fails is)
-passed false v rest fails is = (refl, is)
-
-refuses : (code : _) → Refused code ≡ Accepted → ⊥
-refuses code is = cc
-
-overtakes : Overtaken ≡ Accepted → ⊥
-overtakes is = cc
 
 module _ (g : Group) (sound : IsConsistent g) (stored : AreImageTopics g.view) (before : IsWritten g) (h : Arrival) (present : AreImageTopics h.image) (names : HaveNames h.image)
     (given : FitsHeartbeat h.heartbeat) (stamped : FitsStamp h.stamp) (moment : FitsNumber h.moment) (a : Answer) (n : Group) where

@@ -1,15 +1,13 @@
 -- What a coordinator keeps of members has a spelling, whatever heartbeats come.
-use Rattle.std.proofs.Common.{◌≡◌, ℕ, suc, ◌<◌, ◌≤◌, ◌^◌, ◌==◌, ℤ, pos, negsuc, Bool, true, false, cond, List, [], ◌∷◌, ◌++◌, Option, Some, None, IfSome, inl, refl, sym, ap, subst, ◌∙◌, arith}
+use Rattle.std.proofs.Common.{◌≡◌, ℕ, suc, ◌<◌, ◌≤◌, ◌^◌, ◌==◌, ℤ, pos, negsuc, Bool, true, false, cond, List, [], ◌∷◌, Option, Some, None, IfSome, refl, sym, ap, subst, ◌∙◌, arith}
 use Rattle.std.specs.Prelude.{FitsSigned}
-use Rattle.std.specs.Int.{w32, w64, to_be_bytes}
+use Rattle.std.specs.Int.{w32}
 use Rattle.std.specs.List.{AllByRecursion}
 use Rattle.std.specs.Option.{option_or, option_and_then}
 use Rattle.std.specs.Str.{IsAscii}
 use Rattle.std.proofs.lemmas.Str.{IsUtf8-from_ascii}
 use Rattle.std.proofs.lemmas.Str.Ascii.{IsAscii-cons, IsAscii-nil}
 use Rattle.std.proofs.lemmas.List.Elements.{All-from_recursion, recursion_from_All}
-use Rattle.uuid.specs.Text.{lower}
-use Rattle.uuid.proofs.TextLemmas.{hyphenated_ascii}
 use Rattle.flex_wire.specs.Composed.{FitsArray}
 use Rattle.flex_wire.specs.Spelling.{FitsText}
 use Rattle.group_types.specs.declared.assignor_name.AssignorName.{AssignorName}
@@ -25,7 +23,6 @@ use Rattle.group_types.specs.HeartbeatStep.{sent_after}
 use Rattle.group_types.specs.Join.{IsNamed, Name, blank_record, joined, name_of_serial, names_after, record_of_beat, record_of_join, returned, returned_epoch, timeout_after, updated}
 use Rattle.group_types.specs.Leave.{away, last_epoch_at}
 use Rattle.group_types.specs.Limits.{MOST_PARTITIONS, SESSION_TIMEOUT}
-use Rattle.group_types.specs.MemberId.{made_id}
 use Rattle.group_types.specs.Moment.{saturated_sum}
 use Rattle.group_types.specs.Partition.{Partitions}
 use Rattle.group_types.specs.Request.{Heartbeat}
@@ -34,29 +31,12 @@ use Rattle.group_types.specs.Settle.{arrived, asked, settled_record}
 use Rattle.group_types.specs.Text.{Text}
 use Rattle.group_types.specs.Topics.{Names}
 use Rattle.group_types.proofs.Lookups.{some_is}
-use Rattle.group_types.proofs.MadeIds.{length-made_id}
 use Rattle.group_types.proofs.Orders.{partition_cmp-IsAntisymmetric, partition_cmp_total, text_cmp-IsAntisymmetric, text_cmp_total}
 use Rattle.group_types.proofs.SetLemmas.{has-of_list}
 use Rattle.replica_snapshots.specs.Spelling.{FitsAssignor, FitsEpoch, FitsMillis, FitsNames, FitsNumber, FitsPartition, FitsPartitions, FitsRecord, FitsStamp}
 use Rattle.replica_snapshots.proofs.FitKeys.{among, each_key, few_of_list}
 
 -- ---- texts and numbers
-
-pub made_fits : (salt serial : ℕ) → FitsText (made_id salt serial)
-made_fits salt serial =
-    record {
-      length = let is = length-made_id salt serial in omega (arith, is);
-      utf8 = IsUtf8-from_ascii (made_id salt serial) (hyphenated_ascii lower (to_be_bytes w64 salt ++ to_be_bytes w64 serial) (inl refl));
-    }
-
-pub name_fits : (g : Group) (member : Text) (name : Name) → IsNamed g member (Some name) → FitsText member → FitsText name.id
-name_fits g [] name (Some serial, is_serial, is) fits =
-    let id : name.id ≡ made_id g.salt serial = ap (λ (x : Name). x.id) (some_is name (name_of_serial g serial) is) in
-    subst FitsText (sym id) (made_fits g.salt serial)
-name_fits g [] name (None, is_serial, is) fits = cc
-name_fits g (c ∷ m) name is fits =
-    let id : name.id ≡ c ∷ m = ap (λ (x : Name). x.id) (some_is name _ is) in
-    subst FitsText (sym id) fits
 
 -- the serial of the next id is above 0, and no more than 2^64
 pub record FitsSerial (serial : ℕ) : Type 0 where

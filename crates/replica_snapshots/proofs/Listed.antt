@@ -1,33 +1,15 @@
 -- A node whose groups are listed, and its sections by their numbers.
 use Rattle.std.proofs.Common.{◌≡◌, ℕ, zero, suc, ◌+◌, ◌<◌, List, [], ◌∷◌, length, map, take, Option, Some, None, option_map, Result, Ok, Err, refl, sym, ap, subst, ◌∙◌, arith}
 use Rattle.std.specs.Prelude.{IfSome, slice_get}
-use Rattle.std.specs.FinMap as finite
 use Rattle.std.proofs.lemmas.List.{length-map, take_all}
 use Rattle.std.proofs.lemmas.Option.{slice_get-map}
-use Rattle.group_types.specs.Text.{Text}
-use Rattle.group_types.specs.Topics.{Topics}
-use Rattle.group_types.specs.Group.{Group}
 use Rattle.coord_node.specs.declared.restored.NamedGroup.{NamedGroup}
-use Rattle.coord_node.specs.Coordinator.{Coordinator}
-use Rattle.coord_node.specs.Nodes.{state_of}
 use Rattle.coord_node.specs.Restored.{listed_named}
 use Rattle.replica_snapshots.specs.declared.fault.SnapshotFault.{SnapshotFault}
 use Rattle.replica_snapshots.specs.declared.node.Sections.{Sections}
-use Rattle.replica_snapshots.specs.Nodes.{head_with, IsOf, Head, OneGroup, sections_of}
+use Rattle.replica_snapshots.specs.Nodes.{head_with, Head, OneGroup, sections_of}
 use Rattle.replica_snapshots.specs.Views.{listed_node}
 use Rattle.replica_snapshots.specs.Writing.{PutsUpToWhere, PutsWhere}
-
-states_listed : (list : List NamedGroup) → map state_of (map listed_named list) ≡ map named_group list
-states_listed [] = refl
-states_listed (g ∷ list) = ap (λ (l : List (Text × Group)). named_group g ∷ l) (states_listed list)
-
--- the node of a coordinator's salt, its image, and the list of its groups
-pub of_listed : (c : Coordinator) (salt : ℕ) (image : Topics) (list : List NamedGroup) → salt ≡ c.salt → image ≡ c.image
-    → finite.from_entries (map named_group list) ≡ c.groups → length list ≡ finite.len c.groups
-    → IsOf c (record { salt = salt; image = image; groups = map listed_named list })
-of_listed c salt image list same_salt same_image groups once =
-    let all : finite.from_entries (map state_of (map listed_named list)) ≡ c.groups = ap finite.from_entries (states_listed list) ∙ groups in
-    record { coordinator = λ i. record { salt = same_salt i; groups = all i; image = same_image i }; once = length-map list listed_named ∙ once }
 
 module _ (s : Sections) where
   pub count_sections : length (sections_of (listed_node s)) ≡ length s.groups.items + 1

@@ -1,29 +1,26 @@
 -- The groups of a node that was written can be kept again, one after the other.
-use Rattle.std.proofs.Common.{◌≡◌, ℕ, suc, ◌+◌, ◌≤◌, Bool, true, false, cond, List, [], ◌∷◌, ◌++◌, length, map, is_some, Option, Some, None, refl, sym, ap, subst, ◌∙◌, append_assoc, arith}
-use Rattle.std.specs.List.{flat_map, AllByRecursion}
+use Rattle.std.proofs.Common.{◌≡◌, ℕ, suc, ◌+◌, ◌≤◌, Bool, true, false, cond, List, [], ◌∷◌, length, map, is_some, Option, Some, None, refl, sym, ap, subst, ◌∙◌, arith}
+use Rattle.std.specs.List.{AllByRecursion}
 use Rattle.std.specs.Ordering.{eq_by_cmp}
 use Rattle.std.specs.Cmp.{Equal-is, eq_by_cmp_equiv}
 use Rattle.std.specs.FinMap as finite
 use Rattle.std.specs.FinMap.Entries.{find}
-use Rattle.std.proofs.lemmas.List.{length-map}
+use Rattle.std.proofs.lemmas.List.{length-map, map-append}
 use Rattle.group_types.specs.Group.{Group}
-use Rattle.group_types.specs.Images.{AreImageTopics}
 use Rattle.group_types.specs.Limits.{MOST_GROUPS}
 use Rattle.group_types.specs.Text.{Text, text_cmp}
-use Rattle.group_types.specs.Topics.{Topics}
 use Rattle.group_types.proofs.Lookups.{text_ties}
 use Rattle.group_types.proofs.Orders.{text_cmp_total, text_cmp-IsAntisymmetric}
 use Rattle.coord_node.specs.Coordinator.{Coordinator, Groups}
+use Rattle.coord_node.specs.Nodes.{Named, NodeValue, coordinator_of, state_of, with_named}
 use Rattle.coord_node.specs.Restored.{IsGroupId}
-use Rattle.coord_node.specs.Nodes.{Named, NodeValue, state_of}
 use Rattle.replica_snapshots.specs.declared.fault.SnapshotFault.{SnapshotFault}
 use Rattle.replica_snapshots.specs.declared.fault.SnapshotFault.TheVariants.{Wire, BadValue, Unsound, Respelled, TooLong, NoMemory}
 use Rattle.replica_snapshots.specs.Building.{CanEach}
 use Rattle.replica_snapshots.specs.Faults.{fault_number}
-use Rattle.replica_snapshots.specs.Groups.{named_fields}
-use Rattle.replica_snapshots.specs.Nodes.{head_fields, head_of, IsOf, SpellsNode}
-use Rattle.replica_snapshots.specs.Restoring.{CanBeNode, CanKeep, keeping}
-use Rattle.replica_snapshots.proofs.Inserted.{KeysApart, none_found, still_none}
+use Rattle.replica_snapshots.specs.Nodes.{IsOf}
+use Rattle.replica_snapshots.specs.Restoring.{CanBeNode, CanBeRestored, CanKeep}
+use Rattle.replica_snapshots.proofs.Inserted.{KeysApart, none_found, none_in_empty, still_none}
 use Rattle.replica_snapshots.proofs.NodeLaws.{bare}
 
 -- the number of a fault tells whether memory is wanted
@@ -115,38 +112,43 @@ module _ (c : Coordinator) where
       let apart = once_apart es once in
       (apart, all_found es es same (found_there es apart))
 
-module _ (c : Coordinator) (can : CanBeNode c) where
-  ids : (groups : List Named) → AllByRecursion (λ (f : Text × Group). finite.get c.groups f.0 ≡ Some f.1) (map state_of groups) → AllByRecursion (λ (g : Named). IsGroupId g.0) groups
-  ids [] found = tt
-  ids (g ∷ groups) found = (can.ids g.0 g.1.0 found.0, ids groups found.1)
+-- each of them has a name that a join may have
+ids : (c : Coordinator) → CanBeNode c → (groups : List Named) → AllByRecursion (λ (f : Text × Group). finite.get c.groups f.0 ≡ Some f.1) (map state_of groups)
+    → AllByRecursion (λ (g : Named). IsGroupId g.0) groups
+ids c can [] found = tt
+ids c can (g ∷ groups) found = (can.ids g.0 g.1.0 found.0, ids c can groups found.1)
 
-  keep_each : (groups : List Named) (d : Coordinator) → KeysApart text_cmp (map state_of groups) → AllByRecursion (λ (f : Text × Group). finite.get d.groups f.0 ≡ None) (map state_of groups)
-      → AllByRecursion (λ (g : Named). IsGroupId g.0) groups → finite.len d.groups + length groups ≤ MOST_GROUPS → CanEach CanKeep keeping d groups
-  keep_each [] d apart none named few = tt
-  keep_each (g ∷ groups) d apart none named few =
-      let more : finite.len (finite.insert d.groups g.0 g.1.0) ≡ finite.len d.groups + 1 =
-      finite.len-insert text_cmp_total d.groups g.0 g.1.0 ∙ ap (λ (o : Option Group). cond (is_some o) (finite.len d.groups) (finite.len d.groups + 1)) none.0 in (
-        record { id = named.0; absent = none.0; few = omega (arith, few) },
-        keep_each groups (keeping d g) apart.1 (still_none text_cmp_total d.groups g.0 g.1.0 (map state_of groups) apart.0 none.1) named.1 (omega (arith, few, more)),
-      )
+-- a group under a name that no other one has is inserted in the coordinator
+inserted_one : (n : NodeValue) (g : Named) → finite.get (coordinator_of n).groups g.0 ≡ None
+    → (coordinator_of (with_named n g)).groups ≡ finite.insert (coordinator_of n).groups g.0 g.1.0
+inserted_one n g none =
+    let states : States = map state_of n.groups in
+    ap finite.from_entries (map-append state_of n.groups (g ∷ []))
+    ∙ finite.from_entries_push text_cmp_total text_cmp-IsAntisymmetric states g.0 g.1.0 (sym (finite.get-from_entries text_cmp_total states g.0) ∙ none)
 
-  none_in_bare : (salt : ℕ) (image : Topics) (es : States) → AllByRecursion (λ (f : Text × Group). finite.get (bare salt image).groups f.0 ≡ None) es
-  none_in_bare salt image [] = tt
-  none_in_bare salt image (e ∷ es) = (finite.get-empty text_cmp e.0, none_in_bare salt image es)
+-- groups that a node does not have, each under a name of its own, can be kept where there is room for them
+keep_each : (groups : List Named) (n : NodeValue) → KeysApart text_cmp (map state_of groups)
+    → AllByRecursion (λ (f : Text × Group). finite.get (coordinator_of n).groups f.0 ≡ None) (map state_of groups) → AllByRecursion (λ (g : Named). IsGroupId g.0) groups
+    → finite.len (coordinator_of n).groups + length groups ≤ MOST_GROUPS → CanEach CanKeep with_named n groups
+keep_each [] n apart none named few = tt
+keep_each (g ∷ groups) n apart none named few =
+    let before : Groups = (coordinator_of n).groups in
+    let same = inserted_one n g none.0 in
+    let more : finite.len (coordinator_of (with_named n g)).groups ≡ finite.len before + 1 =
+    ap finite.len same
+    ∙ (finite.len-insert text_cmp_total before g.0 g.1.0 ∙ ap (λ (o : Option Group). cond (is_some o) (finite.len before) (finite.len before + 1)) none.0) in
+    let still = still_none text_cmp_total before g.0 g.1.0 (map state_of groups) apart.0 none.1 in (
+      record { id = named.0; absent = none.0; few = omega (arith, few) },
+      keep_each groups (with_named n g) apart.1 (subst (λ (m : Groups). AllByRecursion (λ (f : Text × Group). finite.get m f.0 ≡ None) (map state_of groups)) (sym same) still) named.1
+          (omega (arith, few, more)),
+    )
 
-  -- the groups of a node of the coordinator can be kept, one after the other
-  pub groups_can : (n : NodeValue) → IsOf c n → CanEach CanKeep keeping (bare n.salt n.image) n.groups
-  groups_can n of =
-      let both = apart_and_found c n of in
-      let few : finite.len (bare n.salt n.image).groups + length n.groups ≤ MOST_GROUPS = omega (arith, finite.len-empty text_cmp Group, of.once, can.few) in
-      keep_each n.groups (bare n.salt n.image) both.0 (none_in_bare n.salt n.image (map state_of n.groups)) (ids n.groups both.1) few
-
--- ---- a node that was written
-
-pub spelled_node : (c : Coordinator) (written rest bytes : List ℕ) (spells : SpellsNode c written) → bytes ≡ written ++ rest
-    → bytes ≡ head_fields (head_of spells.node) ++ (flat_map named_fields spells.node.groups ++ rest)
-spelled_node c written rest bytes spells is =
-    is ∙ (ap (λ (l : List ℕ). l ++ rest) spells.spelled ∙ append_assoc (head_fields (head_of spells.node)) (flat_map named_fields spells.node.groups) rest)
-
-pub image_of : (c : Coordinator) (written : List ℕ) (spells : SpellsNode c written) → CanBeNode c → AreImageTopics spells.node.image
-image_of c written spells can = subst AreImageTopics (sym (ap (λ (d : Coordinator). d.image) spells.of.coordinator)) can.image
+-- the groups of a node that can be restored can be kept, one after the other
+pub groups_can : (n : NodeValue) → CanBeRestored n → CanEach CanKeep with_named (bare n.salt n.image) n.groups
+groups_can n can =
+    let c : Coordinator = coordinator_of n in
+    let once : length n.groups ≡ finite.len c.groups = can.once in
+    let both = apart_and_found c n (record { coordinator = refl; once = once }) in
+    let empty : finite.len (coordinator_of (bare n.salt n.image)).groups ≡ 0 = finite.len-empty text_cmp Group in
+    let most : finite.len c.groups ≤ MOST_GROUPS = can.can.few in
+    keep_each n.groups (bare n.salt n.image) both.0 (none_in_empty text_cmp_total (map state_of n.groups)) (ids c can.can n.groups both.1) (omega (arith, empty, once, most))

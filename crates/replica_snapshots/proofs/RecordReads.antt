@@ -17,7 +17,7 @@ use Rattle.group_types.specs.AssignorName.{assignor_text, assignor_named}
 use Rattle.group_types.specs.Epoch.{number_of}
 use Rattle.group_types.specs.Group.{Committed}
 use Rattle.group_types.specs.Partition.{Partitions}
-use Rattle.group_types.specs.Sets.{in_order, nothing, of_list, with_one}
+use Rattle.group_types.specs.Sets.{in_order, nothing, with_one}
 use Rattle.group_types.specs.Text.{Text}
 use Rattle.group_types.specs.Topics.{Names}
 use Rattle.group_types.proofs.ListSets.{of_list-in_order, with_all, with_all-nothing}

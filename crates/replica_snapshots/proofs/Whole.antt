@@ -6,7 +6,7 @@ use Rattle.std.specs.FinMap.Entries.{find}
 use Rattle.std.specs.List.{AllByRecursion}
 use Rattle.std.proofs.lemmas.List.Elements.{recursion_from_All}
 use Rattle.flex_wire.specs.Composed.{array}
-use Rattle.group_types.specs.Group.{Offsets, Past, Record, Records, place_cmp}
+use Rattle.group_types.specs.Group.{Offsets, Past, Record, Records}
 use Rattle.group_types.specs.Partition.{Partitions, partition_cmp}
 use Rattle.group_types.specs.Sets.{of_list}
 use Rattle.group_types.specs.declared.partition.Partition.{Partition}

@@ -2,16 +2,13 @@
 //! fields are, what is built is sound.
 
 ghost use Rattle.std.specs.Prelude.{◌≡◌, ◌++◌, ℕ, List, IfOk, MatchResult};
-ghost use Rattle.group_types.specs.Images.{AreImageTopics};
-ghost use Rattle.group_types.specs.Topics.{Topics};
-ghost use Rattle.flex_wire.specs.Composed.{array, FitsArray};
 ghost use Rattle.std.specs.FinMap as finite;
 ghost use Rattle.range_assign.specs.Shares.{shares_in};
 ghost use Rattle.coord_node.specs.Nodes.{HeldGroup, held_of};
 ghost use Rattle.replica_snapshots.specs.Building.{Adds, AddsArray, AddsEach, CanAddFormer, with_former, CanAddGrant, with_grant, CanAddOffset, with_committed, CanAddMember, with_part, with_share, last_fields, FitLast, CanAddLast, with_last, Finishes};
 ghost use Rattle.replica_snapshots.specs.Groups.{group_fields, FitsGroup};
 ghost use Rattle.replica_snapshots.specs.Reading.{Gives, numbers_at, former_at, record_at, grant_at, metadata_at, committed_at, image_at};
-ghost use Rattle.replica_snapshots.specs.Spelling.{topic_fields, FitsTopic, former_fields, FitsFormer, grant_fields, FitsGrant, member_fields, FitsMember, offset_fields, FitsOffset};
+ghost use Rattle.replica_snapshots.specs.Spelling.{former_fields, FitsFormer, grant_fields, FitsGrant, member_fields, FitsMember, offset_fields, FitsOffset};
 ghost use Rattle.replica_snapshots.specs.Views.{unread};
 ghost use Rattle.replica_snapshots.specs.declared.fault.SnapshotFault.TheVariants.{NoMemory};
 ghost use Rattle.std.specs.Option.{option_map};

@@ -1,7 +1,4 @@
-use Rattle.replica_snapshots.proofs.Listed.{of_listed}
 use Rattle.replica_snapshots.proofs.node.Sections.of.Goals as goal
 
-pub returns : goal.returns
-returns c =
-    of_listed c.args.node.now c.salt.result c.image.result.now c.in_ok-groups.groups.items c.salt.ensures c.image.ensures
-    c.in_ok-groups.ensures.groups c.in_ok-groups.ensures.once
+pub returns-clause-node : goal.returns-clause-node
+returns-clause-node c = λ i. record { salt = c.salt.ensures i; image = c.image.ensures i; groups = c.in_ok-groups.ensures.groups i }
