@@ -1,4 +1,5 @@
 pub mod Adding
+pub mod Arrays
 pub mod Begins
 pub mod CanPuts
 pub mod FieldLaws

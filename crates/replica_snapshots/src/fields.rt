@@ -1,10 +1,11 @@
 //! The fields of a snapshot, written at the end of a `Vec`. What is too long for its field is refused.
 
-ghost use Rattle.std.specs.Prelude.{◌≡◌, pos, length, true, false, All, FitsSigned, IfSome};
+ghost use Rattle.std.specs.Prelude.{◌≡◌, [], ◌∷◌, pos, length, true, false, All, FitsSigned, IfSome};
 ghost use Rattle.std.specs.Int.{w32, w64};
 ghost use Rattle.std.specs.List.{flat_map};
 ghost use Rattle.std.specs.Option.{option_copied};
 ghost use Rattle.flex_wire.specs.Spelling.{array_count, compact_string, int32, int64, mark, uuid, FitsCount, FitsText, FitsUuid};
+ghost use Rattle.kip_msgs.specs.Spelling.{fields};
 ghost use Rattle.group_types.specs.Limits.{MOST_TOPIC_PARTITIONS as MOST};
 ghost use Rattle.group_types.specs.Owners.{is_index};
 ghost use Rattle.group_types.specs.Sets.{in_order};
@@ -136,16 +137,32 @@ pub fn put_stamp(out: &mut Vec<u8>, stamp: Stamp) -> Result<(), SnapshotFault>
     put_number(out, stamp.frame)
 }
 
+/// The fields of a partition.
+#[inline(always)]
+pub fn partition_bytes(topic: &Uuid, index: i32) -> [u8; 20]
+    ensures bytes { result ≡ fields (uuid topic.now ∷ int32 index ∷ []) }
+    ensures fits { FitsUuid topic.now }
+{
+    let mut bytes = [0; 20];
+    bytes[..16].copy_from_slice(topic.as_bytes());
+    bytes[16..].copy_from_slice(&index.to_be_bytes());
+    bytes
+}
+
 #[tactic(auto, unfolding(crate::specs::Spelling::partition_fields))]
 #[inline(always)]
 pub fn put_partition(out: &mut Vec<u8>, p: &Partition) -> Result<(), SnapshotFault>
     ensures { PutsUpTo result out.old.items out.new.items (FitsPartition p.now) (partition_fields p.now) }
 {
-    put_id(out, &p.topic)?;
-    put_index(out, p.index)
+    if !is_index(p.index) {
+        return Err(SnapshotFault::TooLong);
+    }
+    out.extend_from_slice(&partition_bytes(&p.topic, p.index))?;
+    Ok(())
 }
 
 /// A set of partitions, rising.
+#[inline(always)]
 pub fn put_partitions(out: &mut Vec<u8>, set: &PartSet) -> Result<(), SnapshotFault>
     ensures { PutsUpTo result out.old.items out.new.items (FitsPartitions set.now) (partitions_field set.now) }
 {
@@ -153,6 +170,7 @@ pub fn put_partitions(out: &mut Vec<u8>, set: &PartSet) -> Result<(), SnapshotFa
     put_each_partition(out, set)
 }
 
+#[inline(always)]
 fn put_each_partition(out: &mut Vec<u8>, set: &PartSet) -> Result<(), SnapshotFault>
     ensures { PutsUpTo result out.old.items out.new.items (All FitsPartition (in_order set.now)) (flat_map partition_fields (in_order set.now)) }
 {
@@ -195,21 +213,6 @@ pub fn put_optional_text(out: &mut Vec<u8>, text: Option<&str>) -> Result<(), Sn
 }
 
 #[inline(always)]
-pub fn put_optional_epoch(
-    out: &mut Vec<u8>,
-    epoch: Option<EpochNumber>,
-) -> Result<(), SnapshotFault>
-    ensures { PutsUpTo result out.old.items out.new.items (IfSome epoch FitsEpoch) (optional epoch_field epoch) }
-{
-    match epoch {
-        None => put_absent(out),
-        Some(epoch) => {
-            put_present(out)?;
-            put_epoch(out, epoch)
-        }
-    }
-}
-
 pub fn put_optional_partitions(
     out: &mut Vec<u8>,
     set: Option<&PartSet>,

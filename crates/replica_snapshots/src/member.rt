@@ -1,26 +1,27 @@
 //! A member of a group, written at the end of a `Vec`: its id, its record, what it may read, and what it is to own.
 
-ghost use Rattle.std.specs.Prelude.{◌≡◌, map, All, IfSome, unwrap_or};
+ghost use Rattle.std.specs.Prelude.{◌≡◌, [], ◌∷◌, map, All, IfSome, Some, unwrap_or};
 ghost use Rattle.std.specs.List.{flat_map};
 ghost use Rattle.flex_wire.specs.Composed.{array, FitsArray};
+ghost use Rattle.kip_msgs.specs.Spelling.{fields};
 ghost use Rattle.group_types.specs.Owners.{share_of};
 ghost use Rattle.group_types.specs.Sets.{in_order};
 ghost use Rattle.group_reconcile.specs.Holders.{granted_at};
 ghost use Rattle.replica_snapshots.specs.Parts.{grant_of, grants_of, member_part};
-ghost use Rattle.replica_snapshots.specs.Spelling.{optional, assignor_field, FitsAssignor, identity_fields, FitsIdentity, wishes_fields, FitsWishes, progress_fields, FitsProgress, deadlines_fields, FitsDeadlines, record_fields, FitsRecord, grant_fields, FitsGrant, partitions_field, FitsPartitions, member_fields, FitsMember};
+ghost use Rattle.replica_snapshots.specs.Spelling.{epoch_field, FitsEpoch, optional, stamp_fields, assignor_field, FitsAssignor, identity_fields, FitsIdentity, wishes_fields, FitsWishes, progress_fields, FitsProgress, deadlines_fields, FitsDeadlines, record_fields, FitsRecord, grant_fields, FitsGrant, partitions_field, FitsPartitions, member_fields, FitsMember};
 ghost use Rattle.replica_snapshots.specs.Puttable.{CanPutGrant, CanPutMember};
 ghost use Rattle.replica_snapshots.specs.Writing.{PutsUpTo, PutsUpToWhere};
 
 use crate::fault::SnapshotFault;
 use crate::fields::{
-    put_absent, put_epoch, put_millis, put_names, put_number, put_optional_epoch,
-    put_optional_moment, put_optional_partitions, put_optional_text, put_partition, put_partitions,
-    put_present, put_size, put_stamp, put_text,
+    is_index, partition_bytes, put_absent, put_epoch, put_millis, put_names, put_number,
+    put_optional_moment, put_optional_partitions, put_optional_text, put_partitions, put_present,
+    put_size, put_stamp, put_text,
 };
 use group_epochs::Record;
 use group_reconcile::Grants;
 use group_target::Target;
-use group_types::{AssignorName, EpochNumber, MemberId, PartSet, Partition};
+use group_types::{AssignorName, EpochNumber, MemberId, PartSet, Partition, Stamp};
 
 /// The places where a member's grants and its share are looked for first: members that come in the order of their ids are found
 /// there.
@@ -84,9 +85,34 @@ fn put_wishes(out: &mut Vec<u8>, kept: &Record) -> Result<(), SnapshotFault>
 fn put_progress(out: &mut Vec<u8>, kept: &Record) -> Result<(), SnapshotFault>
     ensures { PutsUpTo result out.old.items out.new.items (FitsProgress kept.now) (progress_fields kept.now) }
 {
-    put_optional_epoch(out, kept.epoch().number())?;
-    put_epoch(out, kept.previous_epoch())?;
-    put_stamp(out, kept.stamp())
+    let (previous, stamp) = (kept.previous_epoch(), kept.stamp());
+    match kept.epoch().number() {
+        None => {
+            put_absent(out)?;
+            put_epoch(out, previous)?;
+            put_stamp(out, stamp)
+        }
+        Some(epoch) => {
+            out.extend_from_slice(&progress_bytes(epoch, previous, stamp))?;
+            Ok(())
+        }
+    }
+}
+
+/// How far a member has come that isn't away.
+#[inline(always)]
+fn progress_bytes(epoch: EpochNumber, previous: EpochNumber, stamp: Stamp) -> [u8; 25]
+    ensures { result ≡ fields (optional epoch_field (Some epoch) ∷ epoch_field previous ∷ stamp_fields stamp ∷ []) }
+{
+    let epochs = [
+        epoch.as_u32().to_be_bytes(),
+        previous.as_u32().to_be_bytes(),
+    ];
+    let numbers = [stamp.connection.to_be_bytes(), stamp.frame.to_be_bytes()];
+    let mut bytes = [1; 25];
+    bytes[1..9].copy_from_slice(epochs.as_flattened());
+    bytes[9..].copy_from_slice(numbers.as_flattened());
+    bytes
 }
 
 /// What a member was last sent, and its deadlines.
@@ -146,17 +172,30 @@ fn put_each_grant(out: &mut Vec<u8>, grants: &Grants, set: &PartSet) -> Result<(
     Ok(())
 }
 
-#[tactic(auto, unfolding(crate::specs::Spelling::grant_fields))]
+#[tactic(auto, unfolding(crate::specs::Spelling::grant_fields, crate::specs::Spelling::partition_fields))]
 #[inline(always)]
 fn put_grant(out: &mut Vec<u8>, grants: &Grants, p: &Partition) -> Result<(), SnapshotFault>
     ensures { let g = grant_of grants.now p.now in
         PutsUpToWhere result out.old.items out.new.items (CanPutGrant g) (FitsGrant g) (grant_fields g) }
 {
-    put_partition(out, p)?;
-    let epoch = since(grants, p);
-    // so that the epoch is known to fit
-    let _ = epoch.as_u32();
-    put_epoch(out, epoch)
+    if !is_index(p.index) {
+        return Err(SnapshotFault::TooLong);
+    }
+    let partition = partition_bytes(&p.topic, p.index);
+    out.extend_from_slice(&grant_bytes(&partition, since(grants, p)))?;
+    Ok(())
+}
+
+/// The fields of a grant.
+#[inline(always)]
+fn grant_bytes(partition: &[u8; 20], since: EpochNumber) -> [u8; 24]
+    ensures bytes { result ≡ fields (partition.now ∷ epoch_field since ∷ []) }
+    ensures fits { FitsEpoch since }
+{
+    let mut bytes = [0; 24];
+    bytes[..20].copy_from_slice(partition);
+    bytes[20..].copy_from_slice(&since.as_u32().to_be_bytes());
+    bytes
 }
 
 /// The epoch of the target since which the partition may be read.
