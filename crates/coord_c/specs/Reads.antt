@@ -15,12 +15,12 @@ use Rattle.coord_replica.specs.declared.fault.ReplicaFault.TheVariants as replic
 use Rattle.coord_replica.specs.Applying.{AppliesBytes}
 use Rattle.coord_replica.specs.Faults.{replica_fault_number}
 use Rattle.coord_replica.specs.Proposing.{IsUnproposed, IsUnwritten, next_leadership, under_present}
-use Rattle.coord_replica.specs.Replicas.{LogState, ReplicaState}
+use Rattle.coord_replica.specs.Replicas.{ReplicaState, ReplicaValue}
 use Rattle.replica_entries.specs.Values.{ContentValue}
 use Rattle.replica_snapshots.specs.declared.fault.SnapshotFault.{SnapshotFault}
 use Rattle.replica_snapshots.specs.declared.fault.SnapshotFault.TheVariants as snapshot
 use Rattle.replica_snapshots.specs.Faults as snapshots
-use Rattle.coord_replica.specs.Snapshots.{IsSnapshotOf, PutsPart, SnapshotValue}
+use Rattle.coord_replica.specs.Snapshots.{PutsPart, snapshot_of}
 
 -- KIP-848, "Static Membership": a static member that is away has the epoch -2
 abbrev pub epoch_shown : Epoch → ℤ
@@ -138,11 +138,9 @@ snapshot_fault_shown (snapshot.Unsound place) = pos (30 + snapshots.fault_number
 snapshot_fault_shown (snapshot.Respelled place) = pos (30 + snapshots.fault_number (snapshot.Respelled place))
 snapshot_fault_shown snapshot.TooLong = pos (30 + snapshots.fault_number snapshot.TooLong)
 
--- the bytes are the sections of a snapshot from one number up to the next
-pub record IsPart (s : LogState) (from size next : ℕ) (bytes : List ℕ) : Type 0 where
-  pub snapshot : SnapshotValue
-  pub of : IsSnapshotOf s snapshot
-  pub put : PutsPart (Ok next) [] bytes snapshot from size
+-- the bytes are the sections of the replica's snapshot from one number up to the next
+abbrev pub IsPart : ReplicaValue → ℕ → ℕ → ℕ → List ℕ → Type 0
+IsPart r from size next bytes = PutsPart (Ok next) [] bytes (snapshot_of r) from size
 
 -- why no part, or no replica, was made of a snapshot
 abbrev pub IsSnapshotFault : ℤ → Type 0

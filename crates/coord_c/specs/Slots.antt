@@ -1,6 +1,6 @@
 -- What a call makes of what is in a slot.
 use Rattle.std.specs.Prelude.{◌≡◌, Bool, is_some, true, false, not, Option, Some, None}
-use Rattle.coord_replica.specs.Replicas.{ReplicaState}
+use Rattle.coord_replica.specs.Replicas.{ReplicaValue}
 use Rattle.coord_c.specs.declared.embedded.Embedded.{Embedded}
 use Rattle.coord_c.specs.declared.slot.Slot.{Slot}
 use Rattle.coord_c.specs.Machines.{ForReplicas, is_replica}
@@ -34,7 +34,7 @@ abbrev pub Becomes : Slot → Slot → (Embedded → Embedded → Type 0) → Ty
 Becomes old new Said = (x y : Embedded) → in_slot old ≡ Some x → in_slot new ≡ Some y → Said x y
 
 -- the same where it is a replica
-abbrev pub BecomesReplica : Slot → Slot → (Embedded → Embedded → ReplicaState → ReplicaState → Type 0) → Type 0
+abbrev pub BecomesReplica : Slot → Slot → (Embedded → Embedded → ReplicaValue → ReplicaValue → Type 0) → Type 0
 BecomesReplica old new Said = Becomes old new (λ x y. ForReplicas x.machine y.machine (Said x y))
 
 -- what is said of what the slot has

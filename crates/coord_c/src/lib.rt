@@ -9,7 +9,8 @@ ghost use Rattle.std.specs.Prelude.{◌≡◌, ◌≢◌, ◌⊎◌, ◌≤◌, 
 ghost use Rattle.std.specs.FinMap as finite;
 ghost use Rattle.topic_meta.specs.Images.{entries_of, first_fault, topics_of};
 ghost use Rattle.coord_node.specs.Answers.{Answers, ClosesAtOnce};
-ghost use Rattle.coord_node.specs.Coordinator.{Done, Frame, Tick, committed_at, is_remembered_at, opening};
+ghost use Rattle.coord_node.specs.Coordinator.{Done, Frame, Tick, committed_at, is_remembered_at};
+ghost use Rattle.coord_node.specs.Nodes.{node_opening};
 ghost use Rattle.coord_node.specs.Steps.{Step};
 ghost use Rattle.coord_c.specs.Machines.{coordinator_of};
 ghost use Rattle.coord_c.specs.Reads.{ShowsCommitted, epochs_shown, fault_shown, size_shown, yes_or_no};
@@ -47,7 +48,7 @@ use std::collections::hash_map::RandomState;
 pub extern "C" fn migwelun_make(slot: &mut Slot, alloc: Global, salt: u64, keys: &[u8; 16]) -> i32
     ensures full { IsFull slot.old → (result ≡ FULL) × (in_slot slot.new ≡ in_slot slot.old) }
     ensures made { result ≡ DONE → IsFull slot.new }
-    ensures opening { result ≡ DONE → Has slot.new (λ y. (y.machine ≡ Machine.Coordinator (opening salt)) × (y.replies.items ≡ []) × (y.topics.items ≡ [])) }
+    ensures opening { result ≡ DONE → Has slot.new (λ y. (y.machine ≡ Machine.Coordinator (node_opening salt)) × (y.replies.items ≡ []) × (y.topics.items ≡ [])) }
     ensures no_memory { result ≡ NO_MEMORY → in_slot slot.new ≡ None }
     ensures known { (result ≡ DONE) ⊎ ((result ≡ NO_MEMORY) ⊎ (result ≡ FULL)) }
 {

@@ -1,6 +1,6 @@
 //! What a slot is for.
 ghost use Rattle.std.specs.Prelude.{◌≡◌};
-ghost use Rattle.coord_c.specs.Machines.{coordinator_of};
+ghost use Rattle.coord_c.specs.Machines.{node_of};
 
 use coord_node::Node;
 use coord_replica::Replica;
@@ -13,9 +13,9 @@ pub enum Machine {
 }
 
 impl Machine {
-    /// The coordinator by itself, or that of the replica.
+    /// The node of the coordinator by itself, or of the replica.
     pub(crate) fn node(&self) -> &Node
-        ensures { result.now ≡ coordinator_of self.now }
+        ensures { result.now ≡ node_of self.now }
     {
         match self {
             Machine::Coordinator(node) => node,

@@ -5,11 +5,11 @@ ghost use Rattle.replica_entries.specs.Spelling.{entry_fields};
 ghost use Rattle.replica_entries.specs.Values.{image, tick};
 ghost use Rattle.coord_replica.specs.Applying.{refusal_at};
 ghost use Rattle.coord_replica.specs.Proposing.{ProposesBytes, begun, frame_proposed, moment_proposed, next_leadership};
-ghost use Rattle.coord_replica.specs.Replicas.{LogState, following, replica_opening};
-ghost use Rattle.coord_replica.specs.Snapshots.{SpellsLog};
+ghost use Rattle.coord_node.specs.Nodes.{coordinator_of};
+ghost use Rattle.coord_replica.specs.Replicas.{log_of, replica_state, value_opening};
+ghost use Rattle.coord_replica.specs.Snapshots.{FitsSnapshot, SnapshotValue, restored, snapshot_fields};
 ghost use Rattle.replica_snapshots.specs.Restoring.{CanBeNode};
 ghost use Rattle.coord_c.specs.Reads.{IsApplied, IsPart, IsRefused, IsSnapshotFault, IsUnapplied, IsUnled, TellsApplied};
-ghost use Rattle.coord_c.specs.Machines.{ForReplicas};
 ghost use Rattle.coord_c.specs.Slots.{in_slot, IsFull, Has, HasReplica, Becomes, BecomesReplica};
 
 use crate::code::{DONE, EMPTY, FULL, NO_MEMORY, OUT_OF_PLACE, SHORT};
@@ -32,7 +32,7 @@ pub extern "C" fn migwelun_make_replica(
 ) -> i32
     ensures full { IsFull slot.old → (result ≡ FULL) × (in_slot slot.new ≡ in_slot slot.old) }
     ensures made { result ≡ DONE → IsFull slot.new }
-    ensures opening { result ≡ DONE → Has slot.new (λ y. (y.machine ≡ Machine.Replica (replica_opening salt)) × (y.replies.items ≡ [])
+    ensures opening { result ≡ DONE → Has slot.new (λ y. (y.machine ≡ Machine.Replica (value_opening salt)) × (y.replies.items ≡ [])
         × (y.topics.items ≡ []) × (y.entry.items ≡ [])) }
     ensures no_memory { result ≡ NO_MEMORY → in_slot slot.new ≡ None }
     ensures known { (result ≡ DONE) ⊎ ((result ≡ NO_MEMORY) ⊎ (result ≡ FULL)) }
@@ -51,7 +51,8 @@ pub extern "C" fn migwelun_make_replica(
 }
 
 /// Makes a replica in an empty slot of a snapshot's bytes: it has applied what the one had that they were written of, and doesn't lead.
-/// A snapshot that was written is never refused but for want of memory. Writes the place of the byte that a fault is at.
+/// Its own snapshot has the same bytes, until it applies an entry. A snapshot that was written is never refused but for want of memory.
+/// Writes the place of the byte that a fault is at.
 #[unsafe(no_mangle)]
 pub extern "C" fn migwelun_restore(
     slot: &mut Slot,
@@ -62,11 +63,14 @@ pub extern "C" fn migwelun_restore(
 ) -> i32
     ensures full { IsFull slot.old → (result ≡ FULL) × (in_slot slot.new ≡ in_slot slot.old) }
     ensures made { result ≡ DONE → IsFull slot.new }
-    ensures restored { result ≡ DONE → Has slot.new (λ y. ForReplicas y.machine y.machine (λ r q. SpellsLog r.log snapshot.now × (r ≡ following r.log))) }
+    ensures found { result ≡ DONE → Has slot.new (λ y. (v : SnapshotValue) × FitsSnapshot v × (snapshot.now ≡ snapshot_fields v)
+        × (y.machine ≡ Machine.Replica (restored v))) }
     ensures replica { result ≡ DONE → HasReplica slot.new }
-    ensures only { (s : LogState) → SpellsLog s snapshot.now → result ≡ DONE → Has slot.new (λ y. y.machine ≡ Machine.Replica (following s)) }
+    ensures only { (v : SnapshotValue) → FitsSnapshot v → snapshot.now ≡ snapshot_fields v → result ≡ DONE
+        → Has slot.new (λ y. y.machine ≡ Machine.Replica (restored v)) }
     ensures nothing_waits { result ≡ DONE → Has slot.new (λ y. (y.replies.items ≡ []) × (y.topics.items ≡ []) × (y.entry.items ≡ [])) }
-    ensures whole { (s : LogState) → SpellsLog s snapshot.now → CanBeNode s.coordinator → ¬ IsFull slot.old → result ≢ DONE → result ≡ NO_MEMORY }
+    ensures whole { (v : SnapshotValue) → FitsSnapshot v → CanBeNode (coordinator_of v.node) → snapshot.now ≡ snapshot_fields v
+        → ¬ IsFull slot.old → result ≢ DONE → result ≡ NO_MEMORY }
     ensures refused { ¬ IsFull slot.old → result ≢ DONE → (in_slot slot.new ≡ None) × IsSnapshotFault result }
     ensures at { result ≡ DONE → at.new ≡ at.old }
 {
@@ -86,7 +90,8 @@ pub extern "C" fn migwelun_restore(
 }
 
 /// Writes a part of a replica's snapshot, if it has applied so many entries: sections from one number on, until there are `size` bytes of
-/// them or none is left. It waits for [`migwelun_take_entry`]. Writes the number of the next section.
+/// them or none is left. All parts, one behind the other, are the snapshot: the same bytes, wherever one part ends and the next begins. It
+/// waits for [`migwelun_take_entry`]. Writes the number of the next section.
 #[unsafe(no_mangle)]
 pub extern "C" fn migwelun_snapshot(
     slot: &mut Slot,
@@ -98,9 +103,9 @@ pub extern "C" fn migwelun_snapshot(
 ) -> i32
     ensures empty { ¬ HasReplica slot.old → (result ≡ EMPTY) × (in_slot slot.new ≡ in_slot slot.old) × (next.new ≡ next.old) }
     ensures full { HasReplica slot.old → HasReplica slot.new × (result ≢ EMPTY) }
-    ensures out_of_place { BecomesReplica slot.old slot.new (λ x y r q. place ≢ r.log.applied → result ≡ OUT_OF_PLACE) }
-    ensures written { BecomesReplica slot.old slot.new (λ x y r q. result ≡ DONE → IsPart r.log from size next.new y.entry.items) }
-    ensures refused { BecomesReplica slot.old slot.new (λ x y r q. place ≡ r.log.applied → result ≢ DONE → IsSnapshotFault result) }
+    ensures out_of_place { BecomesReplica slot.old slot.new (λ x y r q. place ≢ r.applied → result ≡ OUT_OF_PLACE) }
+    ensures written { BecomesReplica slot.old slot.new (λ x y r q. result ≡ DONE → IsPart r from size next.new y.entry.items) }
+    ensures refused { BecomesReplica slot.old slot.new (λ x y r q. place ≡ r.applied → result ≢ DONE → IsSnapshotFault result) }
     ensures unchanged { result ≢ DONE → (in_slot slot.new ≡ in_slot slot.old) × (next.new ≡ next.old) }
     ensures others { Becomes slot.old slot.new (λ x y. (y.machine ≡ x.machine) × (y.replies ≡ x.replies) × (y.topics ≡ x.topics)) }
 {
@@ -125,7 +130,7 @@ pub extern "C" fn migwelun_place(
     ensures known { HasReplica slot.old → result ≡ DONE }
     ensures unchanged { in_slot slot.new ≡ in_slot slot.old }
     ensures place { BecomesReplica slot.old slot.new (λ x y r q.
-        (applied.new ≡ r.log.applied) × (leadership.new ≡ r.log.leadership) × (moment.new ≡ r.log.moment)) }
+        (applied.new ≡ r.applied) × (leadership.new ≡ r.leadership) × (moment.new ≡ r.moment)) }
 {
     let Some(embedded) = slot.take(alloc) else {
         return EMPTY;
@@ -140,8 +145,8 @@ pub extern "C" fn migwelun_place(
 pub extern "C" fn migwelun_lead(slot: &mut Slot, alloc: Global) -> i32
     ensures empty { ¬ HasReplica slot.old → (result ≡ EMPTY) × (in_slot slot.new ≡ in_slot slot.old) }
     ensures full { HasReplica slot.old → HasReplica slot.new × (result ≢ EMPTY) }
-    ensures proposed { BecomesReplica slot.old slot.new (λ x y r q. result ≡ DONE → y.entry.items ≡ entry_fields (next_leadership r)) }
-    ensures refused { BecomesReplica slot.old slot.new (λ x y r q. result ≢ DONE → (y.entry ≡ x.entry) × IsUnled r result) }
+    ensures proposed { BecomesReplica slot.old slot.new (λ x y r q. result ≡ DONE → y.entry.items ≡ entry_fields (next_leadership (replica_state r))) }
+    ensures refused { BecomesReplica slot.old slot.new (λ x y r q. result ≢ DONE → (y.entry ≡ x.entry) × IsUnled (replica_state r) result) }
     ensures others { Becomes slot.old slot.new (λ x y. (y.machine ≡ x.machine) × (y.replies ≡ x.replies) × (y.topics ≡ x.topics)) }
 {
     let Some(mut embedded) = slot.take(alloc) else {
@@ -157,7 +162,7 @@ pub extern "C" fn migwelun_lead(slot: &mut Slot, alloc: Global) -> i32
 pub extern "C" fn migwelun_begin(slot: &mut Slot, alloc: Global, clock: u64) -> i32
     ensures empty { ¬ HasReplica slot.old → (result ≡ EMPTY) × (in_slot slot.new ≡ in_slot slot.old) }
     ensures full { HasReplica slot.old → HasReplica slot.new × (result ≡ DONE) }
-    ensures begun { BecomesReplica slot.old slot.new (λ x y r q. q ≡ begun r clock) }
+    ensures begun { BecomesReplica slot.old slot.new (λ x y r q. (replica_state q ≡ begun (replica_state r) clock) × (q.node ≡ r.node)) }
     ensures others { Becomes slot.old slot.new (λ x y. (y.replies ≡ x.replies) × (y.topics ≡ x.topics) × (y.entry ≡ x.entry)) }
 {
     let Some(mut embedded) = slot.take(alloc) else {
@@ -181,9 +186,10 @@ pub extern "C" fn migwelun_propose(
     ensures empty { ¬ HasReplica slot.old → (result ≡ EMPTY) × (in_slot slot.new ≡ in_slot slot.old) }
     ensures full { HasReplica slot.old → HasReplica slot.new × (result ≢ EMPTY) }
     ensures proposed { BecomesReplica slot.old slot.new (λ x y r q. result ≡ DONE →
-        ProposesBytes r (frame_proposed r clock connection frame body.now) q [] y.entry.items) }
+        ProposesBytes (replica_state r) (frame_proposed (replica_state r) clock connection frame body.now) (replica_state q) [] y.entry.items) }
     ensures refused { BecomesReplica slot.old slot.new (λ x y r q. result ≢ DONE →
-        (q ≡ r) × (y.entry ≡ x.entry) × IsRefused r (frame_proposed r clock connection frame body.now) result) }
+        (q ≡ r) × (y.entry ≡ x.entry) × IsRefused (replica_state r) (frame_proposed (replica_state r) clock connection frame body.now) result) }
+    ensures node { BecomesReplica slot.old slot.new (λ x y r q. q.node ≡ r.node) }
     ensures others { Becomes slot.old slot.new (λ x y. (y.replies ≡ x.replies) × (y.topics ≡ x.topics)) }
 {
     let Some(mut embedded) = slot.take(alloc) else {
@@ -200,9 +206,10 @@ pub extern "C" fn migwelun_propose_tick(slot: &mut Slot, alloc: Global, clock: u
     ensures empty { ¬ HasReplica slot.old → (result ≡ EMPTY) × (in_slot slot.new ≡ in_slot slot.old) }
     ensures full { HasReplica slot.old → HasReplica slot.new × (result ≢ EMPTY) }
     ensures proposed { BecomesReplica slot.old slot.new (λ x y r q. result ≡ DONE →
-        ProposesBytes r (tick (moment_proposed r clock)) q [] y.entry.items) }
+        ProposesBytes (replica_state r) (tick (moment_proposed (replica_state r) clock)) (replica_state q) [] y.entry.items) }
     ensures refused { BecomesReplica slot.old slot.new (λ x y r q. result ≢ DONE →
-        (q ≡ r) × (y.entry ≡ x.entry) × IsRefused r (tick (moment_proposed r clock)) result) }
+        (q ≡ r) × (y.entry ≡ x.entry) × IsRefused (replica_state r) (tick (moment_proposed (replica_state r) clock)) result) }
+    ensures node { BecomesReplica slot.old slot.new (λ x y r q. q.node ≡ r.node) }
     ensures others { Becomes slot.old slot.new (λ x y. (y.replies ≡ x.replies) × (y.topics ≡ x.topics)) }
 {
     let Some(mut embedded) = slot.take(alloc) else {
@@ -220,9 +227,10 @@ pub extern "C" fn migwelun_propose_topics(slot: &mut Slot, alloc: Global) -> i32
     ensures empty { ¬ HasReplica slot.old → (result ≡ EMPTY) × (in_slot slot.new ≡ in_slot slot.old) }
     ensures full { HasReplica slot.old → HasReplica slot.new × (result ≢ EMPTY) }
     ensures proposed { BecomesReplica slot.old slot.new (λ x y r q. result ≡ DONE →
-        ProposesBytes r (image (entries_of x.topics.items)) q [] y.entry.items) }
+        ProposesBytes (replica_state r) (image (entries_of x.topics.items)) (replica_state q) [] y.entry.items) }
     ensures refused { BecomesReplica slot.old slot.new (λ x y r q. result ≢ DONE →
-        (q ≡ r) × (y.entry ≡ x.entry) × ((result ≡ NO_MEMORY) ⊎ IsRefused r (image (entries_of x.topics.items)) result)) }
+        (q ≡ r) × (y.entry ≡ x.entry) × ((result ≡ NO_MEMORY) ⊎ IsRefused (replica_state r) (image (entries_of x.topics.items)) result)) }
+    ensures node { BecomesReplica slot.old slot.new (λ x y r q. q.node ≡ r.node) }
     ensures gone { HasReplica slot.old → Becomes slot.old slot.new (λ x y. result ≢ NO_MEMORY → y.topics.items ≡ []) }
     ensures no_memory { Becomes slot.old slot.new (λ x y. result ≡ NO_MEMORY → y.topics.items ≡ x.topics.items) }
     ensures replies { Becomes slot.old slot.new (λ x y. y.replies ≡ x.replies) }
@@ -275,10 +283,10 @@ pub extern "C" fn migwelun_apply(
     ensures empty { ¬ HasReplica slot.old → (result ≡ EMPTY) × (in_slot slot.new ≡ in_slot slot.old) }
     ensures full { HasReplica slot.old → HasReplica slot.new × (result ≢ EMPTY) }
     ensures applied { BecomesReplica slot.old slot.new (λ x y r q. IsApplied result →
-        (refusal_at r.log place entry.now ≡ None) × TellsApplied r entry.now q x.replies.items y.replies.items
+        (refusal_at (log_of r) place entry.now ≡ None) × TellsApplied (replica_state r) entry.now (replica_state q) x.replies.items y.replies.items
         (record { code = result; leadership = leadership.new; connection = connection.new; frame = frame.new })) }
     ensures refused { BecomesReplica slot.old slot.new (λ x y r q. ¬ IsApplied result →
-        (q ≡ r) × (y.replies.items ≡ x.replies.items) × IsUnapplied (refusal_at r.log place entry.now) result) }
+        (q ≡ r) × (y.replies.items ≡ x.replies.items) × IsUnapplied (refusal_at (log_of r) place entry.now) result) }
     ensures unchanged { ¬ IsApplied result → (leadership.new ≡ leadership.old) × (connection.new ≡ connection.old) × (frame.new ≡ frame.old) }
     ensures others { Becomes slot.old slot.new (λ x y. (y.topics ≡ x.topics) × (y.entry ≡ x.entry)) }
 {

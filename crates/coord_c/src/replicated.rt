@@ -5,6 +5,7 @@ ghost use Rattle.replica_entries.specs.Spelling.{entry_fields};
 ghost use Rattle.replica_entries.specs.Values.{image, tick};
 ghost use Rattle.coord_replica.specs.Applying.{refusal_at};
 ghost use Rattle.coord_replica.specs.Proposing.{IsUnproposed, IsUnwritten, ProposesBytes, begun, frame_proposed, moment_proposed, next_leadership, under_present};
+ghost use Rattle.coord_replica.specs.Replicas.{log_of, replica_state};
 ghost use Rattle.coord_c.specs.Machines.{ForReplicas, is_replica};
 ghost use Rattle.coord_c.specs.Reads.{IsApplied, IsPart, IsRefused, IsSnapshotFault, IsUnled, IsUnapplied, TellsApplied, applied_shown, connection_shown, frame_shown, replica_fault_shown, snapshot_fault_shown};
 
@@ -22,7 +23,7 @@ impl Embedded {
             → (result ≡ EMPTY) × (applied.new ≡ applied.old) × (leadership.new ≡ leadership.old) × (moment.new ≡ moment.old) }
         ensures known { is_replica self.now.machine ≡ true → result ≡ DONE }
         ensures place { ForReplicas self.now.machine self.now.machine (λ r _.
-            (applied.new ≡ r.log.applied) × (leadership.new ≡ r.log.leadership) × (moment.new ≡ r.log.moment)) }
+            (applied.new ≡ r.applied) × (leadership.new ≡ r.leadership) × (moment.new ≡ r.moment)) }
     {
         let Machine::Replica(replica) = &self.machine else {
             return EMPTY;
@@ -44,9 +45,9 @@ impl Embedded {
     ) -> i32
         ensures coordinator { is_replica self.old.machine ≡ false → result ≡ EMPTY }
         ensures known { is_replica self.old.machine ≡ true → result ≢ EMPTY }
-        ensures out_of_place { ForReplicas self.old.machine self.new.machine (λ r q. place ≢ r.log.applied → result ≡ OUT_OF_PLACE) }
-        ensures written { ForReplicas self.old.machine self.new.machine (λ r q. result ≡ DONE → IsPart r.log from size next.new self.new.entry.items) }
-        ensures refused { ForReplicas self.old.machine self.new.machine (λ r q. place ≡ r.log.applied → result ≢ DONE → IsSnapshotFault result) }
+        ensures out_of_place { ForReplicas self.old.machine self.new.machine (λ r q. place ≢ r.applied → result ≡ OUT_OF_PLACE) }
+        ensures written { ForReplicas self.old.machine self.new.machine (λ r q. result ≡ DONE → IsPart r from size next.new self.new.entry.items) }
+        ensures refused { ForReplicas self.old.machine self.new.machine (λ r q. place ≡ r.applied → result ≢ DONE → IsSnapshotFault result) }
         ensures unchanged { result ≢ DONE → (self.new ≡ self.old) × (next.new ≡ next.old) }
         ensures others { (self.new.machine ≡ self.old.machine) × (self.new.replies ≡ self.old.replies) × (self.new.topics ≡ self.old.topics) }
     {
@@ -70,9 +71,9 @@ impl Embedded {
     /// Proposes the next leadership.
     pub(crate) fn lead(&mut self, alloc: Global) -> i32
         ensures coordinator { is_replica self.old.machine ≡ false → (result ≡ EMPTY) × (self.new ≡ self.old) }
-        ensures proposed { ForReplicas self.old.machine self.new.machine (λ r q. result ≡ DONE → self.new.entry.items ≡ entry_fields (next_leadership r)) }
+        ensures proposed { ForReplicas self.old.machine self.new.machine (λ r q. result ≡ DONE → self.new.entry.items ≡ entry_fields (next_leadership (replica_state r))) }
         ensures refused { ForReplicas self.old.machine self.new.machine (λ r q. result ≢ DONE →
-            (self.new.entry ≡ self.old.entry) × IsUnled r result) }
+            (self.new.entry ≡ self.old.entry) × IsUnled (replica_state r) result) }
         ensures others { (self.new.machine ≡ self.old.machine) × (self.new.replies ≡ self.old.replies) × (self.new.topics ≡ self.old.topics) }
     {
         let Machine::Replica(replica) = &self.machine else {
@@ -93,7 +94,7 @@ impl Embedded {
         ensures kind { is_replica self.new.machine ≡ is_replica self.old.machine }
         ensures coordinator { is_replica self.old.machine ≡ false → (result ≡ EMPTY) × (self.new ≡ self.old) }
         ensures known { is_replica self.old.machine ≡ true → result ≡ DONE }
-        ensures begun { ForReplicas self.old.machine self.new.machine (λ r q. q ≡ begun r clock) }
+        ensures begun { ForReplicas self.old.machine self.new.machine (λ r q. (replica_state q ≡ begun (replica_state r) clock) × (q.node ≡ r.node)) }
         ensures others { (self.new.replies ≡ self.old.replies) × (self.new.topics ≡ self.old.topics) × (self.new.entry ≡ self.old.entry) }
     {
         let Machine::Replica(replica) = &mut self.machine else {
@@ -115,9 +116,10 @@ impl Embedded {
         ensures kind { is_replica self.new.machine ≡ is_replica self.old.machine }
         ensures coordinator { is_replica self.old.machine ≡ false → (result ≡ EMPTY) × (self.new ≡ self.old) }
         ensures proposed { ForReplicas self.old.machine self.new.machine (λ r q. result ≡ DONE →
-            ProposesBytes r (frame_proposed r clock connection frame body.now) q [] self.new.entry.items) }
+            ProposesBytes (replica_state r) (frame_proposed (replica_state r) clock connection frame body.now) (replica_state q) [] self.new.entry.items) }
         ensures refused { ForReplicas self.old.machine self.new.machine (λ r q. result ≢ DONE →
-            (q ≡ r) × (self.new.entry ≡ self.old.entry) × IsRefused r (frame_proposed r clock connection frame body.now) result) }
+            (q ≡ r) × (self.new.entry ≡ self.old.entry) × IsRefused (replica_state r) (frame_proposed (replica_state r) clock connection frame body.now) result) }
+        ensures node { ForReplicas self.old.machine self.new.machine (λ r q. q.node ≡ r.node) }
         ensures others { (self.new.replies ≡ self.old.replies) × (self.new.topics ≡ self.old.topics) }
     {
         let Machine::Replica(replica) = &mut self.machine else {
@@ -138,9 +140,10 @@ impl Embedded {
         ensures kind { is_replica self.new.machine ≡ is_replica self.old.machine }
         ensures coordinator { is_replica self.old.machine ≡ false → (result ≡ EMPTY) × (self.new ≡ self.old) }
         ensures proposed { ForReplicas self.old.machine self.new.machine (λ r q. result ≡ DONE →
-            ProposesBytes r (tick (moment_proposed r clock)) q [] self.new.entry.items) }
+            ProposesBytes (replica_state r) (tick (moment_proposed (replica_state r) clock)) (replica_state q) [] self.new.entry.items) }
         ensures refused { ForReplicas self.old.machine self.new.machine (λ r q. result ≢ DONE →
-            (q ≡ r) × (self.new.entry ≡ self.old.entry) × IsRefused r (tick (moment_proposed r clock)) result) }
+            (q ≡ r) × (self.new.entry ≡ self.old.entry) × IsRefused (replica_state r) (tick (moment_proposed (replica_state r) clock)) result) }
+        ensures node { ForReplicas self.old.machine self.new.machine (λ r q. q.node ≡ r.node) }
         ensures others { (self.new.replies ≡ self.old.replies) × (self.new.topics ≡ self.old.topics) }
     {
         let Machine::Replica(replica) = &mut self.machine else {
@@ -161,9 +164,10 @@ impl Embedded {
         ensures kind { is_replica self.new.machine ≡ is_replica self.old.machine }
         ensures coordinator { is_replica self.old.machine ≡ false → (result ≡ EMPTY) × (self.new ≡ self.old) }
         ensures proposed { ForReplicas self.old.machine self.new.machine (λ r q. result ≡ DONE →
-            ProposesBytes r (image (entries_of self.old.topics.items)) q [] self.new.entry.items) }
+            ProposesBytes (replica_state r) (image (entries_of self.old.topics.items)) (replica_state q) [] self.new.entry.items) }
         ensures refused { ForReplicas self.old.machine self.new.machine (λ r q. result ≢ DONE →
-            (q ≡ r) × (self.new.entry ≡ self.old.entry) × ((result ≡ NO_MEMORY) ⊎ IsRefused r (image (entries_of self.old.topics.items)) result)) }
+            (q ≡ r) × (self.new.entry ≡ self.old.entry) × ((result ≡ NO_MEMORY) ⊎ IsRefused (replica_state r) (image (entries_of self.old.topics.items)) result)) }
+        ensures node { ForReplicas self.old.machine self.new.machine (λ r q. q.node ≡ r.node) }
         ensures gone { is_replica self.old.machine ≡ true → result ≢ NO_MEMORY → self.new.topics.items ≡ [] }
         ensures no_memory { result ≡ NO_MEMORY → self.new.topics.items ≡ self.old.topics.items }
         ensures replies { self.new.replies ≡ self.old.replies }
@@ -214,10 +218,10 @@ impl Embedded {
         ensures kind { is_replica self.new.machine ≡ is_replica self.old.machine }
         ensures coordinator { is_replica self.old.machine ≡ false → (result ≡ EMPTY) × (self.new ≡ self.old) }
         ensures applied { ForReplicas self.old.machine self.new.machine (λ r q. IsApplied result →
-            (refusal_at r.log place entry.now ≡ None) × TellsApplied r entry.now q self.old.replies.items self.new.replies.items
+            (refusal_at (log_of r) place entry.now ≡ None) × TellsApplied (replica_state r) entry.now (replica_state q) self.old.replies.items self.new.replies.items
             (record { code = result; leadership = leadership.new; connection = connection.new; frame = frame.new })) }
         ensures refused { ForReplicas self.old.machine self.new.machine (λ r q. ¬ IsApplied result →
-            (q ≡ r) × (self.new.replies.items ≡ self.old.replies.items) × IsUnapplied (refusal_at r.log place entry.now) result) }
+            (q ≡ r) × (self.new.replies.items ≡ self.old.replies.items) × IsUnapplied (refusal_at (log_of r) place entry.now) result) }
         ensures unchanged { ¬ IsApplied result → (leadership.new ≡ leadership.old) × (connection.new ≡ connection.old) × (frame.new ≡ frame.old) }
         ensures others { (self.new.topics ≡ self.old.topics) × (self.new.entry ≡ self.old.entry) }
     {
@@ -288,7 +292,7 @@ fn part_of(
     out: &mut Vec<u8>,
 ) -> Result<usize, SnapshotFault>
     requires { out.old.items ≡ [] }
-    ensures { IfOk result (λ next. IsPart replica.now.log from size next out.new.items) }
+    ensures { IfOk result (λ next. IsPart replica.now from size next out.new.items) }
 {
     let snapshot = replica.snapshot()?;
     snapshot.put(from, size, out)

@@ -1,30 +1,43 @@
 -- A snapshot's bytes, and its parts.
-use Rattle.std.proofs.Common.{◌≡◌, ℕ, ◌+◌, ◌-◌, ◌<◌, ◌≤◌, List, [], ◌++◌, length, take, drop, refl, sym, ap, subst, ◌∙◌, inl, inr, append_assoc, arith}
+use Rattle.std.proofs.Common.{◌≡◌, ℕ, ◌+◌, ◌-◌, ◌<◌, ◌≤◌, List, [], ◌++◌, length, take, drop, sym, ap, ◌∙◌, inl, inr, append_assoc, arith}
 use Rattle.std.specs.Prelude.{if◌then◌else◌}
+use Rattle.std.specs.FinMap as finite
 use Rattle.std.specs.List.{flat_map}
 use Rattle.std.proofs.Math.Seq.{take-add}
 use Rattle.std.proofs.lemmas.Bool.Decides.{eqb_tells}
 use Rattle.std.proofs.lemmas.List.{drop-drop, take_all}
 use Rattle.std.proofs.lemmas.List.Concat.{flat_map-append}
+use Rattle.coord_node.specs.Coordinator.{Coordinator}
+use Rattle.coord_node.specs.Nodes.{coordinator_of}
 use Rattle.replica_snapshots.specs.Nodes.{Section, node_fields, section_fields, sections_of, between}
-use Rattle.replica_snapshots.specs.Places.{PlaceValue, place_fields, FitsPlace}
-use Rattle.replica_snapshots.proofs.NodeLaws.{one_coordinator}
+use Rattle.replica_snapshots.specs.Places.{PlaceValue, place_fields}
+use Rattle.replica_snapshots.proofs.GroupLaws.{node_begins}
 use Rattle.replica_snapshots.proofs.PlaceLaws.{place_begins}
 use Rattle.replica_snapshots.proofs.SectionLaws.{sections_make_the_node}
-use Rattle.coord_replica.specs.Laws.{OneStateASnapshot, PartsFollow, SectionsMakeASnapshot}
-use Rattle.coord_replica.specs.Snapshots.{in_front, place_of}
+use Rattle.coord_replica.specs.Laws.{AllPartsAreTheSnapshot, OneStateASnapshot, PartsFollow, RestoredIsWrittenTheSame, SectionsMakeASnapshot}
+use Rattle.coord_replica.specs.Replicas.{ReplicaValue}
+use Rattle.coord_replica.specs.Snapshots.{FitsSnapshot, SnapshotValue, in_front, place_of, snapshot_fields, snapshot_of}
 
--- ---- one state
+-- ---- one snapshot, and one state
+
+-- bytes are at most one snapshot
+pub one_snapshot : (v w : SnapshotValue) → FitsSnapshot v → FitsSnapshot w → snapshot_fields v ≡ snapshot_fields w → v ≡ w
+one_snapshot v w one other same =
+    let fronts = place_begins.holds v.place w.place (node_fields v.node) (node_fields w.node) one.place other.place same in
+    let nodes = node_begins.holds v.node w.node [] [] one.node other.node (ap (λ (l : List ℕ). l ++ []) fronts.1) in
+    λ i. record { place = fronts.0 i; node = nodes.0 i }
 
 pub one_state : OneStateASnapshot
 one_state s t bytes one other =
-    let fronts = place_begins.holds (place_of s) (place_of t) one.written other.written one.place other.place (sym one.spelled ∙ other.spelled) in
-    let nodes = one_coordinator s.coordinator t.coordinator one.written other.written [] [] one.node other.node (ap (λ (l : List ℕ). l ++ []) fronts.1) in
+    let same : one.snapshot ≡ other.snapshot = one_snapshot one.snapshot other.snapshot one.fits other.fits (sym one.spelled ∙ other.spelled) in
+    let place : place_of s ≡ place_of t = sym one.of.place ∙ (ap (λ (v : SnapshotValue). v.place) same ∙ other.of.place) in
+    let coordinator : s.coordinator ≡ t.coordinator =
+    sym one.of.node.coordinator ∙ (ap (λ (v : SnapshotValue). coordinator_of v.node) same ∙ other.of.node.coordinator) in
     λ i. record {
-      coordinator = nodes.0 i;
-      applied = (fronts.0 i).applied;
-      leadership = (fronts.0 i).leadership;
-      moment = (fronts.0 i).moment;
+      coordinator = coordinator i;
+      applied = (place i).applied;
+      leadership = (place i).leadership;
+      moment = (place i).moment;
     }
 
 -- ---- all sections
@@ -34,16 +47,27 @@ all_between sections =
     let all : length sections ≤ length sections - 0 = omega arith in
     take_all (length sections - 0) sections all
 
+pub all_parts : AllPartsAreTheSnapshot
+all_parts v =
+    let front = place_fields v.place in
+    ap (λ (l : List Section). front ++ flat_map section_fields l) (all_between (sections_of v.node))
+    ∙ ap (λ (l : List ℕ). front ++ l) (sections_make_the_node v.node).0
+
+pub restored_same : RestoredIsWrittenTheSame
+restored_same v r is = all_parts (snapshot_of r) ∙ ap (λ (q : ReplicaValue). snapshot_fields (snapshot_of q)) is
+
 pub sections_make : SectionsMakeASnapshot
 sections_make s v is fits all =
     let made = sections_make_the_node v.node in
-    let front = place_fields v.place in
     record {
-      written = node_fields v.node;
-      place = subst FitsPlace is.place fits;
-      spelled = ap (λ (l : List Section). front ++ flat_map section_fields l) (all_between (sections_of v.node))
-          ∙ (ap (λ (l : List ℕ). front ++ l) made.0 ∙ ap (λ (p : PlaceValue). place_fields p ++ node_fields v.node) is.place);
-      node = record { node = v.node; fits = made.1 all; spelled = refl; of = is.node };
+      snapshot = v;
+      fits = record {
+        place = fits;
+        node = made.1 all;
+        once = is.node.once ∙ ap (λ (c : Coordinator). finite.len c.groups) (sym is.node.coordinator);
+      };
+      spelled = all_parts v;
+      of = is;
     }
 
 -- ---- one part behind another

@@ -16,4 +16,4 @@ replica_code =
     (coded× node_code (coded× coded_ℕ (coded× coded_ℕ (coded× coded_ℕ (coded× (coded_option leading_code) coded_ℕ)))))
     (λ r. (r.node, (r.applied, (r.leadership, (r.moment, (r.leading, r.proposed))))))
     (λ (node, (applied, (leadership, (moment, (leading, proposed))))).
-      record { node = node; applied = applied; leadership = leadership; moment = moment; leading = leading; proposed = proposed }) (λ _. refl)
+    record { node = node; applied = applied; leadership = leadership; moment = moment; leading = leading; proposed = proposed }) (λ _. refl)

@@ -5,7 +5,7 @@ use Rattle.replica_entries.specs.Values.{EntryValue}
 use Rattle.replica_entries.specs.Views.{entry_value}
 use Rattle.coord_replica.specs.declared.applied.Applied.{Applied}
 use Rattle.coord_replica.specs.Applying.{AppliesBytes, AppliesEntry}
-use Rattle.coord_replica.specs.Replicas.{ReplicaState}
+use Rattle.coord_replica.specs.Replicas.{ReplicaState, replica_state}
 use Rattle.coord_replica.proofs.replica.Replica.apply.Goals as goal
 
 -- an entry that was read of the bytes, and applied
@@ -16,5 +16,5 @@ of_bytes (Err fault) old new e bytes before after spells applied = tt
 
 pub returns-clause-applied : goal.returns-clause-applied
 returns-clause-applied c =
-    of_bytes c.apply_entry.result c.args.self.now c.apply_entry.new.self (entry_value c.in_ok-entry.entry) c.args.bytes.now c.args.out.now.items
+    of_bytes c.apply_entry.result (replica_state c.args.self.now) (replica_state c.apply_entry.new.self) (entry_value c.in_ok-entry.entry) c.args.bytes.now c.args.out.now.items
     c.apply_entry.new.out.items c.in_ok-entry.ensures.found c.apply_entry.ensures.applied

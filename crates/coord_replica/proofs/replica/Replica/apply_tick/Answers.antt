@@ -3,17 +3,17 @@ use Rattle.coord_node.specs.Coordinator.{Done}
 use Rattle.replica_entries.specs.Values.{EntryValue, tick}
 use Rattle.coord_replica.specs.Applying.{checked}
 use Rattle.coord_replica.specs.ReplicaView.{replica_view}
-use Rattle.coord_replica.specs.Replicas.{LogState, ReplicaState}
+use Rattle.coord_replica.specs.Replicas.{LogState, ReplicaValue, log_of}
 use Rattle.coord_replica.proofs.Refusals.{checked-ok, refusal_of-due}
 use Rattle.coord_replica.proofs.replica.Replica.apply_tick.Goals as goal
 
 pub returns-clause-applied : goal.returns-clause-applied
 returns-clause-applied c =
-    let s : LogState = (replica_view c.self.inside).log in
+    let s : LogState = log_of (replica_view c.self.inside) in
     let e : EntryValue = record { leadership = c.args.leadership; content = tick c.args.moment } in
     let passed : (c.args.leadership ≡ c.self.inside.leadership) × (c.self.inside.moment ≤ c.args.moment) =
     checked-ok s c.args.leadership c.args.moment c.in_ok-check.field-0
-    (ap (λ (r : ReplicaState). checked r.log c.args.leadership c.args.moment) c.self.view_is ∙ sym c.check.ensures ∙ c.in_ok-check.was) in
+    (ap (λ (r : ReplicaValue). checked (log_of r) c.args.leadership c.args.moment) c.self.view_is ∙ sym c.check.ensures ∙ c.in_ok-check.was) in
     rw (← c.self.view_is)
     (λ bytes. record {
       answer = Some (Done c.tick-removed.result);
