@@ -1,6 +1,7 @@
 -- What a step of a shard does, and what a shard's entries come to: run through the machine from the opening state, they give the shard.
 use Rattle.std.specs.Prelude.{◌≡◌, ℕ, ◌+◌, ◌<◌, ◌≤◌, ◌==◌, List, [], All, if◌then◌else◌, map, length, count_by, slice_index, sum}
 use Rattle.coord_node.specs.Coordinator.{Coordinator, Answer, opening}
+use Rattle.coord_node.specs.Nodes.{coordinator_of}
 use Rattle.coord_node.specs.Steps.{Run, Step}
 use Rattle.coord_shards.specs.declared.shard.Entry.{Entry}
 use Rattle.coord_shards.specs.declared.shard.Shard.TheInside.{Inside}
@@ -42,4 +43,4 @@ pub record IsShard (s : ShardState) : Type 0 where
 -- a shard's fields as what contracts see of it
 abbrev pub shard_view : Inside → ShardState
 shard_view s =
-    record { number = s.number; shards = s.shards; salt = s.plan.salt; cap = s.plan.cap; present = s.node; kept = s.journal.items; counts = s.counts }
+    record { number = s.number; shards = s.shards; salt = s.plan.salt; cap = s.plan.cap; present = coordinator_of s.node; kept = s.journal.items; counts = s.counts }

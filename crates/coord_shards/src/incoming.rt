@@ -1,5 +1,6 @@
 //! Events on their way to a shard.
 ghost use Rattle.std.specs.Prelude.{◌≡◌, ◌<◌, IfOk, OnErr};
+ghost use Rattle.coord_node.specs.Nodes.{coordinator_of};
 ghost use Rattle.coord_node.specs.Steps.{Step};
 ghost use Rattle.coord_shards.specs.Home.{IsHome};
 ghost use Rattle.coord_shards.specs.Events.{node_event, event_of, Gives};
@@ -89,7 +90,7 @@ impl<'a> Incoming<'a> {
     /// changed.
     pub(crate) fn act(&self, node: &mut Node, out: &mut Vec<u8>) -> Result<Outcome, AllocError>
         ensures acts { IfOk result (λ outcome. Gives outcome out.old.items out.new.items
-            (λ given. Step node.old (node_event (event_of self.now)) given node.new)) }
+            (λ given. Step (coordinator_of node.old) (node_event (event_of self.now)) given (coordinator_of node.new))) }
         ensures err { OnErr result ((node.new ≡ node.old) × (out.new.items ≡ out.old.items)) }
     {
         match self {

@@ -1,5 +1,6 @@
 //! A node with its journal.
 ghost use Rattle.std.specs.Prelude.{◌≡◌, ◌↔◌, ◌<◌, ◌-◌, ◌^◌, IfOk, OnOk, OnErr, IsErr, IsTrue, slice_index, sum};
+ghost use Rattle.coord_node.specs.Nodes.{coordinator_of};
 ghost use Rattle.coord_shards.specs.Events.{event_of, Gives, UnlessRefused};
 ghost use Rattle.coord_shards.specs.Home.{IsHome};
 ghost use Rattle.coord_shards.specs.Shard.{kept_with};
@@ -93,7 +94,7 @@ impl Shard {
 
     /// The node as it is now.
     pub fn present(&self) -> &Node
-        ensures node { result.now ≡ self.now.present }
+        ensures node { coordinator_of result.now ≡ self.now.present }
         ensures replay { Replay self.now }
     {
         &self.node

@@ -10,6 +10,7 @@ use Rattle.std.specs.Str.{bytes_eq}
 use Rattle.std.proofs.lemmas.Str.{IsUtf8-from_ascii}
 use Rattle.std.proofs.lemmas.Str.Ascii.{IsAscii-cons}
 use Rattle.hex.specs.Hex.{decode_of}
+use Rattle.coord_node.specs.Nodes.{coordinator_of}
 use Rattle.scenario_text.specs.Lines.{fed}
 use Rattle.scenario_text.specs.Runs.{Prints}
 use Rattle.scenario_text.specs.Words.{IsLine, words_of}
@@ -37,7 +38,7 @@ request_line line digits bytes begins some spelled =
 
 -- a request that is answered is a line that is done
 pub request_done : (old new : Interpreter) (line digits before after : List ℕ) → line ≡ codes "req " ++ digits → digits ≢ []
-    → PrintsAnswer old.node digits (stamp_of old.stamps.given new.stamps.requests) old.now new.node before after
+    → PrintsAnswer (coordinator_of old.node) digits (stamp_of old.stamps.given new.stamps.requests) old.now (coordinator_of new.node) before after
     → new.stamps ≡ record { given = None; requests = one_more old.stamps.requests }
     → new ≡ record old { node = new.node; stamps = new.stamps }
     → Prints (DoesReplyLine old line new) before after
@@ -53,7 +54,7 @@ request_done old new line digits before after begins some prints counted kept =
           spelled = (digits, cut, prints.spelled);
           does = (
             prints.answer,
-            subst (λ (s : Stamps). BytesStep old.node prints.bytes (stamp_of old.stamps.given s.requests) old.now prints.answer new.node) counted prints.step,
+            subst (λ (s : Stamps). BytesStep (coordinator_of old.node) prints.bytes (stamp_of old.stamps.given s.requests) old.now prints.answer (coordinator_of new.node)) counted prints.step,
             kept ∙ ap (λ (s : Stamps). (let it : Interpreter = record old { node = new.node; stamps = s } in it)) counted,
             refl,
           );

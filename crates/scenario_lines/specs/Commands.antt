@@ -4,8 +4,9 @@ use Rattle.std.specs.declared.alloc.Global.{Global}
 use Rattle.hex.specs.Hex.{decode_of}
 use Rattle.group_types.specs.declared.stamp.Stamp.{Stamp}
 use Rattle.topic_meta.specs.Images.{Entry, topics_of}
-use Rattle.coord_node.specs.Coordinator.{Answer, opening}
+use Rattle.coord_node.specs.Coordinator.{Answer}
 use Rattle.coord_node.specs.Coordinator as coordinator
+use Rattle.coord_node.specs.Nodes.{coordinator_of, node_opening}
 use Rattle.coord_node.specs.Steps.{Step}
 use Rattle.scenario_lines.specs.declared.interpreter.Interpreter.{Interpreter}
 use Rattle.scenario_text.specs.Lines.{fed}
@@ -43,19 +44,19 @@ Does (Now moment) old new text = (new ≡ record old { now = moment }) × (text 
 Does (Stamped stamp) old new text = (new ≡ record old { stamps = record old.stamps { given = Some stamp } }) × (text ≡ [])
 Does (Request bytes) old new text =
     (answer : Answer)
-    × BytesStep old.node bytes (stamp_of old.stamps.given (one_more old.stamps.requests)) old.now answer new.node
+    × BytesStep (coordinator_of old.node) bytes (stamp_of old.stamps.given (one_more old.stamps.requests)) old.now answer (coordinator_of new.node)
     × (new ≡ record old { node = new.node; stamps = record { given = None; requests = one_more old.stamps.requests } })
     × (text ≡ fed (text_of answer))
 Does Tick old new text =
     (answer : Answer)
-    × Step old.node (coordinator.Tick old.now) answer new.node
+    × Step (coordinator_of old.node) (coordinator.Tick old.now) answer (coordinator_of new.node)
     × (new ≡ record old { node = new.node })
     × (text ≡ fed (text_of answer))
 
 -- before the first line: a node with no groups and no topics, whose salt is 0, at the moment 0, and no stamp given
 abbrev pub new_interpreter : Global → Interpreter
 new_interpreter alloc =
-    record { alloc = alloc; node = opening 0; now = 0; stamps = record { given = None; requests = 0 } }
+    record { alloc = alloc; node = node_opening 0; now = 0; stamps = record { given = None; requests = 0 } }
 
 -- words ask something, and it is done
 pub record DoesCommand (words : List (List ℕ)) (old new : Interpreter) (text : List ℕ) : Type 0 where

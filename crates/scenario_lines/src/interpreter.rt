@@ -1,6 +1,7 @@
 //! What the lines of `coord reply` do, each as one method.
 ghost use Rattle.std.specs.Prelude.{◌≡◌, ◌≢◌, [], ◌∷◌, ◌++◌, map, codes, IfErr, IfOk, OnOk, OnErr};
 ghost use Rattle.coord_node.specs.Coordinator.{Done};
+ghost use Rattle.coord_node.specs.Nodes.{coordinator_of};
 ghost use Rattle.scenario_text.specs.Lines.{fed};
 ghost use Rattle.scenario_lines.specs.Printing.{line_of};
 ghost use Rattle.scenario_lines.specs.Requests.{text_of};
@@ -160,8 +161,8 @@ impl Interpreter {
         reply: &mut Vec<u8>,
         output: &mut Output,
     ) -> Result<Did, LineFault>
-        ensures printed { OnOk result (PrintsAnswer self.old.node digits.now
-            (stamp_of self.old.stamps.given self.new.stamps.requests) self.old.now self.new.node output.old output.new) }
+        ensures printed { OnOk result (PrintsAnswer (coordinator_of self.old.node) digits.now
+            (stamp_of self.old.stamps.given self.new.stamps.requests) self.old.now (coordinator_of self.new.node) output.old output.new) }
         ensures counted { OnOk result (self.new.stamps
             ≡ record { given = None; requests = min (self.old.stamps.requests + 1) (2 ^ 64 - 1) }) }
         ensures err { OnErr result (output.new ≡ output.old) }
@@ -196,7 +197,7 @@ impl Interpreter {
         stamp: Stamp,
         reply: &mut Vec<u8>,
     ) -> Result<Answered, AllocError>
-        ensures answered { IfOk result (λ kind. AnswersBytes self.old.node frame.now stamp self.old.now kind self.new.node
+        ensures answered { IfOk result (λ kind. AnswersBytes (coordinator_of self.old.node) frame.now stamp self.old.now kind (coordinator_of self.new.node)
             reply.old.items reply.new.items) }
         ensures kept { self.new ≡ record self.old { node = self.new.node } }
     {

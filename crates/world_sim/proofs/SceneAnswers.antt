@@ -7,6 +7,7 @@ use Rattle.group_types.specs.Limits.{LARGEST_BODY}
 use Rattle.coord_node.specs.declared.event.Answered.{Answered}
 use Rattle.coord_node.specs.declared.event.Answered.TheVariants as kinds
 use Rattle.coord_node.specs.Coordinator.{Coordinator, Frame}
+use Rattle.coord_node.specs.Nodes.{coordinator_of}
 use Rattle.coord_node.specs.Answers as node
 use Rattle.member_core.specs.Asking.{header_of}
 use Rattle.member_core.specs.Committing.{commit_value}
@@ -35,7 +36,7 @@ module _ (one : OneRequestABody) (s : Scene) where
 
   module _ (keeps : Keeps w) (n : ℕ) (m : mail.Request) (pooled : numbered w.requests n ≡ Some (request_value m)) (c : Coordinator) (before after : List ℕ) where
     abbrev HasCome : Option Answered → Type 0
-    HasCome came = AnswersUnlessForgotten s.node m s.clock came c before after
+    HasCome came = AnswersUnlessForgotten (coordinator_of s.node) m s.clock came c before after
 
     abbrev q : Request
     q = request_value m
@@ -79,14 +80,14 @@ module _ (one : OneRequestABody) (s : Scene) where
   -- ---- a commit
 
   module _ (keeps : Keeps w) (n : ℕ) (k : Commit) (pooled : numbered s.commits.items n ≡ Some k) (small : length k.body ≤ LARGEST_BODY) (c : Coordinator) (before after : List ℕ) where
-    pub commit_answered : node.Answers s.node (Frame k.body no_stamp s.clock) kinds.Closes c before after → ⊥
+    pub commit_answered : node.Answers (coordinator_of s.node) (Frame k.body no_stamp s.clock) kinds.Closes c before after → ⊥
     commit_answered answers =
         let made = keeps.commits k (numbered_in s.commits.items n k pooled) in
         never_closed one w k (commit_request (header_of made.number) (commit_value k.group k.id k.epoch made.topics))
         (commit_is_request (header_of made.number) (commit_value k.group k.id k.epoch made.topics) k.body made.spells small) c before after answers
         (header_of made.number) (commit_value k.group k.id k.epoch made.topics) refl
 
-    pub commit_brought : before ≡ [] → node.Answers s.node (Frame k.body no_stamp s.clock) kinds.Replied c before after
+    pub commit_brought : before ≡ [] → node.Answers (coordinator_of s.node) (Frame k.body no_stamp s.clock) kinds.Replied c before after
         → (frame : List ℕ) → frame ≡ drop 4 after → Acted w (Bring n) (Ok (shows.Answered frame)) (record w { coordinator = c })
     commit_brought empty answers frame framed =
         let made = keeps.commits k (numbered_in s.commits.items n k pooled) in

@@ -4,6 +4,7 @@ use Rattle.std.proofs.lemmas.List.{set-get_or}
 use Rattle.group_types.proofs.Lookups.{not_none}
 use Rattle.member_core.specs.Client.{Client}
 use Rattle.coord_node.specs.Coordinator.{Coordinator}
+use Rattle.coord_node.specs.Nodes.{coordinator_of}
 use Rattle.world_sim.specs.declared.mail.Request as mail
 use Rattle.world_sim.specs.declared.mail.Reply as answer
 use Rattle.world_sim.specs.declared.scene.Scene.{Scene}
@@ -67,7 +68,7 @@ module _ (s : Scene) where
   pub same_world : (clients : List Client) → clients ≡ s.clients.items → record w { clients = clients } ≡ w
   same_world clients now = ap (λ (xs : List Client). record w { clients = xs }) now
 
-  pub same_node : (c : Coordinator) (replies : List answer.Reply) → c ≡ s.node → replies ≡ s.replies.items
+  pub same_node : (c : Coordinator) (replies : List answer.Reply) → c ≡ coordinator_of s.node → replies ≡ s.replies.items
       → record w { coordinator = c; replies = replies_of s.requests.items replies } ≡ w
   same_node c replies same kept = ap₂ (λ (n : Coordinator) (rs : List answer.Reply). record w { coordinator = n; replies = replies_of s.requests.items rs }) same kept
 

@@ -1,5 +1,6 @@
 -- What the code's scene is as a world.
 use Rattle.std.specs.Prelude.{◌≡◌, ℕ, ◌+◌, ◌<◌, length, slice_get, Some}
+use Rattle.coord_node.specs.Nodes.{coordinator_of}
 use Rattle.world_sim.specs.declared.mail.Reply as answer
 use Rattle.world_sim.specs.declared.scene.Scene.{Scene}
 use Rattle.world_sim.specs.World.{World}
@@ -8,7 +9,7 @@ use Rattle.world_sim.specs.Mail.{requests_of, reply_value, replies_of}
 abbrev pub scene_view : Scene → World
 scene_view s =
     record {
-      coordinator = s.node;
+      coordinator = coordinator_of s.node;
       clock = s.clock;
       clients = s.clients.items;
       requests = requests_of s.requests.items;

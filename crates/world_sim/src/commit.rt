@@ -2,6 +2,7 @@
 ghost use Rattle.std.specs.Prelude.{◌≡◌, [], IfOk, unwrap_or};
 ghost use Rattle.std.specs.Option.{option_copied};
 ghost use Rattle.group_types.specs.Sets.{common, nothing};
+ghost use Rattle.coord_node.specs.Nodes.{coordinator_of};
 ghost use Rattle.world_sim.specs.World.{cut, granted};
 
 use crate::frame::Frame;
@@ -72,7 +73,7 @@ impl Commit {
 
     /// Leaves of what has been granted since only what is granted still. Takes no memory.
     pub(crate) fn cut(&mut self, node: &Node)
-        ensures { self.new ≡ cut node.now self.old }
+        ensures { self.new ≡ cut (coordinator_of node.now) self.old }
     {
         match granted(node, self.group.as_str(), self.id.as_str()) {
             Some(set) => keep_common(&mut self.since, set),
@@ -93,7 +94,7 @@ fn keep_common(since: &mut PartSet, other: &PartSet)
 
 /// What an id is granted in a group: none, or the empty set, where that is nothing.
 fn granted<'a>(node: &'a Node, group: &str, id: &str) -> Option<&'a PartSet>
-    ensures { unwrap_or (option_copied result) nothing ≡ granted node.now group.now id.now }
+    ensures { unwrap_or (option_copied result) nothing ≡ granted (coordinator_of node.now) group.now id.now }
 {
     node.group(group)?.granted(id)
 }

@@ -1,6 +1,7 @@
 //! What a world is made of.
 ghost use Rattle.std.specs.Prelude.{◌≡◌, ◌⊎◌, ◌+◌, ◌<◌, [], map, MatchOption};
 ghost use Rattle.coord_node.specs.Coordinator.{opening};
+ghost use Rattle.coord_node.specs.Nodes.{coordinator_of};
 ghost use Rattle.world_sim.specs.World.{cut};
 ghost use Rattle.world_sim.specs.Mail.{AreNamed, AreSmall};
 
@@ -93,8 +94,8 @@ pub(crate) fn place_of(number: usize, count: usize) -> Option<usize>
 /// Leaves of each commit's `since` only what is granted still, after a tick that removed `removed` members: it takes back
 /// only what they held. Takes no memory.
 fn cut_after(commits: &mut Vec<Commit>, node: &Node, removed: usize)
-    requires { removed ≡ 0 → map (cut node.now) commits.old.items ≡ commits.old.items }
-    ensures { commits.new.items ≡ map (cut node.now) commits.old.items }
+    requires { removed ≡ 0 → map (cut (coordinator_of node.now)) commits.old.items ≡ commits.old.items }
+    ensures { commits.new.items ≡ map (cut (coordinator_of node.now)) commits.old.items }
 {
     if removed > 0 {
         cut_all(commits, node);
@@ -103,7 +104,7 @@ fn cut_after(commits: &mut Vec<Commit>, node: &Node, removed: usize)
 
 /// Leaves of each commit's `since` only what is granted still. Takes no memory.
 fn cut_all(commits: &mut Vec<Commit>, node: &Node)
-    ensures { commits.new.items ≡ map (cut node.now) commits.old.items }
+    ensures { commits.new.items ≡ map (cut (coordinator_of node.now)) commits.old.items }
 {
     for commit in commits.iter_mut() {
         commit.cut(node);

@@ -3,6 +3,7 @@ ghost use Rattle.std.specs.Prelude.{◌≡◌, ◌<◌, IfOk, IfSome, OnErr, vec
 ghost use Rattle.kip_msgs.specs.Values.{RequestValue};
 ghost use Rattle.kip_msgs.specs.Spelling.{SpellsRequest};
 ghost use Rattle.kip_msgs.specs.Views.{request_value};
+ghost use Rattle.coord_node.specs.Nodes.{coordinator_of};
 ghost use Rattle.world_sim.specs.Acts.{Deliver};
 ghost use Rattle.world_sim.specs.Acting.{Acted};
 ghost use Rattle.world_sim.specs.Invariant.{Keeps};
@@ -68,7 +69,7 @@ fn answer(
     out: &mut Vec<u8>,
 ) -> Result<Option<Answered>, AllocError>
     ensures came { IfOk result (λ came.
-        AnswersUnlessForgotten node.old request.now clock came node.new out.old.items out.new.items) }
+        AnswersUnlessForgotten (coordinator_of node.old) request.now clock came (coordinator_of node.new) out.old.items out.new.items) }
     ensures err { OnErr result (node.new ≡ node.old) }
     ensures replies { replies.new.items ≡ replies.old.items }
     ensures room { IfOk result (λ came. IfSome came (λ answered. vec_len replies.new < vec_capacity replies.new)) }
@@ -84,7 +85,7 @@ fn answer(
 
 /// Whether the body is a join under an id that its group doesn't remember.
 fn is_forgotten(node: &Node, body: &ParsedBody<'_>) -> bool
-    ensures { (v : RequestValue) → SpellsRequest v body.now → result ≡ joins_forgotten node.now v }
+    ensures { (v : RequestValue) → SpellsRequest v body.now → result ≡ joins_forgotten (coordinator_of node.now) v }
 {
     one_request_a_body();
     match body.request() {
@@ -96,7 +97,7 @@ fn is_forgotten(node: &Node, body: &ParsedBody<'_>) -> bool
 /// Whether the request is such a join.
 #[tactic(auto, using(crate::proofs::Forgotten::not_remembered))]
 fn joins_forgotten(node: &Node, message: &Message<'_>) -> bool
-    ensures { result ≡ joins_forgotten node.now (request_value message.now) }
+    ensures { result ≡ joins_forgotten (coordinator_of node.now) (request_value message.now) }
 {
     let Message::Heartbeat(_, v) = message else {
         return false;

@@ -1,6 +1,7 @@
 //! Rounds that settle everything.
 ghost use Rattle.std.specs.Prelude.{◌≡◌, ◌+◌, ◌<◌, ◌↔◌, IsTrue, OnOk, length, vec_len};
 ghost use Rattle.std.specs.Str.{bytes_eq};
+ghost use Rattle.coord_node.specs.Nodes.{coordinator_of};
 ghost use Rattle.world_sim.specs.Convergence.{CanSettle};
 ghost use Rattle.world_sim.specs.Fitting.{in_group, IsFit, IsFitIn, IsKnown};
 ghost use Rattle.world_sim.specs.Reached.{IsReached};
@@ -42,7 +43,7 @@ impl Scene {
 
     /// Whether a client and its group are fit for three rounds. Takes no memory.
     fn is_fit(&self, client: &Client) -> bool
-        ensures { IsTrue result ↔ IsFit self.now.node self.now.clients.items client.now }
+        ensures { IsTrue result ↔ IsFit (coordinator_of self.now.node) self.now.clients.items client.now }
     {
         if !client.is_idle() || client.requests() > MOST_REQUESTS {
             return false;

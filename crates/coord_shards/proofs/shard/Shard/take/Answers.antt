@@ -1,4 +1,5 @@
 use Rattle.std.proofs.Common.{◌≡◌, take, length, sym, subst, arith, ◌∙◌}
+use Rattle.coord_node.specs.Nodes.{coordinator_of}
 use Rattle.coord_shards.specs.declared.shard.Entry.{Entry}
 use Rattle.coord_shards.specs.Events.{event_of, IsGiven, Gives}
 use Rattle.coord_shards.specs.Home.{IsHome}
@@ -27,7 +28,7 @@ goes-on c =
     let yes = c.is_full.ensures.1 is_full in
     let no = c.if-is_full.false in
     cc) in
-    taken-is (IsGiven c.in-Ok.outcome c.args.out.now.items c.act.new.out.items) (shard_view c.self.inside) (entry_of c) c.act.new.node c.keep.new.journal.items
+    taken-is (IsGiven c.in-Ok.outcome c.args.out.now.items c.act.new.out.items) (shard_view c.self.inside) (entry_of c) (coordinator_of c.act.new.node) c.keep.new.journal.items
     c.requires.seat home room c.in-Ok.ensures.acts c.in_ok-keep.ensures.kept c.self.invariant
 
 pub invariant_of-self-in-Ok : goal.invariant_of-self-in-Ok
@@ -43,4 +44,4 @@ invariant_of-self-in-Err c =
     let len : c.len-kept.result ≡ length old.kept = omega (arith, c.len-kept.ensures, c.self.inside.journal.ok.0) in
     let kept : c.truncate.new.self.items ≡ old.kept =
     c.truncate.ensures.items ∙ (λ i. take (len i) (c.in_ok-keep.ensures.kept i)) ∙ take-kept_with old.cap old.kept _ in
-    subst IsShard (λ i. record old { present = sym c.in-Err.ensures.err.0 i; kept = sym kept i }) c.self.invariant
+    subst IsShard (λ i. record old { present = coordinator_of (sym c.in-Err.ensures.err.0 i); kept = sym kept i }) c.self.invariant

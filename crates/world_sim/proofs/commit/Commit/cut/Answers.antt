@@ -1,4 +1,5 @@
 use Rattle.std.proofs.Common.{◌≡◌, Bool, true, false, ◌&&◌, refl, sym, ap, ap₂, ◌∙◌, string_bytes}
+use Rattle.coord_node.specs.Nodes.{coordinator_of}
 use Rattle.group_types.specs.Sets.{nothing, common, has}
 use Rattle.group_types.specs.Partition.{Partitions, partition_cmp}
 use Rattle.group_types.proofs.Orders.{partition_cmp_total, partition_cmp-IsAntisymmetric}
@@ -18,6 +19,6 @@ common_nothing s =
 pub returns-in-None : goal.returns-in-None
 returns-in-None c =
     let k : Commit = record { body = c.self.inside.frame; group = string_bytes c.self.inside.group; id = string_bytes c.self.inside.id; epoch = c.self.inside.epoch; own = c.self.inside.own; since = c.self.inside.since } in
-    let none : nothing ≡ granted c.args.node.now k.group k.id = c.in-None.ensures ∙ ap₂ (λ g m. granted c.args.node.now g m) c.as_str.ensures.value c.as_str-2.ensures.value in
+    let none : nothing ≡ granted (coordinator_of c.args.node.now) k.group k.id = c.in-None.ensures ∙ ap₂ (λ g m. granted (coordinator_of c.args.node.now) g m) c.as_str.ensures.value c.as_str-2.ensures.value in
     ap (λ (s : Partitions). record k { since = s }) (c.clear.ensures ∙ sym (common_nothing k.since) ∙ ap (λ s. common k.since s) none)
-    ∙ ap (λ (x : Commit). cut c.args.node.now x) c.self.view_is
+    ∙ ap (λ (x : Commit). cut (coordinator_of c.args.node.now) x) c.self.view_is

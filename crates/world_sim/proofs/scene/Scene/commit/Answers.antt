@@ -1,5 +1,6 @@
 use Rattle.std.proofs.Common.{◌≡◌, ◌∙◌, ◌<◌, ◌≤◌, ◌+◌, ◌++◌, ◌∷◌, [], List, suc, length, map, ap, ap₂, sym, subst, refl, arith}
 use Rattle.std.proofs.lemmas.Result.{err_from_is_err_and}
+use Rattle.coord_node.specs.Nodes.{coordinator_of}
 use Rattle.world_sim.specs.World.{Commit}
 use Rattle.world_sim.specs.Scene.{scene_view}
 use Rattle.kip_msgs.specs.Views.{commit_request_topic_value}
@@ -66,7 +67,7 @@ invariant_of-self-2 c =
     let more = c.push_reserved.ensures.items ∙ ap₂ (λ (ks : List Commit) (x : Commit). ks ++ x ∷ []) c.reserve.ensures.items c.cut.ensures in
     record {
       named = s.named;
-      small = subst (λ (ks : List Commit). AreSmall ks) (sym more) (small_more s.commits.items (cut s.node k) s.small c.in_ok-commit.ensures.made.limit);
+      small = subst (λ (ks : List Commit). AreSmall ks) (sym more) (small_more s.commits.items (cut (coordinator_of s.node) k) s.small c.in_ok-commit.ensures.made.limit);
     }
 
 pub returns : goal.returns

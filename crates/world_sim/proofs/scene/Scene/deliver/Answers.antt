@@ -1,5 +1,6 @@
 use Rattle.std.proofs.Common.{◌∙◌, ◌++◌, ◌∷◌, ◌<◌, [], List, ap, length, refl, subst}
 use Rattle.std.proofs.lemmas.Result.{err_from_is_err_and}
+use Rattle.coord_node.specs.Nodes.{coordinator_of}
 use Rattle.world_sim.specs.declared.mail.Reply as answer
 use Rattle.world_sim.specs.Mail.{request_value}
 use Rattle.world_sim.specs.Scene.{scene_view}
@@ -18,15 +19,15 @@ returns-in_err-came c =
     let p = err_from_is_err_and c.from_residual.result c.from_residual.ensures.1 in
     let q = c.index-request.result.now in
     let (there, pooled) = request_at c.args.self.now.requests.items c.args.number c.in-Some.place _ q c.in-Some.ensures.0 c.in-Some.ensures.1 (ap length c.as_slice.ensures.value) c.index-request.ensures in
-    rw (p.1, p.2) ((request_value q, pooled), same_node c.args.self.now c.answer.new.node c.answer.new.replies.items c.in_err-came.ensures.err c.answer.ensures.replies)
+    rw (p.1, p.2) ((request_value q, pooled), same_node c.args.self.now (coordinator_of c.answer.new.node) c.answer.new.replies.items (ap coordinator_of c.in_err-came.ensures.err) c.answer.ensures.replies)
 
 pub returns-in_default-came : goal.returns-in_default-came
 returns-in_default-came c =
     let q = c.index-request.result.now in
     let (there, pooled) = request_at c.args.self.now.requests.items c.args.number c.in-Some.place _ q c.in-Some.ensures.0 c.in-Some.ensures.1 (ap length c.as_slice.ensures.value) c.index-request.ensures in
     let come = rw c.in_default-came.is at c.in_ok-came.ensures.came in (
-      answer_forgotten c.one_request_a_body.ensures c.args.self.now c.requires c.args.number q pooled c.answer.new.node c.new-out.result.items c.answer.new.out.items come,
-      same_node c.args.self.now c.answer.new.node c.answer.new.replies.items come.step c.answer.ensures.replies,
+      answer_forgotten c.one_request_a_body.ensures c.args.self.now c.requires c.args.number q pooled (coordinator_of c.answer.new.node) c.new-out.result.items c.answer.new.out.items come,
+      same_node c.args.self.now (coordinator_of c.answer.new.node) c.answer.new.replies.items come.step c.answer.ensures.replies,
     )
 
 pub returns-in-Closes : goal.returns-in-Closes
@@ -35,7 +36,7 @@ returns-in-Closes c =
     let (there, pooled) = request_at c.args.self.now.requests.items c.args.number c.in-Some.place _ q c.in-Some.ensures.0 c.in-Some.ensures.1 (ap length c.as_slice.ensures.value) c.index-request.ensures in
     let come = rw (c.in-Some-came.is, c.in-Closes.is) at c.in_ok-came.ensures.came in
     rw c.answer.ensures.replies
-    (answer_closes c.one_request_a_body.ensures c.args.self.now c.requires c.args.number q pooled c.answer.new.node c.new-out.result.items c.answer.new.out.items c.cut_all.new.commits.items c.cut_all.ensures come)
+    (answer_closes c.one_request_a_body.ensures c.args.self.now c.requires c.args.number q pooled (coordinator_of c.answer.new.node) c.new-out.result.items c.answer.new.out.items c.cut_all.new.commits.items c.cut_all.ensures come)
 
 pub returns-in-Replied : goal.returns-in-Replied
 returns-in-Replied c =
@@ -43,7 +44,7 @@ returns-in-Replied c =
     let (there, pooled) = request_at c.args.self.now.requests.items c.args.number c.in-Some.place _ q c.in-Some.ensures.0 c.in-Some.ensures.1 (ap length c.as_slice.ensures.value) c.index-request.ensures in
     let come = rw (c.in-Some-came.is, c.in-Replied.is) at c.in_ok-came.ensures.came in
     let r : answer.Reply = record { request = c.in-Some.place; frame = c.of.result } in
-    answer_kept c.one_request_a_body.ensures c.args.self.now c.requires c.args.number q pooled c.answer.new.node c.new-out.result.items c.answer.new.out.items c.cut_all.new.commits.items c.cut_all.ensures
+    answer_kept c.one_request_a_body.ensures c.args.self.now c.requires c.args.number q pooled (coordinator_of c.answer.new.node) c.new-out.result.items c.answer.new.out.items c.cut_all.new.commits.items c.cut_all.ensures
     come c.new-out.ensures.items r c.push_reserved.new.self.items c.len.result there c.of.ensures
     (c.push_reserved.ensures.items ∙ ap (λ (xs : List answer.Reply). xs ++ r ∷ []) c.answer.ensures.replies) (c.len.ensures ∙ c.push_reserved.new.self.ok.0)
 
@@ -57,7 +58,7 @@ pub invariant_of-self-in-Closes : goal.invariant_of-self-in-Closes
 invariant_of-self-in-Closes c =
     record {
       named = rw c.answer.ensures.replies c.args.self.now.named;
-      small = small_cut c.answer.new.node c.args.self.now.commits.items c.cut_all.new.commits.items c.args.self.now.small c.cut_all.ensures;
+      small = small_cut (coordinator_of c.answer.new.node) c.args.self.now.commits.items c.cut_all.new.commits.items c.args.self.now.small c.cut_all.ensures;
     }
 
 pub invariant_of-self-in-Replied : goal.invariant_of-self-in-Replied
@@ -66,5 +67,5 @@ invariant_of-self-in-Replied c =
     let one : answer.Reply = record { request = c.in-Some.place; frame = c.of.result } in
     record {
       named = rw (c.push_reserved.ensures.items, c.answer.ensures.replies) (named_more c.args.self.now.requests.items c.args.self.now.replies.items one c.args.self.now.named below);
-      small = small_cut c.answer.new.node c.args.self.now.commits.items c.cut_all.new.commits.items c.args.self.now.small c.cut_all.ensures;
+      small = small_cut (coordinator_of c.answer.new.node) c.args.self.now.commits.items c.cut_all.new.commits.items c.args.self.now.small c.cut_all.ensures;
     }

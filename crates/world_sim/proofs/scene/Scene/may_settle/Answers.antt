@@ -1,4 +1,5 @@
 use Rattle.std.proofs.Common.{◌<◌, ◌≤◌, suc, length, refl, sym, ◌∙◌, true≢false, arith}
+use Rattle.coord_node.specs.Nodes.{coordinator_of}
 use Rattle.member_core.specs.Client.{Client}
 use Rattle.world_sim.specs.Fitting.{IsFit}
 use Rattle.world_sim.specs.Invariant.{Keeps}
@@ -25,7 +26,7 @@ loop-place-preserved c =
     let s = c.args.self.now in
     let below : c.loop-place.place < length s.clients.items = omega (arith, c.loop-place-test.true, c.len-place-end.ensures, s.clients.ok.0) in
     let here = indexed s.clients.items c.loop-place.place c.index.result.now below c.index.ensures in
-    one_more_fit (λ (x : Client). IsFit s.node s.clients.items x) s.clients.items c.loop-place.place c.index.result.now here (c.is_fit.ensures.0 c.if-not-is_fit.false) c.loop-place.invariant
+    one_more_fit (λ (x : Client). IsFit (coordinator_of s.node) s.clients.items x) s.clients.items c.loop-place.place c.index.result.now here (c.is_fit.ensures.0 c.if-not-is_fit.false) c.loop-place.invariant
 
 pub returns : goal.returns
 returns c =
