@@ -8,6 +8,7 @@ use Rattle.std.proofs.lemmas.Bool.{ltb-false}
 use Rattle.std.specs.List.{flat_map}
 use Rattle.std.proofs.lemmas.Grind.{flat_map-append}
 use lib.Signed.{lt_z}
+use borrow.Rule.Slice.PartMut.{put_mid}
 use Rattle.flex_wire.specs.Spelling.{int32, signed}
 use Rattle.group_types.specs.Limits.{SMALLEST_BODY, LARGEST_BODY}
 use Rattle.link_futures.specs.Next.{IsFront}
@@ -34,6 +35,13 @@ front_is bytes rest size e least most there =
 pub take-append_read : (front back : List ℕ) (n k : ℕ) → length front ≡ n → take (n + k) (front ++ back) ≡ front ++ take k back
 take-append_read front back n k len =
     take-add n k (front ++ back) ∙ rw (take_at front back n len, drop_at front back n len) refl
+
+-- what was read behind others, where a slice of the bytes was lent
+pub take-read_behind : (all read : List ℕ) (before size count : ℕ) → before ≤ length all → count ≤ length read
+    → take (before + count) (put_mid before size all read) ≡ take before all ++ take count read
+take-read_behind all read before size count within fits =
+    take-append_read (take before all) (read ++ drop size (drop before all)) before count (length-take-le before all within)
+    ∙ ap (λ bytes. take before all ++ bytes) (take-append-le count read (drop size (drop before all)) fits)
 
 in_range : (largest : ℕ) (z : ℤ) → lt_z z (pos 1) ≡ false → lt_z (pos largest) z ≡ false → (z ≡ pos (nat_abs z)) × (1 ≤ nat_abs z) × (nat_abs z ≤ largest)
 in_range largest (pos n) least most = (refl, ltb-false n 1 least, ltb-false largest n most)

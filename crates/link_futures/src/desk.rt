@@ -1,5 +1,5 @@
 //! What answers the frames of lines.
-ghost use Rattle.std.specs.Prelude.{ℕ, List, ⊤};
+ghost use Rattle.std.specs.Prelude.{ℕ, List};
 ghost use Rattle.group_types.specs.declared.stamp.Stamp.{Stamp};
 ghost use Rattle.coord_node.specs.Coordinator.{Answer};
 ghost use Rattle.link_futures.specs.Desks.{Gives};

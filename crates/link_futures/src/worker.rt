@@ -1,8 +1,7 @@
 //! Many lines over one desk.
-ghost use Rattle.std.specs.Prelude.{◌≡◌, ◌≢◌, ◌+◌, ◌-◌, ◌<◌, ◌^◌, ℕ, false, [], All, slice_index_or, vec_len};
+ghost use Rattle.std.specs.Prelude.{◌≡◌, ◌≢◌, ◌+◌, ◌-◌, ◌<◌, ◌^◌, ℕ, false, [], slice_index_or, vec_len};
 ghost use Rattle.futures.specs.Task.{Covers, Keeps};
 ghost use Rattle.futures.specs.Runs.{EndsIf};
-ghost use Rattle.link_futures.specs.Stream.{LineNeeds};
 ghost use Rattle.link_futures.specs.Resting.{RestingNeed};
 ghost use Rattle.link_futures.specs.Workers.{AreArmedBut};
 

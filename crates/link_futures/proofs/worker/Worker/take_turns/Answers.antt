@@ -1,4 +1,5 @@
 use Rattle.std.proofs.Common.{inl, inr, ⊎_elim, refl, arith}
+use Rattle.futures.specs.Runs.{EndsIf}
 use Rattle.link_futures.proofs.WorkerLemmas.{AreArmed-waits, AreArmed-goes_on, AreArmed-ends, AreArmed-all}
 use Rattle.link_futures.proofs.GivesLemmas.{turned, turned_out, contains_set_left, gives_set, gives_removed}
 use Rattle.link_futures.proofs.worker.Worker.take_turns.Goals as goal
@@ -27,8 +28,8 @@ loop-place-preserved-in-Waits g c =
       kept.4,
       λ n gives.
           kept.5 n
-          (gives_set g.R.AsyncRead.reads g.R.AsyncRead.is_at_end g.R.ReadPart.faults g.W.AsyncWrite.writes g.W.WriteParts.faults g.W.WriteParts.stalls g.D.Desk.answers _ lines place c.index_mut.result.now c.step.new.self _ _ _ n (omega arith) c.index_mut.ensures.value
-          (turned g.R.AsyncRead.reads g.R.AsyncRead.is_at_end g.R.ReadPart.faults g.W.AsyncWrite.writes g.W.WriteParts.faults g.W.WriteParts.stalls g.D.Desk.answers g.met.R.AsyncRead.reads_in_order g.met.W.AsyncWrite.writes_in_order c.index_mut.result.now c.step.new.self _ _ stream.1 c.in-Waits.ensures.goes_on) gives),
+          (gives_set g.R.AsyncRead.reads g.R.AsyncRead.is_at_end g.R.ReadPart.faults g.W.AsyncWrite.writes g.W.WriteParts.faults g.W.WriteParts.stalls g.D.Desk.answers (EndsIf c.loop-place.self.is_closed (g.A.Stream.yields c.loop-place.self.arrivals)) lines place c.index_mut.result.now c.step.new.self c.loop-place.self.resting.lines c.loop-place.self.resting.count c.loop-place.self.ended n (omega arith) c.index_mut.ensures.value
+          (turned g.R.AsyncRead.reads g.R.AsyncRead.is_at_end g.R.ReadPart.faults g.W.AsyncWrite.writes g.W.WriteParts.faults g.W.WriteParts.stalls g.D.Desk.answers g.met.R.AsyncRead.reads_in_order g.met.W.AsyncWrite.writes_in_order c.index_mut.result.now c.step.new.self c.loop-place.self.desk stream.0 stream.1 c.in-Waits.ensures.goes_on) gives),
     )
 
 pub loop-place-preserved-in-GoesOn : goal.loop-place-preserved-in-GoesOn
@@ -45,8 +46,8 @@ loop-place-preserved-in-GoesOn g c =
       kept.4,
       λ n gives.
           kept.5 n
-          (gives_set g.R.AsyncRead.reads g.R.AsyncRead.is_at_end g.R.ReadPart.faults g.W.AsyncWrite.writes g.W.WriteParts.faults g.W.WriteParts.stalls g.D.Desk.answers _ lines place c.index_mut.result.now c.step.new.self _ _ _ n (omega arith) c.index_mut.ensures.value
-          (turned g.R.AsyncRead.reads g.R.AsyncRead.is_at_end g.R.ReadPart.faults g.W.AsyncWrite.writes g.W.WriteParts.faults g.W.WriteParts.stalls g.D.Desk.answers g.met.R.AsyncRead.reads_in_order g.met.W.AsyncWrite.writes_in_order c.index_mut.result.now c.step.new.self _ _ stream.1 c.in-GoesOn.ensures.goes_on) gives),
+          (gives_set g.R.AsyncRead.reads g.R.AsyncRead.is_at_end g.R.ReadPart.faults g.W.AsyncWrite.writes g.W.WriteParts.faults g.W.WriteParts.stalls g.D.Desk.answers (EndsIf c.loop-place.self.is_closed (g.A.Stream.yields c.loop-place.self.arrivals)) lines place c.index_mut.result.now c.step.new.self c.loop-place.self.resting.lines c.loop-place.self.resting.count c.loop-place.self.ended n (omega arith) c.index_mut.ensures.value
+          (turned g.R.AsyncRead.reads g.R.AsyncRead.is_at_end g.R.ReadPart.faults g.W.AsyncWrite.writes g.W.WriteParts.faults g.W.WriteParts.stalls g.D.Desk.answers g.met.R.AsyncRead.reads_in_order g.met.W.AsyncWrite.writes_in_order c.index_mut.result.now c.step.new.self c.loop-place.self.desk stream.0 stream.1 c.in-GoesOn.ensures.goes_on) gives),
     )
 
 pub loop-place-preserved : goal.loop-place-preserved
@@ -65,9 +66,9 @@ loop-place-preserved g c =
       kept.4,
       λ given gives.
           kept.5 given
-          (gives_removed g.R.AsyncRead.reads g.R.AsyncRead.is_at_end g.R.ReadPart.faults g.W.AsyncWrite.writes g.W.WriteParts.faults g.W.WriteParts.stalls g.D.Desk.answers _ lines left place c.index_mut.result.now _ _ _ _ given _ (omega arith) c.index_mut.ensures.value (omega arith)
+          (gives_removed g.R.AsyncRead.reads g.R.AsyncRead.is_at_end g.R.ReadPart.faults g.W.AsyncWrite.writes g.W.WriteParts.faults g.W.WriteParts.stalls g.D.Desk.answers (EndsIf c.loop-place.self.is_closed (g.A.Stream.yields c.loop-place.self.arrivals)) lines left place c.index_mut.result.now c.loop-place.self.resting.lines c.loop-place.self.resting.count c.loop-place.self.ended c.saturating_add-self.result given _ (omega arith) c.index_mut.ensures.value (omega arith)
           (λ other. contains_set_left lines left n place c.step.new.self other (omega arith) (omega arith) c.drop_line.ensures.last c.drop_line.ensures.others)
-          (turned_out g.R.AsyncRead.reads g.R.AsyncRead.is_at_end g.R.ReadPart.faults g.W.AsyncWrite.writes g.W.WriteParts.faults g.W.WriteParts.stalls g.D.Desk.answers c.index_mut.result.now c.step.new.self _ _ _ stream.1 c.in-Ends.ensures.ends) c.saturating_add-self.ensures gives),
+          (turned_out g.R.AsyncRead.reads g.R.AsyncRead.is_at_end g.R.ReadPart.faults g.W.AsyncWrite.writes g.W.WriteParts.faults g.W.WriteParts.stalls g.D.Desk.answers c.index_mut.result.now c.step.new.self c.loop-place.self.desk stream.0 _ stream.1 c.in-Ends.ensures.ends) c.saturating_add-self.ensures gives),
     )
 
 pub returns-else-place-len-clause-armed : goal.returns-else-place-len-clause-armed
