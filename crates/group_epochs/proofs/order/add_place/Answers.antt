@@ -1,8 +1,6 @@
-use Rattle.std.proofs.Common.{[], ◌∷◌, ◌++◌, subst, sym, ap, ◌∙◌}
-use Rattle.std.specs.List.{insert}
+use Rattle.std.proofs.Common.{sym, ◌∙◌}
 use Rattle.std.specs.Option.{option_copied}
 use Rattle.std.proofs.Math.ListN.{length-map}
-use Rattle.group_types.specs.Places.{IsOrder}
 use Rattle.group_epochs.specs.Table.{Key, key_cmp, key_of, keys_in, no_key}
 use Rattle.group_epochs.proofs.Keys.{key_absent, key_cmp_total, key_cmp-IsAntisymmetric}
 use Rattle.group_types.proofs.Ordered.{no_rank, order_with}
@@ -20,6 +18,5 @@ unreachable-requires c =
 pub returns : goal.returns
 returns c =
     let rows = c.args.members.now.entries in
-    let key : Key = (option_copied c.args.instance, c.args.id.now) in
-    subst (IsOrder key_cmp no_key (keys_in rows ++ key ∷ [])) (sym (c.in-Ok.ensures.items ∙ ap (insert c.args.places.now.items c.in-Err.rank) (c.len.ensures.len ∙ sym (length-map rows key_of))))
-    (order_with key_cmp key_cmp_total key_cmp-IsAntisymmetric no_key (keys_in rows) c.args.places.now.items key c.requires.order c.in-Err.rank c.in-Err.ensures)
+    rw (c.in-Ok.ensures.items, c.len.ensures.len ∙ sym (length-map rows key_of))
+    (order_with key_cmp key_cmp_total key_cmp-IsAntisymmetric no_key (keys_in rows) c.args.places.now.items _ c.requires.order c.in-Err.rank c.in-Err.ensures)

@@ -1,6 +1,6 @@
-use Rattle.std.proofs.Common.{◌≡◌, ◌≢◌, ◌<◌, ℕ, List, Err, Ok, length, get_or, set, ap, arith, refl, subst, sym, ◌∙◌}
+use Rattle.std.proofs.Common.{◌≡◌, ◌≢◌, ◌<◌, ℕ, List, Ok, length, get_or, set, ap, arith, refl, subst, sym, ◌∙◌}
 use Rattle.std.specs.Prelude.{string_bytes}
-use Rattle.std.specs.List.{AllByRecursion, insert, remove}
+use Rattle.std.specs.List.{AllByRecursion, remove}
 use Rattle.std.specs.List.Sorted.{IsStrictlySortedBy}
 use Rattle.std.specs.Map.{keys_of}
 use Rattle.std.specs.Option.{option_copied}
@@ -91,13 +91,8 @@ returns c =
     let r = c.rank_of_place-rank.result in
     let row = row_there rows p c.in-Some.ensures.within in
     let found = position-Some (λ k. bytes_eq c.args.id.now (string_bytes k)) (keys_of rows) p row.0.0 (sym c.in-Some.ensures.index) in
-    let k : Key = (c.args.record.now.instance, c.args.id.now) in
     let within = slice_get_within places r p c.rank_of_place-rank.ensures in
     let removed : c.remove.new.self.items ≡ remove places r = of_some c.remove.result (c.remove.ensures.variant.1 (omega (arith, within, c.args.places.now.ok))) c.remove.ensures.items in
-    let rank : IsRankIn key_cmp no_key keys (remove places r) k (Err c.in-Err.rank) =
-    subst (λ ps. IsRankIn key_cmp no_key keys ps k (Err c.in-Err.rank)) removed
-    (subst (λ i. IsRankIn key_cmp no_key keys c.remove.new.self.items (i, c.args.id.now) (Err c.in-Err.rank)) c.instance.ensures c.in-Err.ensures) in
-    subst (λ ks. IsOrder key_cmp no_key ks c.insert.new.self.items) (sym (rekeyed_set c.args.id.now c.args.record.now.instance rows p row.0.0 c.in-Some.ensures.within found.1 found.2))
-    (subst (IsOrder key_cmp no_key (set keys p k)) (sym (c.in-Ok.ensures.items ∙ ap (λ ps. insert ps c.in-Err.rank p) removed))
+    rw (rekeyed_set c.args.id.now c.args.record.now.instance rows p row.0.0 c.in-Some.ensures.within found.1 found.2, c.in-Ok.ensures.items, removed)
     (order_moved key_cmp key_cmp_total key_cmp-IsAntisymmetric no_key keys places c.requires.order (distinct_keys_in rows (distinct_in rows c.requires.distinct)) r p (key_at no_key keys p) within
-    (sym (get_or_from_slice_get places r p 0 c.rank_of_place-rank.ensures)) refl k c.in-Err.rank rank))
+    (sym (get_or_from_slice_get places r p 0 c.rank_of_place-rank.ensures)) refl _ c.in-Err.rank (rw (removed, c.instance.ensures) at c.in-Err.ensures))

@@ -1,8 +1,7 @@
-use Rattle.std.proofs.Common.{[], ◌∷◌, ◌++◌, subst, sym, ap, ◌∙◌}
-use Rattle.std.specs.List.{insert}
+use Rattle.std.proofs.Common.{[], sym, ◌∙◌}
 use Rattle.group_types.specs.Text.{text_cmp}
 use Rattle.group_types.proofs.Orders.{text_cmp_total, text_cmp-IsAntisymmetric}
-use Rattle.group_epochs.specs.Table.{IsIdOrder, texts_in}
+use Rattle.group_epochs.specs.Table.{texts_in}
 use Rattle.group_types.proofs.Ordered.{no_rank, order_with}
 use Rattle.group_epochs.proofs.Rows.{length-texts_in}
 use Rattle.group_epochs.proofs.table.add_rank.Goals as goal
@@ -14,7 +13,5 @@ unreachable-requires c =
 pub returns : goal.returns
 returns c =
     let rows = c.args.members.now.entries in
-    let texts = texts_in rows in
-    let places = c.args.by_id.now.items in
-    subst (IsIdOrder (texts ++ c.args.id.now ∷ [])) (sym (c.in-Ok.ensures.items ∙ ap (insert places c.in-Err.rank) (c.len.ensures.len ∙ sym (length-texts_in rows))))
-    (order_with text_cmp text_cmp_total text_cmp-IsAntisymmetric [] texts places c.args.id.now c.requires.order c.in-Err.rank c.in-Err.ensures)
+    rw (c.in-Ok.ensures.items, c.len.ensures.len ∙ sym (length-texts_in rows))
+    (order_with text_cmp text_cmp_total text_cmp-IsAntisymmetric [] (texts_in rows) c.args.by_id.now.items c.args.id.now c.requires.order c.in-Err.rank c.in-Err.ensures)
