@@ -12,7 +12,7 @@ use Rattle.group_types.specs.Renewal.{AreMembers}
 use Rattle.range_assign.specs.Members.{subscriber_of, subscribers_in}
 use Rattle.group_epochs.specs.Records.{RecordsState}
 use Rattle.group_epochs.specs.Table.{IsSplitAt, keys_in, other_places, rows_at, seen_of}
-use Rattle.group_epochs.proofs.Around.{apart_around, around_listed, listed_around, sorted_around}
+use Rattle.group_epochs.proofs.Around.{apart_around, listed_around, sorted_around}
 use Rattle.group_epochs.proofs.Listed.{listed}
 use Rattle.group_epochs.proofs.Others.{members_move}
 use Rattle.group_epochs.proofs.Ranked.{all_in_member_order, ordered_distinct, ordered_named, records_alike}
@@ -34,7 +34,7 @@ in_order-requires-clause-sorted c =
     c.get_index_of-own.ensures.found ∙ ap (λ t. is_some (lookup (λ k. bytes_eq t (string_bytes k)) all)) c.as_str.ensures.value in
     let split : IsSplitAt (keys_in all) places (r.instance, id) front back =
     subst (λ k. IsSplitAt (keys_in all) places k front back) (λ i. (c.instance.ensures i, c.as_str-2.ensures.value i)) c.around.ensures in
-    let listed_so = around_listed all table.distinct table.named id own own_is there places front back c.self.invariant.member_order r split in
+    let listed_so = map seen_of (rows_at all (other_places own front)) ++ renewal.subscriber_of (id, r) ∷ map seen_of (rows_at all (other_places own back)) in
     let pushed : subscribers_in c.push.new.self.items ≡ map seen_of (rows_at all (other_places own front)) ++ renewal.subscriber_of (id, r) ∷ [] =
     ap subscribers_in c.in_ok-push.ensures.items
     ∙ map-append subscriber_of c.add_others.new.subscribers.items (c.as_subscriber.result ∷ [])
@@ -61,7 +61,7 @@ in_order-requires-clause-apart c =
     c.get_index_of-own.ensures.found ∙ ap (λ t. is_some (lookup (λ k. bytes_eq t (string_bytes k)) all)) c.as_str.ensures.value in
     let split : IsSplitAt (keys_in all) places (r.instance, id) front back =
     subst (λ k. IsSplitAt (keys_in all) places k front back) (λ i. (c.instance.ensures i, c.as_str-2.ensures.value i)) c.around.ensures in
-    let listed_so = around_listed all table.distinct table.named id own own_is there places front back c.self.invariant.member_order r split in
+    let listed_so = map seen_of (rows_at all (other_places own front)) ++ renewal.subscriber_of (id, r) ∷ map seen_of (rows_at all (other_places own back)) in
     let pushed : subscribers_in c.push.new.self.items ≡ map seen_of (rows_at all (other_places own front)) ++ renewal.subscriber_of (id, r) ∷ [] =
     ap subscribers_in c.in_ok-push.ensures.items
     ∙ map-append subscriber_of c.add_others.new.subscribers.items (c.as_subscriber.result ∷ [])
@@ -88,7 +88,7 @@ returns c =
     c.get_index_of-own.ensures.found ∙ ap (λ t. is_some (lookup (λ k. bytes_eq t (string_bytes k)) all)) c.as_str.ensures.value in
     let split : IsSplitAt (keys_in all) places (r.instance, id) front back =
     subst (λ k. IsSplitAt (keys_in all) places k front back) (λ i. (c.instance.ensures i, c.as_str-2.ensures.value i)) c.around.ensures in
-    let listed_so = around_listed all table.distinct table.named id own own_is there places front back c.self.invariant.member_order r split in
+    let listed_so = map seen_of (rows_at all (other_places own front)) ++ renewal.subscriber_of (id, r) ∷ map seen_of (rows_at all (other_places own back)) in
     let pushed : subscribers_in c.push.new.self.items ≡ map seen_of (rows_at all (other_places own front)) ++ renewal.subscriber_of (id, r) ∷ [] =
     ap subscribers_in c.in_ok-push.ensures.items
     ∙ map-append subscriber_of c.add_others.new.subscribers.items (c.as_subscriber.result ∷ [])
