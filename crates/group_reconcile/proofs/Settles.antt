@@ -8,7 +8,7 @@ use Rattle.slab.specs.Slab.{get}
 use Rattle.group_types.specs.declared.partition.Partition.{Partition}
 use Rattle.group_types.specs.Text.{Text, text_cmp}
 use Rattle.group_types.specs.Sets.{nothing, has}
-use Rattle.group_types.specs.Partition.{Partitions, partition_cmp}
+use Rattle.group_types.specs.Partition.{Partitions}
 use Rattle.group_types.proofs.Lookups.{some_is}
 use Rattle.group_types.proofs.Orders.{partition_cmp_total, partition_cmp-IsAntisymmetric}
 use Rattle.group_reconcile.specs.declared.cell.Cell.{Cell}
