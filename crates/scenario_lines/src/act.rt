@@ -1,5 +1,5 @@
 //! Which act a line of a script asks for.
-ghost use Rattle.std.specs.Prelude.{◌≡◌, ◌∷◌, [], ℕ, pos, map, IfOk, OnErr, IfErr};
+ghost use Rattle.std.specs.Prelude.{◌≡◌, ℕ, pos, map, IfOk, OnErr, IfErr};
 ghost use Rattle.std.specs.Prelude.{◌≢◌};
 ghost use Rattle.kip_msgs.specs.Views.{commit_request_topic_value};
 ghost use Rattle.member_core.specs.Asking.{Fullness};

@@ -1,5 +1,5 @@
 //! The settings of a client of a script.
-ghost use Rattle.std.specs.Prelude.{◌≡◌, ◌≢◌, ◌↔◌, List, ℕ, Option, [], map, string_bytes, All, IsTrue, IfOk, IfErr, OnErr};
+ghost use Rattle.std.specs.Prelude.{◌≡◌, ◌≢◌, ◌↔◌, List, ℕ, Option, [], map, string_bytes, All, IsTrue, IfOk, OnErr};
 ghost use Rattle.std.specs.List.{slice_split};
 ghost use Rattle.std.specs.Option.{option_map};
 ghost use Rattle.member_core.specs.Settings.{Settings as Known};
