@@ -182,10 +182,10 @@ int32_t migwelun_committed(migwelun_slot *slot, const uint8_t *group, size_t gro
 int32_t migwelun_make_replica(migwelun_slot *slot, uint64_t salt, const uint8_t keys[16]);
 
 /*
- * Makes a replica in an empty slot of a snapshot, `length` bytes, all parts of migwelun_snapshot one behind the other: it has applied
- * just what the replica had that was written, and doesn't lead; its own snapshot has the same bytes. Apply the log from the place behind
- * it on. The keys are as in migwelun_make. Whatever the bytes are, the replica is sound, or there is none; but take snapshots from where you put them: a few
- * bytes of somebody else can ask for much memory.
+ * Makes a replica in an empty slot of a snapshot, `length` bytes, all parts of migwelun_snapshot one behind the other: it has applied just
+ * what the replica had that was written, and doesn't lead; its own snapshot has the same bytes. Apply the log from the place behind it on.
+ * The keys are as in migwelun_make. Whatever the bytes are, the replica is sound, or there is none; but take snapshots from where you put
+ * them: a few bytes of somebody else can ask for much memory.
  *
  * Returns DONE; FULL, and the slot is as it was; 31 to 34, and the number of the byte that is wrong is in `at`; or NO_MEMORY. Unless it is
  * DONE or FULL, the slot is empty. migwelun_drop frees it.
