@@ -1,5 +1,5 @@
 //! A future with a thread and an event loop of its own.
-ghost use Rattle.std.specs.Prelude.{◌≡◌, IfOk, IfSome, Ok};
+ghost use Rattle.std.specs.Prelude.{IfOk, IfSome, Ok};
 ghost use Rattle.coord_server.specs.Ends.{EndsAs};
 ghost use Rattle.coord_server.specs.Resumes.{on_each};
 

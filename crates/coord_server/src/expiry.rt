@@ -1,5 +1,5 @@
 //! Who lets the time of the shards go on.
-ghost use Rattle.std.specs.Prelude.{◌≡◌, ◌⊎◌, ◌+◌, ◌<◌, ◌≤◌, ◌↔◌, ◌*◌, ℕ, IsTrue, IfOk, IsErr};
+ghost use Rattle.std.specs.Prelude.{◌≡◌, ◌⊎◌, ◌+◌, ◌<◌, ◌↔◌, ◌*◌, ℕ, IsTrue, IfOk, IsErr};
 ghost use Rattle.std.specs.Duration.{as_nanos};
 ghost use Rattle.futures.specs.Task.{Covers, Keeps};
 ghost use Rattle.futures.specs.Poll.{IfReady, OnPending};

@@ -1,4 +1,4 @@
-use Rattle.std.proofs.Common.{◌∙◌, refl, arith}
+use Rattle.std.proofs.Common.{refl, arith}
 use Rattle.coord_server.proofs.DeskLemmas.{next_told, none_told}
 use Rattle.coord_server.proofs.desk.ShardsDesk.set_image.Goals as goal
 
@@ -12,6 +12,6 @@ loop-shard-preserved g c =
     let below = c.loop-shard-test.true in
     let many = c.shards-shard-end.ensures.number in (
       next_told _ _ _ c.loop-shard.shard _ c.loop-shard.self.seat _ given (λ i. (desk i).shards.now) told taken,
-      c.in_ok-tell.ensures.others ∙ (λ i. record (desk i) { seat = c.tell.new.self.seat }),
+      rw desk at c.in_ok-tell.ensures.others,
       omega arith,
     )

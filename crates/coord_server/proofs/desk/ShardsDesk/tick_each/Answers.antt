@@ -1,4 +1,4 @@
-use Rattle.std.proofs.Common.{◌∙◌, refl}
+use Rattle.std.proofs.Common.{refl}
 use Rattle.coord_server.proofs.DeskLemmas.{next_called, none_called}
 use Rattle.coord_server.proofs.desk.ShardsDesk.tick_each.Goals as goal
 
@@ -9,5 +9,5 @@ pub loop-shard-preserved : goal.loop-shard-preserved
 loop-shard-preserved g c =
     let desk = c.loop-shard.invariant.1 in (
       next_called _ _ _ c.loop-shard.shard _ c.loop-shard.self.seat _ c.call.result (λ i. (desk i).shards.now) c.loop-shard.invariant.0 c.call.ensures.call,
-      c.call.ensures.others ∙ (λ i. record (desk i) { seat = c.call.new.self.seat }),
+      rw desk at c.call.ensures.others,
     )
