@@ -1,5 +1,5 @@
 -- A snapshot's bytes, and its parts.
-use Rattle.std.proofs.Common.{◌≡◌, ℕ, ◌+◌, ◌-◌, ◌<◌, ◌≤◌, List, [], ◌++◌, length, take, drop, sym, ap, ◌∙◌, inl, inr, append_assoc, arith}
+use Rattle.std.proofs.Common.{◌≡◌, ℕ, ◌+◌, ◌-◌, ◌<◌, ◌≤◌, None, List, [], ◌++◌, length, take, drop, sym, ap, ◌∙◌, inl, inr, append_assoc, arith}
 use Rattle.std.specs.Prelude.{if◌then◌else◌}
 use Rattle.std.specs.FinMap as finite
 use Rattle.std.specs.List.{flat_map}
@@ -14,7 +14,7 @@ use Rattle.replica_snapshots.specs.Places.{PlaceValue, place_fields}
 use Rattle.replica_snapshots.proofs.GroupLaws.{node_begins}
 use Rattle.replica_snapshots.proofs.PlaceLaws.{place_begins}
 use Rattle.replica_snapshots.proofs.SectionLaws.{sections_make_the_node}
-use Rattle.coord_replica.specs.Laws.{AllPartsAreTheSnapshot, OneStateASnapshot, PartsFollow, RestoredIsWrittenTheSame, SectionsMakeASnapshot}
+use Rattle.coord_replica.specs.Laws.{AllPartsAreTheSnapshot, OneStateASnapshot, PartsFollow, RestoredFollowsTheLog, RestoredIsWrittenTheSame, SectionsMakeASnapshot}
 use Rattle.coord_replica.specs.Replicas.{ReplicaValue}
 use Rattle.coord_replica.specs.Snapshots.{FitsSnapshot, SnapshotValue, in_front, place_of, snapshot_fields, snapshot_of}
 
@@ -68,6 +68,21 @@ sections_make s v is fits all =
       };
       spelled = all_parts v;
       of = is;
+    }
+
+-- ---- what is restored
+
+pub restored_follows : RestoredFollowsTheLog
+restored_follows s v is =
+    λ i. record {
+      log = record {
+        coordinator = is.node.coordinator i;
+        applied = (is.place i).applied;
+        leadership = (is.place i).leadership;
+        moment = (is.place i).moment;
+      };
+      leading = None;
+      proposed = 0;
     }
 
 -- ---- one part behind another

@@ -16,7 +16,7 @@ use Rattle.replica_snapshots.specs.Runs.{HasFewOffsets}
 use Rattle.replica_snapshots.specs.Spelling.{FitsNumber}
 use Rattle.replica_snapshots.specs.declared.fault.SnapshotFault.{SnapshotFault}
 use Rattle.replica_snapshots.specs.declared.fault.SnapshotFault.TheVariants.{NoMemory}
-use Rattle.coord_replica.specs.Replicas.{LogState, ReplicaState, ReplicaValue, log_opening}
+use Rattle.coord_replica.specs.Replicas.{LogState, ReplicaState, ReplicaValue, following, log_opening, replica_state}
 use Rattle.coord_replica.specs.Snapshots.{IsSnapshotOf, PutsPart, SnapshotValue, SpellsLog, part, restored, sections_in, snapshot_fields, snapshot_of}
 
 -- what the coordinator's run says of the entries that were applied
@@ -136,3 +136,7 @@ AllPartsAreTheSnapshot = (v : SnapshotValue) → part v 0 (sections_in v) ≡ sn
 abbrev pub RestoredIsWrittenTheSame : Type 0
 RestoredIsWrittenTheSame =
     (v : SnapshotValue) (r : ReplicaValue) → r ≡ restored v → part (snapshot_of r) 0 (sections_in (snapshot_of r)) ≡ snapshot_fields v
+
+-- .. and it has the state that the snapshot is of, and doesn't lead
+abbrev pub RestoredFollowsTheLog : Type 0
+RestoredFollowsTheLog = (s : LogState) (v : SnapshotValue) → IsSnapshotOf s v → replica_state (restored v) ≡ following s

@@ -1,6 +1,6 @@
 //! Laws of logs and replicas, proved where nothing runs.
 ghost use Rattle.coord_replica.specs.Laws.{AllPartsAreTheSnapshot, AnswersAreTheLogs, LogsCanBeRestored, LogsNeverFall, LogsWithFewOffsetsCanBeWritten, OneAnswerAPlace, OneStateAPlace, OneStateASnapshot};
-ghost use Rattle.coord_replica.specs.Laws.{PartsFollow, ProposalsAreTaken, ReplicasAreRuns, ReplicasFollowTheLog, RestoredIsWrittenTheSame, SameEntriesSameReplica, SectionsMakeASnapshot, StampsRise};
+ghost use Rattle.coord_replica.specs.Laws.{PartsFollow, ProposalsAreTaken, ReplicasAreRuns, ReplicasFollowTheLog, RestoredFollowsTheLog, RestoredIsWrittenTheSame, SameEntriesSameReplica, SectionsMakeASnapshot, StampsRise};
 
 use coord_node::one_answer;
 use replica_snapshots::runs_with_few_offsets_can_be_written;
@@ -95,4 +95,9 @@ pub fn all_parts_are_the_snapshot()
 /// A replica that was restored of a snapshot is written as the bytes that it was read of.
 pub fn restored_is_written_the_same()
     ensures { RestoredIsWrittenTheSame }
+{}
+
+/// A replica that was restored of a snapshot has the state that the snapshot is of, and doesn't lead.
+pub fn restored_follows_the_log()
+    ensures { RestoredFollowsTheLog }
 {}

@@ -21,8 +21,8 @@ pub use laws::{
     all_parts_are_the_snapshot, answers_are_the_logs, logs_can_be_restored, logs_never_fall,
     logs_with_few_offsets_can_be_written, one_answer_a_place, one_state_a_snapshot, parts_follow,
     proposals_are_taken, replicas_are_runs, replicas_at_a_place_are_the_same,
-    replicas_follow_the_log, restored_is_written_the_same, same_entries_same_replica,
-    sections_make_a_snapshot, stamps_rise_over_leaderships,
+    replicas_follow_the_log, restored_follows_the_log, restored_is_written_the_same,
+    same_entries_same_replica, sections_make_a_snapshot, stamps_rise_over_leaderships,
 };
 pub use leading::Leading;
 pub use replica::Replica;

@@ -1,5 +1,5 @@
 //! The entries that a leader proposes.
-ghost use Rattle.std.specs.Prelude.{◌≡◌, ◌↔◌, ◌⊎◌, ◌+◌, ◌^◌, ◌<◌, ◌≤◌, ◌++◌, IsSome, Some, None, MatchResult, OnOk, OnErr, IfErr, option_map};
+ghost use Rattle.std.specs.Prelude.{◌≡◌, ◌⊎◌, ◌+◌, ◌^◌, ◌<◌, ◌++◌, IsSome, Some, None, MatchResult, OnOk, OnErr, IfErr, option_map};
 ghost use Rattle.group_types.specs.Frames.{IsBody};
 ghost use Rattle.topic_meta.specs.Images.{entries_of, first_fault};
 ghost use Rattle.replica_entries.specs.Spelling.{FitsEntry, entry_fields};

@@ -1,6 +1,6 @@
 //! A replica's snapshot, written part by part, and the replica that is restored of one.
 
-ghost use Rattle.std.specs.Prelude.{◌≡◌, ℕ, IfErr, IfOk};
+ghost use Rattle.std.specs.Prelude.{◌≡◌, IfErr, IfOk};
 ghost use Rattle.coord_node.specs.Nodes.{HasEachOnce, NodeValue, coordinator_of};
 ghost use Rattle.replica_snapshots.specs.Nodes.{FitsNode, node_fields};
 ghost use Rattle.replica_snapshots.specs.Places.{FitsPlace};

@@ -1,5 +1,5 @@
 -- Bytes that are put into an array, behind others.
-use Rattle.std.proofs.Common.{◌≡◌, ℕ, List, [], ◌++◌, length, take, drop, ap, sym, ◌∙◌, arith}
+use Rattle.std.proofs.Common.{◌≡◌, ℕ, List, [], ◌++◌, length, drop, ap, ◌∙◌, arith}
 use Rattle.std.proofs.lemmas.List.{drop_all, drop_at, take_at}
 use borrow.Rule.Slice.PartMut.{put_mid}
 

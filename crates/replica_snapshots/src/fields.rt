@@ -1,6 +1,6 @@
 //! The fields of a snapshot, written at the end of a `Vec`. What is too long for its field is refused.
 
-ghost use Rattle.std.specs.Prelude.{◌≡◌, [], ◌∷◌, pos, length, true, false, All, FitsSigned, IfSome};
+ghost use Rattle.std.specs.Prelude.{◌≡◌, [], ◌∷◌, true, false, All, FitsSigned, IfSome};
 ghost use Rattle.std.specs.Int.{w32, w64};
 ghost use Rattle.std.specs.List.{flat_map};
 ghost use Rattle.std.specs.Option.{option_copied};

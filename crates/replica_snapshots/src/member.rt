@@ -99,7 +99,7 @@ fn put_progress(out: &mut Vec<u8>, kept: &Record) -> Result<(), SnapshotFault>
     }
 }
 
-/// How far a member has come that isn't away.
+/// The fields of how far a member has come, where it isn't away: the first byte is the mark that its epoch is there.
 #[inline(always)]
 fn progress_bytes(epoch: EpochNumber, previous: EpochNumber, stamp: Stamp) -> [u8; 25]
     ensures { result ≡ fields (optional epoch_field (Some epoch) ∷ epoch_field previous ∷ stamp_fields stamp ∷ []) }

@@ -2,7 +2,6 @@
 //! fields are, what is built is sound.
 
 ghost use Rattle.std.specs.Prelude.{◌≡◌, ◌++◌, ℕ, List, IfOk, MatchResult};
-ghost use Rattle.std.specs.FinMap as finite;
 ghost use Rattle.range_assign.specs.Shares.{shares_in};
 ghost use Rattle.coord_node.specs.Nodes.{HeldGroup, held_of};
 ghost use Rattle.replica_snapshots.specs.Building.{Adds, AddsArray, AddsEach, CanAddFormer, with_former, CanAddGrant, with_grant, CanAddOffset, with_committed, CanAddMember, with_part, with_share, last_fields, FitLast, CanAddLast, with_last, Finishes};

@@ -1,6 +1,6 @@
-use Rattle.std.proofs.Common.{◌≡◌, ℕ, suc, List, [], ◌∷◌, ◌++◌, refl, ◌∙◌, ap, replicate}
-use Rattle.std.specs.Int.{w32, w64, to_be_bytes}
-use Rattle.flex_wire.specs.Spelling.{mark, signed}
+use Rattle.std.proofs.Common.{◌≡◌, ℕ, suc, List, [], ◌∷◌, ◌++◌, refl, ◌∙◌, ap}
+use Rattle.std.specs.Int.{w32, to_be_bytes}
+use Rattle.flex_wire.specs.Spelling.{signed}
 use Rattle.replica_snapshots.specs.Spelling.{number64, stamp_fields}
 use Rattle.replica_snapshots.proofs.Arrays.{two_parts}
 use Rattle.replica_snapshots.proofs.member.progress_bytes.Goals as goal
