@@ -1,7 +1,7 @@
 -- `into_loose` moves the pointer, and what it owns, into a `Loose`.
 use Rattle.std.proofs.Common.{◌≡◌, List, [], ◌∷◌, ◌++◌, Option, None, Some, refl, sym, ap, subst, ◌∙◌}
 use lib.Dec.{T}
-use mir.Syntax.{Fn}
+use mir.Syntax.{Fn, ty_ptr, tnil, tcons}
 use mir.Raw.{raw as bare}
 use mir.Val.{Val, vptr}
 use base.Logic.{SProp, ent, emp, never, id⊢, fst∗}
@@ -57,7 +57,7 @@ into_loose_spec 𝓤 𝓛 𝓜 𝓡 wired =
     let same : z.0.4.0 ++ (z.0.4.1.0 ++ []) ≡ w ∷ h ∷ [] = (λ i. first i ++ (second i ++ [])) ∙ ap (λ (p : Ptr). word p ∷ h ∷ []) e in
     suffices ! (Run (w ∷ h ∷ [])) (subst (λ (us : List Val). ent 𝓤 (Run (w ∷ h ∷ [])) (Run us)) (sym same) (id⊢ 𝓤 (Run (w ∷ h ∷ [])))) $
     enter ! 𝓣.C 𝓣.Λ fn (w ∷ h ∷ []) Post $ alloc_all ! (λ l. pass_all ! refl ((tt, (tt, tt)), (good, tt)) $
-    sets ! (of_opd ! (get_in ! (fld ! refl (stop !)) (sub ! 0 refl (whole !)))) refl (tt, tt) $
+    sets ! (of_opd ! (get_in ! (fld ! refl (stop !)) (sub ! {τs = tcons ty_ptr tnil} 0 refl (whole !)))) refl (tt, tt) $
     sets ! (of_opd ! (get ! refl)) refl (tt, tt) $
     sets ! (agg ! (and_then ! (get ! refl) (and_then ! (get ! refl) (no_more !)))) refl (pair_good R Z L g b o h good) $
     returns ! (look_at ! 0 refl) $ free_all ! refl $
