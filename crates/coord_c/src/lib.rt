@@ -5,7 +5,7 @@
 //! `include/migwelun.h` has them for C. C gives each slot to one call at a time, and neither reads nor writes what is in it.
 #![tactic(auto)]
 
-ghost use Rattle.std.specs.Prelude.{◌≡◌, ◌≢◌, ◌⊎◌, ◌≤◌, ◌<◌, ◌++◌, ◌∷◌, [], Some, None, IfSome, is_some, IsUtf8, length, take};
+ghost use Rattle.std.specs.Prelude.{◌≡◌, ◌≢◌, ◌⊎◌, ◌≤◌, ◌<◌, ◌++◌, ◌∷◌, [], Some, None, IfSome, IsUtf8, length, take};
 ghost use Rattle.std.specs.FinMap as finite;
 ghost use Rattle.topic_meta.specs.Images.{entries_of, first_fault, topics_of};
 ghost use Rattle.coord_node.specs.Answers.{Answers, ClosesAtOnce};

@@ -4,7 +4,7 @@ ghost use Rattle.topic_meta.specs.Images.{entries_of};
 ghost use Rattle.replica_entries.specs.Spelling.{entry_fields};
 ghost use Rattle.replica_entries.specs.Values.{image, tick};
 ghost use Rattle.coord_replica.specs.Applying.{refusal_at};
-ghost use Rattle.coord_replica.specs.Proposing.{IsUnproposed, IsUnwritten, ProposesBytes, begun, frame_proposed, moment_proposed, next_leadership, under_present};
+ghost use Rattle.coord_replica.specs.Proposing.{ProposesBytes, begun, frame_proposed, moment_proposed, next_leadership};
 ghost use Rattle.coord_replica.specs.Replicas.{log_of, replica_state};
 ghost use Rattle.coord_c.specs.Machines.{ForReplicas, is_replica};
 ghost use Rattle.coord_c.specs.Reads.{IsApplied, IsPart, IsRefused, IsSnapshotFault, IsUnled, IsUnapplied, TellsApplied, applied_shown, connection_shown, frame_shown, replica_fault_shown, snapshot_fault_shown};
