@@ -1,6 +1,6 @@
 //! The replica and what can be read of it.
 ghost use Rattle.std.specs.Prelude.{◌≡◌};
-ghost use Rattle.coord_replica.specs.Replicas.{value_opening};
+ghost use Rattle.coord_replica.specs.Replicas.{replica_opening, replica_state, value_opening};
 
 use crate::leading::Leading;
 use coord_node::{Moment, Node};
@@ -58,7 +58,8 @@ impl Replica {
     /// A replica that has applied no entry. All replicas of a log have one salt, the first half of the ids that they make. Takes no
     /// memory.
     pub fn new(alloc: Global, salt: u64, hasher: RandomState) -> Replica
-        ensures { result ≡ value_opening salt }
+        ensures value { result ≡ value_opening salt }
+        ensures state { replica_state result ≡ replica_opening salt }
     {
         Replica {
             alloc,
