@@ -1,7 +1,7 @@
 """The rest of a Kafka broker, in front of `coord serve`: `python3 -m broker --help` says how to run it.
 
     fields, records                   primitive fields, and record batches
-    versions, frames                  which APIs are spoken, and a request's header
+    versions, frames, call, codes     which APIs are spoken, a request's header, a request with its connection, and error codes
     topics, log, offsets              what a broker has: topics, their records, committed offsets
     cluster                           the brokers, and which of them coordinates a group
     apis                              a module for each API that is answered
@@ -13,9 +13,17 @@
     partitions, groups, watch         what the frames tell of the groups
     words, metrics, report, status    the same in words and numbers, as JSON, and as a page
     etcd, lease, trouble              a client of etcd, a lease in it, and what goes wrong for a time
-    batches, part, clock              a part's log in etcd: it is followed, led and applied, by a clock that stands still with the log
-    feed, measures                    what such a log tells, and what is measured of it
-    settings, members, balance        a cluster over etcd: what all have alike, who is there, and who is to lead what
+    batches, part, clock              a part's log in etcd, and a leader's time, which stands still with the log
+    following, leading                a replica that applies the log, and a leadership, which appends to it
+    snapshots, snapshotting           snapshots in etcd; how a leader writes them and cuts the log
+    machine, newest, serving          the version of the state machine, a member's last connection, and when this broker has clients
+    feed, measures                    the news of such a log, and counts
+    settings, members, balance        a cluster over etcd: its settings, its brokers, and how they share the leaderships
     etcd_cluster                      the same as a cluster and a coordinator
     starter, command_line, __main__   the program
 """
+
+import sys
+
+if sys.version_info < (3, 9):
+    sys.exit(f"Python 3.9 or later is needed, and this is {sys.version.split()[0]}")

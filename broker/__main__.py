@@ -5,6 +5,7 @@ from __future__ import annotations
 import asyncio
 import contextlib
 import logging
+import os
 import resource
 import signal
 import socket
@@ -14,19 +15,20 @@ from typing import Callable, Iterator, List, Tuple
 from broker import starter
 from broker.acceptor import Work, listen, port_of, refuse, until_one_ends
 from broker.cluster import Cluster, Node
-from broker.command_line import EMBEDDED, Options, Place, Shared, parse
+from broker.command_line import EMBEDDED, RULES, UNPROVED, Options, Place, Shared, parse
 from broker.embedded import Embedded
 from broker.etcd import Etcd
-from broker.etcd_cluster import EtcdCluster, Replicated
+from broker.etcd_cluster import EtcdCluster, Replicated, replica_of
 from broker.link import Coordinator
 from broker.log import Log
+from broker.machine import SALT, version_of
 from broker.members import number_of
 from broker.offsets import Offsets
 from broker.output import STANDARD_ERROR, Output, say, to_file
 from broker.record import Record
 from broker.relay import serve_node
 from broker.serving import serve_while_member
-from broker.settings import Settings, log_of, settings_of
+from broker.settings import Settings, log_of, settings_of, wanted
 from broker.status import Status
 from broker.watch import Watch
 
@@ -89,8 +91,9 @@ async def until_signalled(options: Options) -> int:
 async def run(options: Options, tell: Tell) -> None:
     """All of it, until a part ends, which raises. Ports are taken first, and coordinators started then."""
     async with contextlib.AsyncExitStack() as stack:
-        listeners = [stack.enter_context(listen(*address)) for address in addresses(options)]
-        status = None if options.status is None else stack.enter_context(listen(HOST, options.status))
+        name = "--port" if options.port is not None else "--advertise"
+        listeners = [stack.enter_context(listen_as_said(name, *address)) for address in addresses(options)]
+        status = None if options.status is None else stack.enter_context(listen_as_said("--status", HOST, options.status))
         record = stack.enter_context(recorded(options))
         if options.shared is None:
             cluster, watch, works = await over_coordinators(options, listeners, record, tell, stack)
@@ -101,6 +104,16 @@ async def run(options: Options, tell: Tell) -> None:
             works.append(Status(cluster, watch).run(status))
             tell(f"status http://{HOST}:{port_of(status)}/")
         await until_one_ends(works)
+
+
+def listen_as_said(option: str, host: str, port: int) -> socket.socket:
+    """Listens at the address that an option names, or says which option names one that can't be had."""
+    try:
+        return listen(host, port)
+    except OSError as why:
+        # (Python itself tells of the address again, after the system's reason.)
+        reason = os.strerror(why.errno) if why.errno and why.errno > 0 else why.strerror
+        raise starter.Ended(f"{option}: {host}:{port}: {reason}") from None
 
 
 def addresses(options: Options) -> List[Tuple[str, int]]:
@@ -132,7 +145,7 @@ async def over_etcd(
     options: Options, shared: Shared, listener: socket.socket, record: Record, tell: Tell, stack: contextlib.AsyncExitStack
 ) -> Tuple[Cluster, Watch, List[Work]]:
     """One of the brokers of a cluster over etcd, and what has to run for it. Waits until etcd is there, and has no clients until then."""
-    etcd = Etcd(shared.etcd)
+    etcd = Etcd(shared.etcd, shared.keeps_history)
     coordinator = Replicated(etcd, shared.lease, shared.snapshot_bytes)
     stack.push_async_callback(coordinator.end)
     beginning = asyncio.ensure_future(begun(etcd, shared, options))
@@ -140,7 +153,7 @@ async def over_etcd(
     settings, number = beginning.result()
     own = Node(number, *shared.advertise, coordinator)
     cluster, watch = EtcdCluster(own, coordinator, options.topics, log_of(settings), record), Watch(options.topics, tell, has_log=True)
-    members = coordinator.make_parts(settings, options.library, cluster, watch, tell)
+    members = coordinator.make_parts(settings, options.library, cluster, watch)
 
     def serve() -> Work:
         tell(listening(own, listener))
@@ -151,7 +164,10 @@ async def over_etcd(
 
 async def begun(etcd: Etcd, shared: Shared, options: Options) -> Tuple[Settings, int]:
     """The settings of the cluster, and the number of this broker in it."""
-    settings = await settings_of(etcd, shared.parts, options.topics, options.rate, options.records)
+    replica = replica_of(options.library, SALT)
+    own = wanted(shared.parts, options.topics, options.rate, options.records, version_of(replica))
+    replica.close()
+    settings = await settings_of(etcd, own, shared.upgrades)
     return settings, await number_of(etcd, "%s:%d" % shared.advertise)
 
 
@@ -176,14 +192,17 @@ def recorded(options: Options) -> Iterator[Record]:
 async def coordinator_at(
     place: Place, options: Options, beside: List[Callable[[], Work]], stack: contextlib.AsyncExitStack
 ) -> Coordinator:
-    """The coordinator at a place. Where it is started it is ended with the stack; what has to run beside it comes to that list."""
+    """The coordinator at a place. If it is started it is ended with the stack; what has to run along with it is added to that list."""
     if place == EMBEDDED:
         embedded = Embedded(options.library, options.topics)
         stack.callback(embedded.inside.close)
         return embedded
     if isinstance(place, tuple):
         return Coordinator(*place)
-    program = await starter.start(options.program, options.topics)
+    if place == RULES:
+        program = await starter.start_rules(options.topics)
+    else:
+        program = await starter.start(options.program, options.topics, place != UNPROVED)
     stack.push_async_callback(program.end)
     beside.append(program.ended)
     return program.coordinator

@@ -1,10 +1,18 @@
-"""Takes connections, one after the other, and serves a bounded number of them at a time."""
+"""Takes connections, one after the other, and serves a bounded number of them at a time.
+
+A connection may be older than the moment at which it is accepted: it waits in the system until it is, and the client may send, give up and go on
+elsewhere before that. So each has a moment at which it surely wasn't open for its client yet.
+"""
 
 from __future__ import annotations
 
 import asyncio
+import math
 import socket
-from typing import Any, Awaitable, Callable, Coroutine, Iterable, Optional, Set, Tuple
+import struct
+import sys
+import time
+from typing import Any, Awaitable, Callable, Coroutine, Iterable, NamedTuple, Optional, Set, Tuple
 
 from broker.output import say
 
@@ -13,6 +21,17 @@ NO_FILES_SECONDS = 1.0
 END_SECONDS = 1.0
 Work = Coroutine[Any, Any, None]
 Address = Tuple[str, int]
+# Where Linux says how many microseconds a round trip took, and how many segments were sent again: of a new connection, those of its beginning.
+TRIP_AT, AGAIN_AT, INFO_SIZE = 68, 100, 104
+COUNT = struct.Struct("=I")
+
+
+class Accepted(NamedTuple):
+    """A connection, who opened it, and a moment of `time.monotonic()` before which it wasn't open for its client."""
+
+    socket: socket.socket
+    address: Address
+    since: float
 
 
 def listen(host: str, port: int) -> socket.socket:
@@ -27,11 +46,11 @@ def port_of(listener: socket.socket) -> int:
 
 
 async def accept(
-    listener: socket.socket, most: int, prepare: Callable[[socket.socket, Address], Awaitable[Optional[Work]]]
+    listener: socket.socket, most: int, prepare: Callable[[Accepted], Awaitable[Optional[Work]]]
 ) -> None:
     """Accepts connections for ever. Each is prepared before the next is accepted; what that gives serves it. Where `most` are served, the
     next one waits unaccepted. When this is cancelled, all of them are."""
-    room = asyncio.Semaphore(most)
+    door, room = Door(listener), asyncio.Semaphore(most)
     serving: Set[asyncio.Task[None]] = set()
 
     def ended(task: asyncio.Task[None]) -> None:
@@ -43,7 +62,7 @@ async def accept(
             if room.locked():
                 say(f"{most} connections to port {port_of(listener)} are open: further ones wait")
             await room.acquire()
-            work = await prepare(*await _accept_one(listener))
+            work = await prepare(await door.accept())
             if work is None:
                 room.release()
                 continue
@@ -60,9 +79,9 @@ async def accept(
 
 async def refuse(listener: socket.socket) -> None:
     """Closes all connections as they come, for ever."""
+    door = Door(listener)
     while True:
-        client, _ = await _accept_one(listener)
-        client.close()
+        (await door.accept()).socket.close()
 
 
 async def until_one_ends(works: Iterable[Awaitable[Any]]) -> None:
@@ -83,10 +102,50 @@ async def _all_ended(tasks: Set[asyncio.Task[None]]) -> None:
         await asyncio.wait(tasks, timeout=END_SECONDS)
 
 
-async def _accept_one(listener: socket.socket) -> Tuple[socket.socket, Address]:
-    while True:
+class Door:
+    """Accepts what comes to a listener."""
+
+    def __init__(self, listener: socket.socket) -> None:
+        # A moment at which no connection waited.
+        self._listener, self._empty = listener, -math.inf
+
+    async def accept(self) -> Accepted:
+        """The next connection. One that took its client several tries to open may be older than later ones, and is closed."""
+        while True:
+            looked = time.monotonic()
+            try:
+                client, address = self._listener.accept()
+                client.setblocking(False)
+            except BlockingIOError:
+                self._empty = looked
+                await self._wait()
+                continue
+            except OSError as why:
+                say(f"no connection could be accepted: {why}")
+                await asyncio.sleep(NO_FILES_SECONDS)
+                continue
+            opening = _opening_seconds(client)
+            if opening is not None:
+                return Accepted(client, address, self._empty - opening)
+            say(f"closed the connection of {address[0]}:{address[1]}: it took long to open, and its client may have opened later ones since")
+            client.close()
+
+    async def _wait(self) -> None:
+        loop = asyncio.get_running_loop()
+        comes = loop.create_future()
+        loop.add_reader(self._listener, lambda: comes.done() or comes.set_result(None))
         try:
-            return await asyncio.get_running_loop().sock_accept(listener)
-        except OSError as why:
-            say(f"no connection could be accepted: {why}")
-            await asyncio.sleep(NO_FILES_SECONDS)
+            await comes
+        finally:
+            loop.remove_reader(self._listener)
+
+
+def _opening_seconds(client: socket.socket) -> Optional[float]:
+    """For how long a new connection may have been open for its client before it was for this system: the time from this side's answer to the
+    client's. None where the answer was sent again, which begins after a second. (Other systems than Linux don't tell.)"""
+    if not sys.platform.startswith("linux"):
+        return 0.0
+    info = client.getsockopt(socket.IPPROTO_TCP, socket.TCP_INFO, INFO_SIZE)
+    if len(info) < INFO_SIZE:
+        return 0.0
+    return None if COUNT.unpack_from(info, AGAIN_AT)[0] else COUNT.unpack_from(info, TRIP_AT)[0] / 1_000_000

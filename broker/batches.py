@@ -45,7 +45,7 @@ def decode(value: bytes) -> Batch:
         length = LENGTH.unpack_from(value, at)[0] if at + LENGTH.size <= len(value) else -1
         at += LENGTH.size
         if not 0 <= length <= len(value) - at:
-            raise BadBatch(f"an entry ends behind it, at byte {at}")
+            raise BadBatch(f"an entry ends after it, at byte {at}")
         entries.append(value[at : at + length])
         at += length
     if not entries:
@@ -58,7 +58,7 @@ def key(part: int, place: int) -> str:
 
 
 def end(part: int) -> str:
-    """What stands behind all keys of a part's log."""
+    """What stands after all keys of a part's log."""
     return f"{LOGS}{part}0"
 
 

@@ -12,13 +12,15 @@ from broker.watch import Watch
 
 @dataclasses.dataclass
 class Call:
-    """A request to a node. The link is its connection's own to the node's coordinator, and all that passes is told to the watch."""
+    """A request to a node, over the connection of this number. The link is its connection's own to the node's coordinator, and all that passes is
+    told to the watch."""
 
     request: Request
     cluster: Cluster
     node: Node
     link: Link
     watch: Watch
+    number: int = 0
 
     def is_coordinator_of(self, group: str) -> bool:
         return self.cluster.coordinator_of(group) is self.node

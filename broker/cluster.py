@@ -12,6 +12,7 @@ from typing import Any, Dict, Iterable, List, Optional, Tuple
 
 from broker.link import Coordinator
 from broker.log import Log
+from broker.newest import Newest
 from broker.offsets import Committed, Offsets
 from broker.record import Record
 from broker.room import Room
@@ -45,6 +46,7 @@ class Cluster:
     # What waits for slow clients, and what passes, as it is recorded.
     room: Room = dataclasses.field(default_factory=lambda: Room(MOST_HELD))
     record: Record = dataclasses.field(default_factory=Record)
+    newest: Newest = dataclasses.field(default_factory=Newest)
 
     # Whether a log has all that the coordinators answer, so that the watch and the offsets are fed by that.
     has_log = False
@@ -72,8 +74,8 @@ class Cluster:
         """The topics and partitions in which a group can have committed, in their order."""
         return ((topic, sorted(stored.entries)) for topic, stored in sorted(self.offsets.of_group(group).items()))
 
-    def leader_of(self, partition: int) -> Node:
-        """The partitions' leaders go round the nodes. (Every node has the records of all.)"""
+    def leader_of(self, partition: int) -> Optional[Node]:
+        """The partitions' leaders go round the nodes. (Every node has the records of all.) None where it isn't known for now."""
         return self.nodes[partition % len(self.nodes)]
 
 

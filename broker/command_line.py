@@ -19,22 +19,25 @@ MOST_RECORDS_A_SECOND = 10_000
 # etcd gives no lease of less than 2 s, as it is set up by default.
 PARTS, LEASE_SECONDS = range(1, 1_001), range(2, 61)
 SNAPSHOT_BYTES = range(64 << 10, (1 << 29) + 1)
-START, EMBEDDED = None, "embedded"
+START, UNPROVED, RULES, EMBEDDED = None, "unproved", "rules", "embedded"
 Address = Tuple[str, int]
-# A coordinator's host and port, or one that is to be started, or one in this process.
+# A coordinator's host and port, or the name of one that is to be started or is in this process.
 Place = Union[None, str, Address]
 
 
 @dataclasses.dataclass(frozen=True)
 class Shared:
     """A cluster over etcd: where etcd listens, what clients are told of this broker, into how many parts all groups are divided, for how
-    many seconds a lease is, and to how many bytes of a part's log there is a snapshot."""
+    many seconds a lease is, and to how many bytes of a part's log there is a snapshot; whether the cluster goes on with another version of the state
+    machine; and whether something else has etcd forget its history."""
 
     etcd: Sequence[Address]
     advertise: Address
     parts: int
     lease: int
     snapshot_bytes: int
+    upgrades: bool
+    keeps_history: bool
 
 
 @dataclasses.dataclass(frozen=True)
@@ -77,7 +80,7 @@ def parse(words: List[str]) -> Options:
 def _parser() -> Parser:
     parser = Parser(
         prog=os.environ.get("PROGRAM_NAME", "python3 -m broker"),
-        description="Plays the rest of a Kafka broker in front of `coord serve`, so that stock consumers can use it.",
+        description="Plays the rest of a Kafka broker around a coordinator, so that stock consumers can use it.",
     )
     parser.add_argument(
         "--coordinator", dest="places", action="append", type=_place, metavar="HOST:PORT",
@@ -85,6 +88,13 @@ def _parser() -> Parser:
     )
     parser.add_argument(
         "--start", dest="places", action="append_const", const=START, help="starts `coord serve` itself; may be repeated as well"
+    )
+    parser.add_argument(
+        "--start-unproved", dest="places", action="append_const", const=UNPROVED, help="the same program, compiled in some minutes and not proved"
+    )
+    parser.add_argument(
+        "--start-rules", dest="places", action="append_const", const=RULES,
+        help="starts the rules of the protocol in Python: at once, without a toolchain, and not proved",
     )
     parser.add_argument(
         "--embedded", dest="places", action="append_const", const=EMBEDDED, help="has a coordinator in this process; may be repeated as well"
@@ -103,7 +113,7 @@ def _parser() -> Parser:
     parser.add_argument("--rate", type=_rate, default=2.0, metavar="R", help="records a second in each partition (%(default)g)")
     parser.add_argument("--records", type=_records, default=0, metavar="N", help="records in each partition from the start (%(default)d)")
     parser.add_argument("--record", metavar="FILE", help="writes all frames to this file, with their times; broker/README.md has its form")
-    parser.add_argument("topics", nargs="+", type=_topic, metavar="NAME:UUID:COUNT", help="a topic: its name, id and number of partitions")
+    parser.add_argument("topics", nargs="+", type=_topic, metavar="TOPIC", help="a topic, NAME:COUNT or NAME:UUID:COUNT; without a UUID its id is made from the name")
     return parser
 
 
@@ -114,36 +124,39 @@ def _add_those_of_etcd(parser: Parser) -> None:
     parser.add_argument("--advertise", type=_place, metavar="HOST:PORT", help="with --etcd: where clients reach this broker")
     parser.add_argument("--parts", type=_number_of(PARTS), metavar="N", help="with --etcd: into how many parts all groups are divided, each led by one broker")
     parser.add_argument(
-        "--lease", type=_number_of(LEASE_SECONDS), default=3, metavar="SECONDS", help="with --etcd: after how long a broker that is gone leads nothing (%(default)d)"
+        "--lease", type=_number_of(LEASE_SECONDS), default=3, metavar="SECONDS", help="with --etcd: seconds after which a broker that is gone leads nothing (%(default)d)"
     )
     parser.add_argument(
         "--snapshot-bytes", type=_number_of(SNAPSHOT_BYTES), default=snapshots.BYTES, metavar="N",
-        help="with --etcd: after so much of a part's log there is a snapshot, and the log before the last but one is deleted (%(default)d)"
+        help="with --etcd: a snapshot for each N bytes of a part's log; the log before the last but one is deleted (%(default)d)"
     )
+    parser.add_argument("--upgrade", action="store_true", help="with --etcd: all brokers have ended, and the cluster goes on with this one's library")
+    parser.add_argument("--keep-history", action="store_true", help="with --etcd: something else has etcd forget its history, which is done for all its keys")
 
 
 def _shared(parser: Parser, given: argparse.Namespace) -> Optional[Shared]:
     """The options of a cluster over etcd, or None where there is a coordinator for each broker."""
     if given.places:
         if given.etcd or given.advertise or given.parts:
-            parser.error("--etcd, --advertise and --parts go with none of --coordinator, --start and --embedded")
+            parser.error("--etcd, --advertise and --parts go with none of --coordinator, --start, --start-unproved, --start-rules and --embedded")
         return None
     if not given.etcd:
-        parser.error("wants --coordinator HOST:PORT, --start, --embedded or --etcd HOST:PORT")
+        parser.error("wants --start-rules, --start-unproved, --start, --coordinator HOST:PORT, --embedded or --etcd HOST:PORT")
     if not given.advertise or not given.parts:
         parser.error("--etcd wants --advertise HOST:PORT and --parts N")
-    return Shared(given.etcd, given.advertise, given.parts, given.lease, given.snapshot_bytes)
+    return Shared(given.etcd, given.advertise, given.parts, given.lease, given.snapshot_bytes, given.upgrade, given.keep_history)
 
 
 def _place(word: str) -> Address:
     host, colon, port = word.rpartition(":")
-    if not host or not colon or not re.fullmatch(r"\d{1,5}", port) or not 0 < int(port) < 65_536:
+    if not host or "/" in host or not colon or not re.fullmatch(r"\d{1,5}", port) or not 0 < int(port) < 65_536:
         raise argparse.ArgumentTypeError(f"{word!r} is no HOST:PORT")
     return host, int(port)
 
 
 def _addresses(word: str) -> List[Address]:
-    return [_place(each) for each in word.split(",")]
+    """Where etcd listens, also as the addresses that etcd itself prints."""
+    return [_place(re.sub("^http://(.*?)/?$", r"\1", each)) for each in word.split(",")]
 
 
 def _number_of(numbers: range) -> Callable[[str], int]:

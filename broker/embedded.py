@@ -39,7 +39,7 @@ class Embedded(Coordinator):
     def __str__(self) -> str:
         return "embedded"
 
-    async def connect(self) -> Optional[Connection]:
+    async def connect(self, since: float) -> Optional[Connection]:
         self.opened += 1
         return functools.partial(self._linked, self.opened)
 

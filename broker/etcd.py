@@ -13,11 +13,11 @@ import contextlib
 import json
 from typing import Any, AsyncIterator, Dict, List, NamedTuple, Sequence, Tuple
 
-from broker.streams import within
+from broker.streams import first_done, within
 from broker.trouble import Trouble
 
-# How long a node may take to connect, and to answer.
-OPEN_SECONDS, ANSWER_SECONDS = 1.0, 2.0
+# How long a node may take to connect, and to answer before another one is asked as well. So many times at least one is asked.
+OPEN_SECONDS, ANSWER_SECONDS, TRIES = 1.0, 2.0, 3
 LIMIT = 1 << 20
 # Codes of gRPC: canceled, deadline exceeded, unavailable. A node that answers so has no leader, or lost it on the way: nobody knows what
 # became of the request.
@@ -99,6 +99,16 @@ def created_at(key: str, revision: int) -> Message:
     return {"key": text(key), "target": "CREATE", "result": "EQUAL", "create_revision": str(revision)}
 
 
+def modified_at(key: str, revision: int) -> Message:
+    """A comparison: the key is there as it was written at a revision, or isn't there, for 0."""
+    return {"key": text(key), "target": "MOD", "result": "EQUAL", "mod_revision": str(revision)}
+
+
+def nothing_in(key: str, end: str) -> Message:
+    """A comparison: no key is there from one on, and before another one."""
+    return {**created_at(key, 0), "range_end": text(end)}
+
+
 def pair_of(found: Message) -> KeyValue:
     key, value = (base64.b64decode(found.get(name, "")) for name in ("key", "value"))
     return KeyValue(key.decode(), value, *(int(found.get(name, 0)) for name in ("create_revision", "mod_revision", "lease")))
@@ -116,10 +126,11 @@ class Txn(NamedTuple):
 
 
 class Etcd:
-    """The nodes of one etcd. Each request goes to the node that answered last, and where that has no answer to each other one. Says when
-    none has one, and when one has one again."""
+    """The nodes of one etcd. Each request goes to the node that answered last, and where that has no answer to each other one as well: the first
+    answer counts. Says when none has one, and when one has one again."""
 
-    def __init__(self, addresses: Sequence[Address]) -> None:
+    def __init__(self, addresses: Sequence[Address], keeps_history: bool = False) -> None:
+        self._keeps_history = keeps_history
         self._nodes = [_Node(*address) for address in addresses]
         self._first = self._nodes[0]
         self.unanswered = Trouble(f"{self} has no answer", f"{self} answers again")
@@ -129,24 +140,39 @@ class Etcd:
         return "etcd " + ",".join(map(str, self._nodes))
 
     async def call(self, path: str, request: Message, seconds: float = ANSWER_SECONDS) -> Message:
-        """The answer to a request, which may have been sent to several nodes. Each has so many seconds. Raises Unanswered, and Refused."""
-        data, whys = json.dumps(request).encode(), []
-        at = self._nodes.index(self._first)
-        for node in self._nodes[at:] + self._nodes[:at]:
-            try:
-                answer = await within(seconds, node.call(path, data))
-            except (OSError, asyncio.TimeoutError, _Broken) as why:
-                whys.append(f"{node}: {str(why) or f'no answer within {seconds:g} s'}")
-                continue
-            self._first = node
-            self.unanswered.is_well()
-            return answer
+        """The answer to a request, which may have been sent to several nodes. After so many seconds without one the next node is asked too. Raises
+        Unanswered, and Refused."""
+        data, at = json.dumps(request).encode(), self._nodes.index(self._first)
+        nodes = self._nodes[at:] + self._nodes[:at]
+        asked: Dict[asyncio.Future[Message], _Node] = {}
+        whys = []
+        try:
+            for number in range(max(TRIES, len(nodes))):
+                if number >= len(nodes) and not asked:
+                    break
+                node = nodes[number % len(nodes)]
+                asked[asyncio.ensure_future(node.call(path, data))] = node
+                await first_done(asked, seconds)
+                for task in [each for each in asked if each.done()]:
+                    tried = asked.pop(task)
+                    try:
+                        answer = task.result()
+                    except (OSError, asyncio.TimeoutError, _Broken) as why:
+                        whys.append(f"{tried}: {str(why) or 'it takes no connection'}")
+                        continue
+                    self._first = tried
+                    self.unanswered.is_well()
+                    return answer
+        finally:
+            for task in asked:
+                task.cancel()
+        whys += [f"{node}: no answer" for node in asked.values()]
         self.unanswered.is_there(whys[0])
         raise Unanswered(whys[0])
 
-    async def range(self, key: str, end: str, limit: int = 0) -> Range:
-        """The keys from one on, and before another one, as they are now."""
-        answer = await self.call("kv/range", {"key": text(key), "range_end": text(end), "limit": str(limit)})
+    async def range(self, key: str, end: str, limit: int = 0, since: int = 0) -> Range:
+        """The keys from one on, and before another one, as they are now; of those alone that were written at a revision or later."""
+        answer = await self.call("kv/range", {"key": text(key), "range_end": text(end), "limit": str(limit), "min_mod_revision": str(since)})
         pairs = [pair_of(each) for each in answer.get("kvs", [])]
         return Range(int(answer["header"]["revision"]), pairs, bool(answer.get("more")))
 
@@ -164,7 +190,9 @@ class Etcd:
         return Txn(bool(answer.get("succeeded")), int(answer["header"]["revision"]), pairs)
 
     async def compact(self, revision: int) -> None:
-        """Has etcd forget what keys were before a revision."""
+        """Has etcd forget what all its keys were before a revision, unless something else sees to that."""
+        if self._keeps_history:
+            return
         try:
             await self.call("kv/compaction", {"revision": str(revision)})
         except Refused as why:

@@ -5,6 +5,8 @@ from __future__ import annotations
 import asyncio
 import contextlib
 import functools
+import math
+import time
 from typing import Any, Callable, Dict, Iterable, List, Optional, Set, Tuple
 
 from broker.acceptor import Work
@@ -29,6 +31,8 @@ from broker.watch import Watch
 
 # Each part has a salt of its own, so that no two of them name a member alike.
 SALTS = 1 << 64
+# For how long nobody is said to lead a partition whose leader changes: longer than it takes until all brokers know.
+MOVE_SECONDS = 2.0
 
 
 class EtcdCluster(Cluster):
@@ -41,6 +45,8 @@ class EtcdCluster(Cluster):
         self.own, self.coordinator = own, coordinator
         self.parts: List[Part] = []
         self.members: Optional[Members] = None
+        # Who was there before brokers came or went last, and when that was.
+        self._before, self._moved = [own.id], -math.inf
 
     def nodes_here(self) -> List[Node]:
         return [self.own]
@@ -52,6 +58,14 @@ class EtcdCluster(Cluster):
         # (While there is no lease this may be old. Whoever doesn't lead it any more says so.)
         leader = part.leader
         return None if leader is None else next((node for node in self.nodes if node.id == leader.broker and node is not self.own), None)
+
+    def leader_of(self, partition: int) -> Optional[Node]:
+        """None for some time after that has changed, since brokers learn of it one after the other: librdkafka 2.8.0 that is told of two changes at once,
+        there and back, stays with the one in between for ever."""
+        leader, before = super().leader_of(partition), self._before[partition % len(self._before)]
+        assert leader is not None and self.members is not None
+        is_settled = leader.id == before or time.monotonic() > self._moved + MOVE_SECONDS
+        return leader if is_settled and self.members.is_member() else None
 
     def part_of(self, group: str) -> Part:
         return self.parts[group_number(group, len(self.parts))]
@@ -88,7 +102,10 @@ class EtcdCluster(Cluster):
         others = {number: each for number, each in self.members.brokers.items() if number != self.own.id}
         nodes = [Node(number, each.host, each.port, self.own.coordinator) for number, each in others.items()]
         is_there = self.own.id in self.members.brokers or not nodes
+        before, now = [node.id for node in self.nodes], time.monotonic()
         self.nodes[:] = sorted([*nodes, *[self.own] * is_there], key=lambda node: node.id)
+        if before != [node.id for node in self.nodes]:
+            self._before, self._moved = (before if now > self._moved + MOVE_SECONDS else self._before), now
 
 
 class Replicated(Coordinator):
@@ -106,8 +123,9 @@ class Replicated(Coordinator):
     def __str__(self) -> str:
         return str(self.etcd)
 
-    def make_parts(self, settings: Settings, library: str, cluster: EtcdCluster, watch: Watch, tell: Callable[[str], None]) -> Members:
+    def make_parts(self, settings: Settings, library: str, cluster: EtcdCluster, watch: Watch) -> Members:
         """Raises Ended where the library isn't there."""
+        tell: Callable[[str], None] = watch.tell
         for number in range(settings.parts):
             replica = replica_of(library, (settings.salt + number) % SALTS)
             feed = Feed(cluster.offsets, watch, cluster.turns, functools.partial(_is_gone, replica, number, settings.parts))
@@ -117,12 +135,12 @@ class Replicated(Coordinator):
         cluster.members = self.members = Members(self.lease, settings, cluster.own, self.parts, self.measures, cluster.have_changed)
         return self.members
 
-    async def connect(self) -> Optional[Connection]:
+    async def connect(self, since: float) -> Optional[Connection]:
         self._opened += 1
-        return functools.partial(self._linked, self._opened)
+        return functools.partial(self._linked, self._opened, since)
 
-    async def _linked(self, number: int) -> Link:
-        return PartsLink(self, number)
+    async def _linked(self, number: int, since: float) -> Link:
+        return PartsLink(self, number, since)
 
     @property
     def is_there(self) -> bool:
@@ -154,14 +172,14 @@ class Replicated(Coordinator):
 class PartsLink(Link):
     """One client's connection, to whichever parts its groups are of. Nothing ever arrives on it unasked, but its end."""
 
-    def __init__(self, coordinator: Replicated, number: int) -> None:
-        self._parts, self._number, self._frames = coordinator.parts, number, 0
+    def __init__(self, coordinator: Replicated, number: int, since: float) -> None:
+        self._parts, self._number, self._since, self._frames = coordinator.parts, number, since, 0
         self._asked: Set[Part] = set()
         self.arriving = asyncio.get_running_loop().create_future()
 
     async def ask(self, body: bytes, group: str) -> bytes:
         self._frames += 1
-        return await self._part_of(group).ask(body, self._number, self._frames)
+        return await self._part_of(group).ask(body, self._number, self._frames, self._since)
 
     async def confirm(self, group: str) -> None:
         await self._part_of(group).confirm()

@@ -1,11 +1,14 @@
 """What a part's log tells, once it is applied, in its order: to the committed offsets and the watch of this broker, whether it leads the part or
-follows, and behind that to whoever waits for a reply. So a broker that begins to lead knows the members, and what they committed."""
+follows. So a broker that begins to lead shows the members, and what they committed.
+
+No reply waits for it. What is long isn't told, and where more comes than can be told, that isn't either: it is counted.
+"""
 
 from __future__ import annotations
 
 import asyncio
 import collections
-from typing import Any, Callable, Deque, NamedTuple, Optional
+from typing import Any, Callable, Deque, NamedTuple
 
 from broker import codes, commits, heartbeats
 from broker.fields import Unreadable, int16
@@ -17,21 +20,19 @@ from broker.watch import Watch
 
 # Where a frame's body begins in its entry: behind version, kind, leadership, connection, number and moment.
 BODY = 2 + 2 + 4 + 4 + 8 + 8
-# How a heartbeat begins, of the version that the coordinator speaks.
 # What came of a snapshot.
 RESTORED = object()
+# How a heartbeat begins, of the version that the coordinator speaks.
 HEARTBEAT = int16(CONSUMER_GROUP_HEARTBEAT) + int16(0)
-# How much may wait. And after how many in a row everything else has its turn.
-MOST, TURN = 2_000, 50
+# How much may wait, and how long an entry is at most that is told. And after how many in a row everything else has its turn.
+MOST, MOST_BYTES, TURN = 2_000, 64 << 10, 50
 
 
 class Passed(NamedTuple):
-    """An entry, and what came of applying it; who waits for its reply; and whether this broker led when it was appended. Without what came of
-    it, it is nothing but somebody who waits until all before it is told."""
+    """An entry, and what came of applying it; and whether this broker led when it was appended."""
 
     entry: bytes
     applied: Any
-    reply: Optional[asyncio.Future[Optional[bytes]]]
     is_led: bool
 
 
@@ -44,19 +45,27 @@ class Feed:
         self._room = asyncio.Event()
 
     def put(self, passed: Passed) -> None:
+        if len(self._waiting) >= MOST or len(passed.entry) > MOST_BYTES:
+            self._watch.groups.left_out()
+            return
         self._waiting.append(passed)
         self._changed.set()
 
     def restored(self) -> None:
         """The replica goes on with a snapshot: what was told until then may be no more."""
-        self.put(Passed(b"", RESTORED, None, False))
+        self._waiting.append(Passed(b"", RESTORED, False))
+        self._changed.set()
 
     async def has_room(self) -> None:
-        """Waits until not too much waits. Everything else has its turn in any case."""
+        """Waits until nothing is left out of what is put next. Everything else has its turn in any case."""
         await asyncio.sleep(0)
-        while len(self._waiting) > MOST:
+        while len(self._waiting) > MOST // 2:
             self._room.clear()
             await self._room.wait()
+
+    def is_told(self) -> bool:
+        """Whether all is told that was put."""
+        return not self._waiting
 
     async def run(self) -> None:
         """Tells for ever."""
@@ -65,23 +74,22 @@ class Feed:
             self._changed.clear()
             told = 0
             while self._waiting:
-                await self._tell(self._waiting.popleft())
+                await self._tell(self._waiting[0])
+                self._waiting.popleft()
                 told += 1
                 if told % TURN == 0:
+                    self._room.set()
                     await asyncio.sleep(0)
             self._room.set()
 
     async def _tell(self, passed: Passed) -> None:
-        applied, reply = passed.applied, None
+        applied = passed.applied
         if applied is RESTORED:
             self._watch.removed(self._is_gone, False)
-        elif applied is not None and applied.kind == "frame" and applied.reply is not None:
-            reply = applied.reply[SIZE:]
-            await self._told(passed.entry[BODY:], reply, passed.is_led)
-        elif applied is not None and applied.kind == "tick" and applied.removed:
+        elif applied.kind == "frame" and applied.reply is not None:
+            await self._told(passed.entry[BODY:], applied.reply[SIZE:], passed.is_led)
+        elif applied.kind == "tick" and applied.removed:
             self._watch.removed(self._is_gone, passed.is_led)
-        if passed.reply is not None and not passed.reply.done():
-            passed.reply.set_result(reply)
 
     async def _told(self, body: bytes, reply: bytes, is_led: bool) -> None:
         steady = heartbeats.steady(body, reply) if body[:4] == HEARTBEAT else None

@@ -134,14 +134,14 @@ class Reader:
         """Tagged fields, of which no meaning is known here."""
         count = self.unsigned_varint()
         if count > MOST_TAGS:
-            raise Unreadable(f"{count} tagged fields before byte {self.at}, where {MOST_TAGS} may be")
+            raise Unreadable(f"{count} tagged fields before byte {self.at}, and at most {MOST_TAGS} may be there")
         for _ in range(count):
             self.unsigned_varint()
             self.raw(self.unsigned_varint())
 
     def end(self) -> None:
         if self.at != len(self.data):
-            raise Unreadable(f"{len(self.data) - self.at} bytes are left behind the last field")
+            raise Unreadable(f"{len(self.data) - self.at} bytes are left after the last field")
 
 
 # ---- writing

@@ -15,6 +15,8 @@ from broker.trouble import Trouble
 FIRST_LIMIT, READ_BYTES = 16, 4 << 20
 # How much of what the watch brings may wait. Where more does, it is read again.
 MOST_ARRIVED = 1_000
+# A session is over after 45 s without a heartbeat: behind a tick that is so much later than the last frame, no member is left.
+SESSION_MS = 60_000
 
 
 class Stopped(Exception):
@@ -34,8 +36,8 @@ class Follower:
         # The place of the snapshot that it last went on from; 0 where it has met none.
         self.restored = 0
         self.has_read_up = asyncio.Event()
-        # Which kinds there have been among the applied entries.
-        self.has_topics = self.has_frames = False
+        # Whether there have been topics among the applied entries; and the log's moments at the last frame and at the last tick.
+        self.has_topics, self._heard, self._ticked = False, -SESSION_MS, 0
         # What the watch has brought, and whether there may be more that it hasn't.
         self._arrived: Deque[Tuple[int, bytes]] = collections.deque()
         self._is_behind, self._limit = True, FIRST_LIMIT
@@ -108,7 +110,7 @@ class Follower:
                 raise Stopped("there is no memory for the snapshot") from None
         self.place = self.restored = it.place
         self.logged, self.head = it.logged, max(self.head, it.place)
-        self.has_topics = self.has_frames = True
+        self.has_topics, self._heard, self._ticked = True, self._moment(), 0
         self.feed.restored()
         return True
 
@@ -132,9 +134,10 @@ class Follower:
         except batches.BadBatch as why:
             raise Stopped(f"entry {self.place + 1} begins a batch that can't be read: {why}") from None
         for entry in entries:
-            self.feed.put(Passed(entry, self.apply(entry), None, False))
+            self.feed.put(Passed(entry, self.apply(entry), False))
         self.logged += len(value)
-        await self.feed.has_room()
+        # (Only at the start there is time for all of it to be shown.)
+        await asyncio.sleep(0) if self.has_read_up.is_set() else await self.feed.has_room()
 
     def apply(self, entry: bytes) -> Any:
         """The replica at the next place of the log. Raises Stopped."""
@@ -147,8 +150,20 @@ class Follower:
         self.place += 1
         self.head = max(self.head, self.place)
         self.has_topics |= applied.kind == "topics"
-        self.has_frames |= applied.kind == "frame"
+        if applied.kind == "frame":
+            self._heard = self._moment()
+        elif applied.kind == "tick":
+            self._ticked = self._moment()
         return applied
+
+    def may_have_members(self) -> bool:
+        """Whether a tick may remove somebody."""
+        return self._ticked < self._heard + SESSION_MS
+
+    def _moment(self) -> int:
+        """The greatest of the log."""
+        moment: int = self.replica.place().moment
+        return moment
 
     # ---- what etcd has against a request
 

@@ -23,7 +23,7 @@ REPLY_SIZES = range(4, (8 << 20) + 1)
 
 
 class BadFrame(Exception):
-    """Bytes that are no frame, and why. What comes behind them can't be read either."""
+    """Bytes that are no frame, and why. What comes after them can't be read either."""
 
 
 async def read_body(
@@ -64,7 +64,7 @@ def framed_in_blocks(reply: Reply) -> Iterator[bytes]:
 
 @dataclasses.dataclass
 class Request:
-    """A request's header, and a reader of the fields behind it."""
+    """A request's header, and a reader of the fields after it."""
 
     key: int
     version: int

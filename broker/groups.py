@@ -131,6 +131,10 @@ class Groups:
         member = former or Member(told.member or "", client or "", since=now)
         return self._beat(group, former, self._after(member, asked, told, now), asked, now)
 
+    def left_out(self) -> None:
+        """There was no time for what has passed."""
+        self.unwatched += 1
+
     def has_heard(self, steady: Steady, now: float) -> bool:
         """Takes a heartbeat that changes nothing, where that is so by what is known."""
         group = self.groups.get(steady.group)

@@ -88,7 +88,7 @@ async def read_request(request: Request) -> Asked:
 
 
 def as_version_0(body: bytes, asked: Asked) -> bytes:
-    """A request of version 1 without its regular expression. (The version stands behind the API key.)"""
+    """A request of version 1 without its regular expression. (The version stands after the API key.)"""
     begin, end = asked.regex_at
     return body[:2] + int16(0) + body[4:begin] + body[end:]
 

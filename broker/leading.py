@@ -7,26 +7,35 @@ whatever was stopped, cut off or slow on the way: nobody gets an answer that isn
 An append without an answer may have been done, or may be done later. It is sent again, the same bytes at the same place, until etcd says
 which: it is there (the same value is at its place), or the leadership is gone, after which it can't be done any more. Where the leadership
 ends before that is known, nothing of it is applied or answered, and this broker reads the log as any follower does.
+
+**Frames are taken over connections alone that their clients opened after the leadership was won.** What came to the log under an earlier leadership
+was appended before that; so of what a client sent before it, nothing comes under this one, and a stamp of this one is of a later request. A frame
+over an older connection may be one that its client gave up long ago, and the connection is closed.
 """
 
 from __future__ import annotations
 
 import asyncio
 import collections
+import math
 import time
-from typing import Awaitable, Callable, Deque, Iterator, List, NamedTuple, Optional, Sequence, Tuple, TypeVar
+from typing import Any, Awaitable, Callable, Deque, Iterator, List, NamedTuple, Optional, Sequence, Tuple, TypeVar
 
 from broker import batches
 from broker.clock import Clock
 from broker.etcd import Refused, Txn, Unanswered, created_at, delete, get, put
-from broker.feed import Passed
+from broker.feed import HEARTBEAT, Passed
 from broker.following import Deposed, Follower
+from broker.frames import SIZE
 from broker.link import CoordinatorClosed
 from broker.measures import Measures
 from broker.snapshotting import Writer
 from broker.topics import Topics
 
-TICK_SECONDS = 0.5
+# How often a tick goes with what is appended anyhow; and after how long it is appended alone.
+TICK_SECONDS, ALONE_SECONDS = 0.5, 2.0
+# How long a heartbeat is that others needn't wait for.
+LONG_BYTES = 64 << 10
 # How long after a request that failed it is made again.
 AGAIN_SECONDS = 0.2
 # After how long without an answer the connection of whoever waits is closed.
@@ -54,6 +63,8 @@ class Leadership:
         self._is_led = created_at(key, revision)
         self._snapshots = Writer(follower, self._is_led, snapshot_bytes, measures, self._until_answered)
         self._key, self._numbers, self._measures, self._clock = key, numbers, measures, Clock()
+        # (It is known by now that the key is there.)
+        self._won = time.monotonic()
         # Whether what is asked is taken, and whether this broker is to give it up; and what tells the end.
         self.serves, self._resigns = False, False
         self._over: asyncio.Future[str] = asyncio.get_running_loop().create_future()
@@ -65,8 +76,10 @@ class Leadership:
 
     # ---- what is asked of it
 
-    async def ask(self, body: bytes, connection: int, frame: int) -> bytes:
-        """The reply's frame to a frame's body. Raises CoordinatorClosed."""
+    async def ask(self, body: bytes, connection: int, frame: int, since: float) -> bytes:
+        """The reply's frame to a frame's body, over a connection that wasn't open before a moment. Raises CoordinatorClosed."""
+        if since < self._won:
+            raise CoordinatorClosed(f"it may be older than that {self} is led from here, and so may what comes over it")
         reply = await self._wait_for(lambda future: self._queue.append(Waiting(body, connection, frame, future, time.monotonic())))
         if reply is None:
             raise CoordinatorClosed("the coordinator closed the connection instead of an answer")
@@ -129,7 +142,7 @@ class Leadership:
         return found.revision
 
     def end(self) -> None:
-        """Nothing goes on beside it any more."""
+        """Nothing goes on along with it any more."""
         self._snapshots.end()
 
     async def _wait_for_work(self) -> None:
@@ -141,8 +154,11 @@ class Leadership:
         self._wake.clear()
         woken = asyncio.ensure_future(self._wake.wait())
         try:
-            seconds = max(0.0, self._ticked + TICK_SECONDS - time.monotonic())
-            await asyncio.wait({woken, self._over}, timeout=seconds, return_when=asyncio.FIRST_COMPLETED)
+            while not woken.done() and not self._over.done() and (left := self._seconds_to_tick(ALONE_SECONDS)) > 0:
+                timeout = None if left == math.inf else min(left, TICK_SECONDS)
+                await asyncio.wait({woken, self._over}, timeout=timeout, return_when=asyncio.FIRST_COMPLETED)
+                # (It stands still where nobody looks at it.)
+                self._clock.now()
         finally:
             woken.cancel()
 
@@ -150,10 +166,20 @@ class Leadership:
 
     async def _append_one(self, entry: bytes) -> None:
         await self._append([entry])
-        self._feed.put(Passed(entry, self._follower.apply(entry), None, True))
+        self._apply(entry, None)
+
+    def _apply(self, entry: bytes, reply: Reply) -> None:
+        """Applies an entry that is appended, and answers it."""
+        self._answer(entry, self._follower.apply(entry), reply)
+
+    def _answer(self, entry: bytes, applied: Any, reply: Reply) -> None:
+        """Answers an entry that is applied, and has it shown."""
+        if reply is not None and not reply.done():
+            reply.set_result(None if applied.reply is None else applied.reply[SIZE:])
+        self._feed.put(Passed(entry, applied, True))
 
     async def _append_what_waits(self) -> None:
-        """One batch: appends it, applies it, and has it answered, behind what it tells."""
+        """One batch: appends it, applies it, and answers it."""
         self._under_way, confirming = self._next_waiting(), self._confirming
         self._confirming = []
         entries, replies = self._proposed(self._under_way)
@@ -162,28 +188,31 @@ class Leadership:
         try:
             await self._append(entries)
             for entry, reply in zip(entries, replies):
-                self._feed.put(Passed(entry, self._follower.apply(entry), reply, True))
+                self._apply(entry, reply)
         except BaseException:
             _close(replies + confirming, f"{self} isn't led from here any more")
             raise
         for future in confirming:
-            self._feed.put(Passed(b"", None, future, True))
-        await self._feed.has_room()
+            if future is not None and not future.done():
+                future.set_result(None)
+        await asyncio.sleep(0)
 
     def _next_waiting(self) -> List[Waiting]:
-        """So much of what waits as fits into a batch."""
+        """So much of what waits as fits into a batch. Long heartbeats, which take long, come last, and one at a time."""
         waiting: List[Waiting] = []
-        size = 0
-        while self._queue and (not waiting or size + len(self._queue[0].body) <= batches.MOST_BYTES):
-            one = self._queue.popleft()
+        left: List[Waiting] = []
+        size, is_full = 0, False
+        # (Whoever asked may be gone.)
+        for one in sorted((it for it in self._queue if not it.reply.done()), key=_is_long):
+            is_full |= bool(waiting) and size + len(one.body) > batches.MOST_BYTES
+            (left if is_full else waiting).append(one)
             size += len(one.body)
-            # (Whoever asked may be gone.)
-            if not one.reply.done():
-                waiting.append(one)
+            is_full |= _is_long(one)
+        self._queue = collections.deque(left)
         return waiting
 
     def _proposed(self, waiting: List[Waiting]) -> Tuple[List[bytes], List[Reply]]:
-        """The entries of a batch, each with who waits for it. A tick is among them where it is time for one, and where there can be members."""
+        """The entries of a batch, each with who waits for it. A tick is among them where it is time for one, and somebody may be removed by that."""
         entries: List[bytes] = []
         replies: List[Reply] = []
         clock = self._clock.now()
@@ -193,12 +222,15 @@ class Leadership:
                 replies.append(one.reply)
             except (ValueError, MemoryError) as why:
                 _close([one.reply], str(why) or "there is no memory")
-        if time.monotonic() >= self._ticked + TICK_SECONDS:
+        if self._seconds_to_tick(TICK_SECONDS if entries else ALONE_SECONDS) <= 0:
             self._ticked = time.monotonic()
-            if self._follower.has_frames:
-                entries.append(self._replica.propose_tick(clock))
-                replies.append(None)
+            entries.append(self._replica.propose_tick(clock))
+            replies.append(None)
         return entries, replies
+
+    def _seconds_to_tick(self, every: float) -> float:
+        """In how many seconds a tick is due; never, where there can be no member."""
+        return self._ticked + every - time.monotonic() if self._follower.may_have_members() else math.inf
 
     async def _append(self, entries: List[bytes]) -> None:
         """Returns once the entries are in the log, in one batch; or, where there are none, once etcd says that the leadership goes on. Raises
@@ -240,6 +272,11 @@ class Leadership:
             raise Deposed(self._over.result())
         finally:
             task.cancel()
+
+
+def _is_long(one: Waiting) -> bool:
+    """(Commits keep their order: a member's last one counts.)"""
+    return len(one.body) > LONG_BYTES and one.body.startswith(HEARTBEAT)
 
 
 def _close(replies: Sequence[Reply], why: str) -> None:

@@ -38,8 +38,8 @@ class Coordinator:
     def __str__(self) -> str:
         return f"{self.host}:{self.port}"
 
-    async def connect(self) -> Optional[Connection]:
-        """A new connection, or None where the coordinator can't be reached."""
+    async def connect(self, since: float) -> Optional[Connection]:
+        """A new connection, for a client whose own wasn't open before this moment; or None where the coordinator can't be reached."""
         try:
             connection = await self._open()
         except OSError as why:

@@ -10,22 +10,22 @@ from typing import Callable, Dict, List, NamedTuple, Optional, Tuple
 
 from broker import balance, batches
 from broker.cluster import Node
-from broker.etcd import Etcd, Event, KeyValue, Refused, Unanswered, created_at, get, put
+from broker.etcd import Etcd, Event, KeyValue, Refused, Unanswered, created_at, get, modified_at, put
 from broker.lease import Lease
 from broker.measures import Measures
 from broker.part import LEADERS, Leader, Part
-from broker.settings import KEY, Settings, decoded
+from broker.settings import BROKERS, KEY, Settings, decoded
 from broker.snapshots import LAST
 from broker.starter import Ended
-from broker.streams import within
+from broker.streams import first_done, within
 from broker.trouble import Trouble
 
 # What is watched: CLUSTER, and behind it the logs.
 ALL, ALL_END = "migwelun/cluster/", "migwelun/log0"
 CLUSTER, CLUSTER_END = "migwelun/cluster/", "migwelun/cluster0"
-BROKERS, NUMBERS = "migwelun/cluster/brokers/", "migwelun/cluster/numbers/"
+NUMBERS = "migwelun/cluster/numbers/"
 AGAIN_SECONDS = 0.3
-# For how long a watch may bring nothing until it is taken to be dead.
+# For how long a watch may bring nothing until it is asked whether there was anything to bring.
 SILENT_SECONDS = 3.0
 # How often leaderships are looked over, and how long after the last change one that is too much is given up.
 LOOK_SECONDS, CALM_SECONDS = 0.25, 0.5
@@ -64,8 +64,8 @@ class Members:
         # Who is there by etcd's word; and when a broker or a leader came or went last.
         self.brokers: Dict[int, Broker] = {}
         self._moved, self._have_changed = time.monotonic(), asyncio.Event()
-        # Its own key: when it was created, and what it says.
-        self._created, self._value = 0, b""
+        # Its own key: when it was written, and what it says.
+        self._written, self._value = 0, b""
         self._twin = Trouble(
             f"this broker waits, since another one at {self._address} is in the cluster", f"no other broker at {self._address} is in the cluster any more"
         )
@@ -95,7 +95,7 @@ class Members:
                 if task.done():
                     task.result()
         finally:
-            self._created = 0
+            self._written = 0
             for task in (keeping, showing):
                 task.cancel()
             await asyncio.gather(keeping, showing, return_exceptions=True)
@@ -117,18 +117,18 @@ class Members:
         """Writes the key. Not while there is one of another process: that is one before this, whose lease isn't over yet, or one that was given
         the same address."""
         key = f"{BROKERS}{self.number}"
-        found = await self._etcd.txn([created_at(key, self._created)], [put(key, value, self._lease.id)], [get(key)])
+        found = await self._etcd.txn([modified_at(key, self._written)], [put(key, value, self._lease.id)], [get(key)])
         if found.succeeded:
-            self._created = self._created or found.revision
+            self._written = found.revision
             self._twin.is_well()
             return True
-        self._created = next((pair.created for pair in found.pairs if pair.lease == self._lease.id), 0)
-        if found.pairs and not self._created:
+        self._written = next((pair.modified for pair in found.pairs if pair.lease == self._lease.id), 0)
+        if found.pairs and not self._written:
             self._twin.is_there("it has another lease")
         return False
 
     def is_member(self) -> bool:
-        return self._created > 0 and self._lease.is_held() and self.number in self.brokers
+        return self._written > 0 and self._lease.is_held() and self.number in self.brokers
 
     # ---- what etcd has
 
@@ -137,7 +137,7 @@ class Members:
         while True:
             try:
                 await self._watch()
-            except (Unanswered, Refused, asyncio.TimeoutError):
+            except (Unanswered, Refused):
                 self._etcd.turn()
                 await asyncio.sleep(AGAIN_SECONDS)
 
@@ -145,13 +145,33 @@ class Members:
         """Reads all there is, and then what changes. It ends where the watch does: whatever was missed is read then."""
         found = await self._etcd.range(CLUSTER, CLUSTER_END)
         self._see_all(found.pairs, found.revision)
+        seen = found.revision
         async with self._etcd.watch(ALL, ALL_END, found.revision + 1) as stream:
             # (What was appended until that revision is read, and what comes behind it is watched.)
             for part in self._parts:
                 part.look_again()
             while True:
-                for event in await within(SILENT_SECONDS, stream.events()):
+                coming = asyncio.ensure_future(stream.events())
+                try:
+                    await first_done([coming], SILENT_SECONDS)
+                    while not coming.done():
+                        await self._ask_whether_silent(seen)
+                        await first_done([coming], SILENT_SECONDS)
+                finally:
+                    coming.cancel()
+                for event in coming.result():
                     self._see(event)
+                    seen = max(seen, event.pair.modified)
+
+    async def _ask_whether_silent(self, seen: int) -> None:
+        """Raises Unanswered if there is something after a revision that the watch hasn't brought."""
+        found = await self._etcd.range(CLUSTER, CLUSTER_END)
+        log = await self._etcd.range(batches.LOGS, ALL_END, 1, seen + 1)
+        # (Of what was deleted there is nothing but that it isn't there.)
+        known = {*(f"{BROKERS}{number}" for number in self.brokers), *(f"{LEADERS}{part.number}" for part in self._parts if part.leader)}
+        there = {pair.key for pair in found.pairs if pair.key.startswith((BROKERS, LEADERS))}
+        if log.pairs or known != there or any(pair.modified > seen for pair in found.pairs):
+            raise Unanswered("a watch brings nothing, and there is something to bring")
 
     def _see_all(self, pairs: List[KeyValue], revision: int) -> None:
         by_key = {pair.key: pair for pair in pairs}

@@ -70,9 +70,9 @@ class Part:
         """Whether this broker leads it and answers."""
         return self._leadership is not None and self._leadership.serves
 
-    async def ask(self, body: bytes, connection: int, frame: int) -> bytes:
-        """The reply's frame to a frame's body. Raises CoordinatorClosed."""
-        return await self._serving().ask(body, connection, frame)
+    async def ask(self, body: bytes, connection: int, frame: int, since: float) -> bytes:
+        """The reply's frame to a frame's body, over a connection that wasn't open before a moment. Raises CoordinatorClosed."""
+        return await self._serving().ask(body, connection, frame, since)
 
     async def confirm(self) -> None:
         """Returns once it is sure that this broker has led since the call began, so that what was applied here is all that was answered
@@ -108,6 +108,7 @@ class Part:
         """This names the last snapshot."""
         with contextlib.suppress(BadSnapshot):
             self.snapshot = decoded(value)
+            self._wake.set()
 
     def look_again(self) -> None:
         """There may be entries that the watch didn't tell of."""
@@ -139,15 +140,28 @@ class Part:
     # ---- its course
 
     async def run(self) -> None:
-        """Follows, and leads when it is its turn, until the log can't be applied any more; and then says so."""
-        try:
-            while True:
+        """Follows, and leads when it is its turn, for ever. Where the log can't be applied any further it says so, and waits for a snapshot."""
+        while True:
+            try:
                 await self._follow_or_lead()
-        except Stopped as why:
-            self.fault = str(why)
-            self.follower.has_read_up.set()
-            say(f"part {self.number} stops here, until this broker is started again: {why}")
-            await self._leave_to_others()
+            except Stopped as why:
+                self.fault = str(why)
+                self.follower.has_read_up.set()
+                say(f"part {self.number} stops here, until it has another snapshot or this broker is started again: {why}")
+                await self._wait_for_snapshot()
+                self.fault = None
+                self.follower.look_again()
+                say(f"part {self.number} is tried again, since it has another snapshot")
+
+    async def _wait_for_snapshot(self) -> None:
+        """Until another snapshot is named, of a later place than what is applied. Meanwhile others lead: also where this broker comes to lead by a
+        request that is done late."""
+        place = max(self.snapshot.place, self.follower.place)
+        while self.snapshot.place <= place:
+            self._wake.clear()
+            if self.leader is None or self.leader.lease == self._lease.id:
+                await self._leave_to_others()
+            await self._wake.wait()
 
     async def _follow_or_lead(self) -> None:
         self._wake.clear()

@@ -11,7 +11,7 @@ import socket
 import time
 from typing import Optional
 
-from broker.acceptor import Address, Work, accept
+from broker.acceptor import Accepted, Address, Work, accept
 from broker.apis import ANSWERS
 from broker.call import Call
 from broker.cluster import Cluster, Node
@@ -37,9 +37,10 @@ async def serve_node(cluster: Cluster, node: Node, watch: Watch, listener: socke
     opened in the order in which the clients' were accepted, one after the other.
     """
 
-    async def prepare(client: socket.socket, address: Address) -> Optional[Work]:
+    async def prepare(it: Accepted) -> Optional[Work]:
+        client, address = it.socket, it.address
         number = cluster.record.opened(f"{address[0]}:{address[1]}", f"{node.host}:{node.port}")
-        coordinator = await node.coordinator.connect()
+        coordinator = await node.coordinator.connect(it.since)
         if coordinator is None:
             client.close()
             cluster.record.closed(number)
@@ -116,7 +117,7 @@ class Relay:
             raise Closed(f"it asked for {request.name}, which nobody can do here")
         began = time.monotonic()
         try:
-            reply = await ANSWERS[request.key](Call(request, self.cluster, self.node, link, self.watch))
+            reply = await ANSWERS[request.key](Call(request, self.cluster, self.node, link, self.watch, self.number))
         except Unreadable as why:
             raise Unreadable(f"{request.name} version {request.version}: {why}") from None
         self.watch.answered(request.name, time.monotonic() - began)

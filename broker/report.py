@@ -22,7 +22,7 @@ UNKNOWN = [
     "The coordinator isn't asked for its state. All this is read off the heartbeats and commits that passed here since this program began.",
     "A group's epoch is the greatest epoch of its members that was seen; its target assignment isn't known.",
     f"A member that stops without leaving is shown until {SESSION_SECONDS:.0f} s after its last heartbeat, when the coordinator removes it.",
-    "What a member was told before this program began, or through another one, isn't known until it is told anew.",
+    "What a member was told before this program began, or through another one, isn't known until it is told again.",
     "Offsets that were committed before this program began, or past it, aren't known.",
 ]
 OF_A_LOG = [

@@ -1,12 +1,15 @@
-"""Starts the program `coord serve` with the same topics."""
+"""Starts a coordinator with the same topics: the program `coord serve`, or the rules of the protocol in Python."""
 
 from __future__ import annotations
 
 import asyncio
 import contextlib
 import dataclasses
+import pathlib
+import re
 import socket
-from typing import Iterator
+import sys
+from typing import Iterator, List
 
 from broker.link import Coordinator
 from broker.streams import within
@@ -15,6 +18,8 @@ from broker.topics import Topics
 HOST = "127.0.0.1"
 WORKERS, SHARDS = 4, 8
 END_SECONDS = 10
+SESSION_SECONDS = 45
+CONFORMANCE = pathlib.Path(__file__).resolve().parents[1] / "conformance"
 
 
 class Ended(Exception):
@@ -25,14 +30,14 @@ class Ended(Exception):
 class Started:
     """The program, which listens."""
 
-    program: str
+    name: str
     process: asyncio.subprocess.Process
     coordinator: Coordinator
 
     async def ended(self) -> None:
         """Waits until it ends, and raises Ended."""
         status = await self.process.wait()
-        raise Ended(f"{self.program} serve ended with status {status}")
+        raise Ended(f"{self.name} ended with status {status}")
 
     async def end(self) -> None:
         """Ends it, and waits for that."""
@@ -46,37 +51,42 @@ class Started:
             await self.process.wait()
 
 
-async def start(program: str, topics: Topics) -> Started:
-    """Starts it, and waits until it listens. (Where the launcher has to build it first that takes long; it says so.)"""
+async def start(program: str, topics: Topics, is_proved: bool = True) -> Started:
+    """Starts the program, and waits until it listens. (Where the launcher has to build it first that takes long; it says so.)"""
     with free_port() as port:
-        return await _start(program, port, topics)
+        numbers = {"--port": port, "--workers": WORKERS, "--shards": SHARDS}
+        words = [word for option, number in numbers.items() for word in (option, str(number))]
+        return await _start(f"{program} serve", [program, *["--unproved"] * (not is_proved), "serve", *words], topics)
 
 
-async def _start(program: str, port: int, topics: Topics) -> Started:
-    numbers = {"--port": port, "--workers": WORKERS, "--shards": SHARDS}
-    words = [word for option, number in numbers.items() for word in (option, str(number))]
-    words += [topic.word() for topic in topics]
-    nothing, pipe = asyncio.subprocess.DEVNULL, asyncio.subprocess.PIPE
+async def start_rules(topics: Topics) -> Started:
+    """Starts the rules in Python, which nothing proves."""
+    server = str(CONFORMANCE / "planted/serve.py")
+    return await _start("the coordinator in Python", [sys.executable, "-B", server, str(CONFORMANCE), str(SESSION_SECONDS)], topics)
+
+
+async def _start(name: str, words: List[str], topics: Topics) -> Started:
+    pipe = asyncio.subprocess.PIPE
     try:
-        # In a session of its own, so that an interrupt at the terminal comes to it through this program alone.
+        # In a session of its own, so that an interrupt at the terminal comes to it through this program alone. (The rules end with their input.)
         process = await asyncio.create_subprocess_exec(
-            program, "serve", *words, stdin=nothing, stdout=pipe, start_new_session=True
+            *words, *[topic.word() for topic in topics], stdin=pipe, stdout=pipe, start_new_session=True
         )
     except OSError as why:
-        raise Ended(f"{program} can't be started: {why.strerror}") from None
-    started = Started(program, process, Coordinator(HOST, port))
+        raise Ended(f"{words[0]} can't be started: {why.strerror}") from None
     try:
         assert process.stdout is not None
         line = await process.stdout.readline()
+        found = re.fullmatch(rb"listening (\d+)\n", line)
         if not line:
             # Its end is taken here, since asyncio says something of one that a signal comes upon first.
             with contextlib.suppress(asyncio.TimeoutError):
                 await within(END_SECONDS, process.wait())
-        if line != f"listening {port}\n".encode():
-            raise Ended(f"{program} serve ended before it listened")
-        return started
+        if not found:
+            raise Ended(f"{name} ended before it listened")
+        return Started(name, process, Coordinator(HOST, int(found[1])))
     except BaseException:
-        await started.end()
+        await Started(name, process, Coordinator(HOST, 0)).end()
         raise
 
 

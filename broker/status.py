@@ -8,7 +8,7 @@ import socket
 import time
 from typing import Dict, Tuple
 
-from broker.acceptor import Address, Work, accept
+from broker.acceptor import Accepted, Work, accept
 from broker.cluster import Cluster
 from broker.report import Report
 from broker.room import CutOff, Room
@@ -48,8 +48,8 @@ class Status:
     async def run(self, listener: socket.socket) -> None:
         """Serves for ever."""
 
-        async def prepare(client: socket.socket, _: Address) -> Work:
-            return self._serve(client)
+        async def prepare(it: Accepted) -> Work:
+            return self._serve(it.socket)
 
         # (The oldest ones may be at their end.)
         await accept(listener, 2 * MOST_CONNECTIONS, prepare)

@@ -61,7 +61,7 @@ def _left(writer: asyncio.StreamWriter) -> Tuple[int, int]:
 
 
 async def close(writer: asyncio.StreamWriter) -> None:
-    """Closes behind what was written. What the other side doesn't take is given up after a while, and at a cancellation."""
+    """Closes after what was written. Bytes that the other side doesn't take are given up after a while, and at a cancellation."""
     writer.close()
     try:
         with contextlib.suppress(OSError, asyncio.TimeoutError):

@@ -32,18 +32,22 @@ class Topic:
 
 
 def read(word: str) -> Topic:
-    """A topic as on a command line, NAME:UUID:COUNT. Raises ValueError, which says what is wrong."""
+    """A topic as on a command line, NAME:COUNT or NAME:UUID:COUNT. Raises ValueError, which says what is wrong."""
     name, _, rest = word.partition(":")
     id_text, _, count_text = rest.rpartition(":")
     if not NAME.fullmatch(name):
         raise ValueError(f"{word!r} wants a name of 1 to 249 letters, digits, dots, underscores and hyphens")
-    try:
-        topic_id = uuid.UUID(id_text)
-    except ValueError:
-        raise ValueError(f"{word!r} wants a UUID behind its first colon") from None
     if not re.fullmatch(r"[1-9]\d{0,5}", count_text) or int(count_text) > MOST_PARTITIONS_OF_A_TOPIC:
         raise ValueError(f"{word!r} wants a number of partitions from 1 to {MOST_PARTITIONS_OF_A_TOPIC} at its end")
-    return Topic(name, topic_id, int(count_text))
+    try:
+        return Topic(name, uuid.UUID(id_text) if ":" in rest else id_of(name), int(count_text))
+    except ValueError:
+        raise ValueError(f"{word!r} wants a UUID after its first colon") from None
+
+
+def id_of(name: str) -> uuid.UUID:
+    """The id of a topic that is given without one: the same at each start."""
+    return uuid.uuid5(uuid.NAMESPACE_DNS, name)
 
 
 class Topics:

@@ -27,6 +27,8 @@ from conformance.wire import Unreadable
 # COORDINATOR_LOAD_IN_PROGRESS, COORDINATOR_NOT_AVAILABLE, NOT_COORDINATOR: a client asks again.
 ASK_AGAIN = (14, 15, 16)
 ASK_AGAIN_SECONDS = 0.1
+# A topic with more partitions than this isn't played with if there is another one.
+MANY = 100
 
 
 class NoBroker(Exception):
@@ -125,13 +127,13 @@ def want_apis(broker: Broker) -> None:
 
 
 def chosen(found: List[Topic], names: Optional[Sequence[str]]) -> List[Topic]:
-    """The topics to play with: those that are told, or all. The one with the most partitions is the first."""
+    """The topics to play with: those that are told, or all. The one with the most partitions is the first, of those that haven't very many."""
     missing = sorted({*(names or ())} - {topic.name for topic in found})
     if missing:
         raise NoBroker(f"it has no topic {missing[0]}")
     if not found:
         raise NoBroker("it has no topics; make one with four partitions or more, and another one")
-    return sorted(found, key=lambda topic: (-topic.count, topic.name))
+    return sorted(found, key=lambda topic: (topic.count > MANY, -topic.count if topic.count <= MANY else topic.count, topic.name))
 
 
 def is_there(address: Address, seconds: float) -> bool:

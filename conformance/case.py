@@ -3,14 +3,14 @@
 from __future__ import annotations
 
 import dataclasses
-from typing import Callable, List
+from typing import TYPE_CHECKING, Callable
 
-from conformance.play import Play
+if TYPE_CHECKING:
+    from conformance.play import Play
 
 # The standard says so, and clients or other members are harmed otherwise; it says so or means so, and clients get along;
 # it leaves it open, so what the broker does is noted and never wrong.
 MUST, SHOULD, FREE = "must", "should", "free"
-Body = Callable[[Play], None]
 
 
 @dataclasses.dataclass(frozen=True)
@@ -20,22 +20,17 @@ class Case:
     level: str
     sends: str
     holds: str
-    run: Body
+    run: Callable[[Play], None]
     # It waits for the ends of sessions and timeouts.
     is_slow: bool = False
 
+    # What `sends` is, in a story.
+    act = "what it sends:"
 
-CASES: List[Case] = []
-
-
-def case(name: str, section: str, level: str, sends: str, holds: str, is_slow: bool = False) -> Callable[[Body], Body]:
-    """Makes a case of a function."""
-
-    def add(body: Body) -> Body:
-        CASES.append(Case(name, section, level, sends, holds, body, is_slow))
-        return body
-
-    return add
+    @property
+    def topic(self) -> str:
+        """The module that it stands in, as words."""
+        return self.run.__module__.rpartition(".")[2].replace("_", " ")
 
 
 # Sections of KIP-848.

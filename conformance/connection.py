@@ -7,7 +7,7 @@ import time
 from typing import Tuple
 
 from conformance.messages import framed, header, reply_fields
-from conformance.wire import Reader, Unreadable
+from conformance.wire import Reader
 
 Address = Tuple[str, int]
 LONGEST_REPLY = 64 << 20
@@ -15,6 +15,10 @@ LONGEST_REPLY = 64 << 20
 
 class Lost(Exception):
     """No reply came, and why."""
+
+
+class Silent(Lost):
+    """The broker is there, and nothing comes from it."""
 
 
 class Closed(Lost):
@@ -38,7 +42,7 @@ class Connection:
             self.socket.settimeout(self.seconds)
             self.socket.sendall(data)
         except socket.timeout:
-            raise Lost(f"the broker took no bytes for {self.seconds:g} s") from None
+            raise Silent(f"the broker took no bytes for {self.seconds:g} s") from None
         except OSError as why:
             raise Closed(f"the broker closed the connection ({why.strerror or why})") from None
 
@@ -57,7 +61,7 @@ class Connection:
                 self.socket.settimeout(max(0.001, until - time.monotonic()))
                 more = self.socket.recv(min(count - len(data), 1 << 16))
             except socket.timeout:
-                raise Lost(f"the broker sent no whole reply within {self.seconds:g} s") from None
+                raise Silent(f"the broker sent no whole reply within {self.seconds:g} s") from None
             except OSError as why:
                 raise Closed(f"the broker closed the connection ({why.strerror or why}) in place of a reply") from None
             if not more:
@@ -71,7 +75,7 @@ class Connection:
         self.send(framed(header(key, version, self.correlation) + fields))
         correlation, reply = reply_fields(key, version, self.receive())
         if correlation != self.correlation:
-            raise Unreadable(f"the reply has correlation id {correlation}, and the request had {self.correlation}")
+            raise reply.bad(f"the reply has correlation id {correlation}, and the request had {self.correlation}")
         return reply
 
     def close(self) -> None:

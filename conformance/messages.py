@@ -5,7 +5,7 @@ from __future__ import annotations
 import dataclasses
 from typing import Dict, FrozenSet, List, Mapping, NamedTuple, Optional, Sequence, Tuple
 
-from conformance.wire import NO_TAGS, Reader, Unreadable, array, int8, int16, int32, int64, tags, text
+from conformance.wire import NO_TAGS, Reader, array, int8, int16, int32, int64, tags, text
 
 METADATA, OFFSET_COMMIT, OFFSET_FETCH, FIND_COORDINATOR, API_VERSIONS, HEARTBEAT = 3, 8, 9, 10, 18, 68
 NAMES = {
@@ -50,7 +50,7 @@ def framed(body: bytes) -> bytes:
 
 
 def reply_fields(key: int, version: int, body: bytes) -> Tuple[int, Reader]:
-    """The correlation id of a reply, and a reader of what stands behind its header. (That of ApiVersions never has tagged fields.)"""
+    """The correlation id of a reply, and a reader of what stands after its header. (That of ApiVersions never has tagged fields.)"""
     fields = Reader(body)
     correlation = fields.number(4)
     fields.tags(is_flexible(key, version) and key != API_VERSIONS)
@@ -97,7 +97,7 @@ def owned_field(owned: Optional[Partitions], entry_tags: bytes = NO_TAGS) -> byt
 
 @dataclasses.dataclass(frozen=True)
 class Told:
-    """The reply to a heartbeat. The assignment is None where it is null: as it was."""
+    """The reply to a heartbeat. The assignment is None where it is null: as it was. The throttle time is in milliseconds."""
 
     code: int
     message: Optional[str]
@@ -106,26 +106,26 @@ class Told:
     interval: int
     assignment: Optional[Partitions]
     is_listed_twice: bool = False
+    throttle: int = 0
 
 
 def read_heartbeat_reply(fields: Reader) -> Told:
-    fields.number(4)
-    code, message, member = fields.number(2), fields.text_or_null(True), fields.text_or_null(True)
+    throttle, code, message, member = fields.number(4), fields.number(2), fields.text_or_null(True), fields.text_or_null(True)
     epoch, interval, mark = fields.number(4), fields.number(4), fields.number(1)
     listed: Optional[List[Partition]] = None
     if mark not in (-1, 1):
-        raise Unreadable(f"the assignment begins with {mark}, which is neither -1 (null) nor 1")
+        raise fields.bad(f"an assignment that begins with {mark}, which is neither -1 (null) nor 1")
     if mark == 1:
         listed = [each for entry in fields.array(True, lambda: read_entry(fields)) for each in entry]
         fields.tags()
     fields.tags()
     fields.end()
     assignment = None if listed is None else frozenset(listed)
-    return Told(code, message, member, epoch, interval, assignment, len(listed or ()) > len(assignment or ()))
+    return Told(code, message, member, epoch, interval, assignment, len(listed or ()) > len(assignment or ()), throttle)
 
 
 def read_entry(fields: Reader) -> List[Partition]:
-    topic, indexes = fields.raw(16), fields.array(True, lambda: fields.number(4))
+    topic, indexes = fields.raw(16), fields.int32s()
     fields.tags()
     return [(topic, index) for index in indexes]
 
@@ -133,13 +133,23 @@ def read_entry(fields: Reader) -> List[Partition]:
 # ---- OffsetCommit
 
 
+class Part(NamedTuple):
+    """What is committed of a partition, or fetched of it: then with a code."""
+
+    index: int
+    offset: int
+    metadata: Optional[str] = None
+    leader: int = -1
+    code: int = 0
+
+
 class Commit(NamedTuple):
-    """Offsets to be stored: for each topic's name (index, offset, metadata)."""
+    """Offsets to be stored, by the topic's name."""
 
     group: str
     member: str
     epoch: int
-    topics: Mapping[str, Sequence[Tuple[int, int, Optional[str]]]]
+    topics: Mapping[str, Sequence[Part]]
 
     def fields(self, version: int) -> bytes:
         flexible = is_flexible(OFFSET_COMMIT, version)
@@ -149,10 +159,9 @@ class Commit(NamedTuple):
         return out + array((self._topic(name, version, flexible) for name in self.topics), flexible) + tags(flexible)
 
     def _topic(self, name: str, version: int, flexible: bool) -> bytes:
-        leader_epoch = int32(-1) if version >= 6 else b""
         parts = (
-            int32(index) + int64(offset) + leader_epoch + text(metadata, flexible) + tags(flexible)
-            for index, offset, metadata in self.topics[name]
+            int32(it.index) + int64(it.offset) + (int32(it.leader) if version >= 6 else b"") + text(it.metadata, flexible) + tags(flexible)
+            for it in self.topics[name]
         )
         return text(name, flexible) + array(parts, flexible) + tags(flexible)
 
@@ -183,9 +192,14 @@ def read_commit_reply(fields: Reader, version: int) -> List[Tuple[str, int, int]
 # ---- OffsetFetch
 
 
-def offset_fetch_fields(version: int, group: str, topic: str, index: int, member: Optional[str] = None, epoch: int = -1) -> bytes:
+Places = Optional[Mapping[str, Sequence[int]]]
+
+
+def offset_fetch_fields(version: int, group: str, places: Places, member: Optional[str] = None, epoch: int = -1) -> bytes:
+    """The offsets of some partitions by the topic's name, or, from version 2 on, all that the group has: None."""
     flexible = is_flexible(OFFSET_FETCH, version)
-    topics = array([text(topic, flexible) + array([int32(index)], flexible) + tags(flexible)], flexible)
+    asked = None if places is None else [text(name, flexible) + array(map(int32, some), flexible) + tags(flexible) for name, some in places.items()]
+    topics = array(asked, flexible)
     if version < 8:
         return text(group, flexible) + topics + (int8(0) if version >= 7 else b"") + tags(flexible)
     of_member = text(member) + int32(epoch) if version >= 9 else b""
@@ -193,44 +207,44 @@ def offset_fetch_fields(version: int, group: str, topic: str, index: int, member
 
 
 class Fetched(NamedTuple):
-    """The answer for one partition: the group's code, the partition's, and the offset (-1: none)."""
+    """The group's code, and what is stored by the topic's name and the partition's index (offset -1: nothing)."""
 
-    group_code: int
     code: int
-    offset: int
+    parts: Dict[Tuple[str, int], Part]
+
+    def first_code(self) -> int:
+        """The group's code, or else the first one of a partition that isn't 0."""
+        return self.code or next((part.code for part in self.parts.values() if part.code), 0)
 
 
 def read_offset_fetch_reply(fields: Reader, version: int) -> Fetched:
-    """The first partition of the first topic (of the first group)."""
+    """What is said of the first group."""
     flexible = is_flexible(OFFSET_FETCH, version)
     if version >= 3:
         fields.number(4)
 
-    def partition() -> Tuple[int, int]:
-        _index, offset = fields.number(4), fields.number(8)
-        if version >= 5:
-            fields.number(4)
-        _metadata, code = fields.text_or_null(flexible), fields.number(2)
+    def partition(name: str) -> Tuple[Tuple[str, int], Part]:
+        index, offset = fields.number(4), fields.number(8)
+        leader = fields.number(4) if version >= 5 else -1
+        metadata, code = fields.text_or_null(flexible), fields.number(2)
         fields.tags(flexible)
-        return code, offset
+        return (name, index), Part(index, offset, metadata, leader, code)
 
-    def topic() -> List[Tuple[int, int]]:
-        fields.text(flexible)
-        parts = fields.array(flexible, partition)
+    def topic() -> List[Tuple[Tuple[str, int], Part]]:
+        name = fields.text(flexible)
+        parts = fields.array(flexible, lambda: partition(name))
         fields.tags(flexible)
         return parts
 
-    def group() -> Tuple[List[Tuple[int, int]], int]:
+    def group() -> Fetched:
         if version >= 8:
             fields.text(flexible)
-        parts = [each for one in fields.array(flexible, topic) for each in one]
+        parts = dict(each for one in fields.array(flexible, topic) for each in one)
         code = fields.number(2) if version >= 2 else 0
         fields.tags(flexible)
-        return parts, code
+        return Fetched(code, parts)
 
-    found, group_code = (fields.array(True, group) or [([], 0)])[0] if version >= 8 else group()
-    code, offset = found[0] if found else (0, -1)
-    return Fetched(group_code, code, offset)
+    return (fields.array(True, group) or [Fetched(0, {})])[0] if version >= 8 else group()
 
 
 # ---- what is asked before the first heartbeat
@@ -278,7 +292,7 @@ def read_metadata_reply(fields: Reader, version: int) -> Cluster:
         index = fields.number(4)
         fields.raw(8)
         for _ in range(3):
-            fields.array(True, lambda: fields.number(4))
+            fields.int32s()
         fields.tags()
         return index
 

@@ -6,56 +6,39 @@ import contextlib
 import dataclasses
 import time
 import uuid
+from collections import Counter
 from typing import Any, Callable, Dict, List, NoReturn, Optional, Sequence, Set, Tuple
 
 from conformance.broker import Broker
-from conformance.connection import Address, Connection, Lost
+from conformance.case import Case
+from conformance.connection import Address, Connection
+from conformance.member import ALONE, FIRST_PAUSE, JOIN_ANEW, LAST_PAUSE, SHARED, Member
 from conformance.messages import (
-    AWAY,
     HEARTBEAT,
-    JOIN,
-    LEAVE,
-    NOTHING,
     OFFSET_COMMIT,
     OFFSET_FETCH,
     Commit,
     Fetched,
-    Heartbeat,
+    Part,
     Partition,
     Partitions,
+    Places,
     Told,
     Topic,
     offset_fetch_fields,
     read_commit_reply,
-    read_heartbeat_reply,
     read_offset_fetch_reply,
 )
 from conformance.story import Story, code_text, codes_text
-from conformance.watch import FENCED_MEMBER_EPOCH, UNKNOWN_MEMBER_ID, Watch
+from conformance.verdict import Failed, Late, NotRun, StandsOn
+from conformance.watch import Watch
 
-# While members are waited for they beat so often, in seconds: at once first, and then ever less often.
-FIRST_PAUSE, LAST_PAUSE = 0.005, 0.25
+# (If there are very many partitions, each beat takes a while.)
+LEAST_ROUNDS = 8
 # How long a case may take at most: a slow one some sessions longer.
 LONGEST_SECONDS, SLOW_SESSIONS = 120.0, 4
-NO_EPOCH_YET = 0
-REBALANCE_MS = 60_000
-JOIN_ANEW = (UNKNOWN_MEMBER_ID, FENCED_MEMBER_EPOCH)
-
-
-class Failed(Exception):
-    """Something that has to hold doesn't. It is a minor matter where a client gets along with it."""
-
-    def __init__(self, words: str, is_minor: bool = False) -> None:
-        super().__init__(words)
-        self.is_minor = is_minor
-
-
-class Late(Failed):
-    """Something doesn't come about in time."""
-
-
-class NotRun(Exception):
-    """The case can't be played with this broker, and why."""
+USUAL_ROUNDS = 3
+GROUP_MAX_SIZE_REACHED, UNSUPPORTED_ASSIGNOR = 81, 112
 
 
 @dataclasses.dataclass(frozen=True)
@@ -70,14 +53,28 @@ class Settings:
     # A command that adds partitions to the first topic.
     grow: Optional[str] = None
     seed: int = 848
+    # How many walks there are of each kind, and how long they go on, in seconds, if that is longer.
+    rounds: int = USUAL_ROUNDS
+    walks: float = 0.0
+
+
+@dataclasses.dataclass
+class SoFar:
+    """What the cases that were played have shown: which failed, and after which free ones the broker ended."""
+
+    failed: Set[str] = dataclasses.field(default_factory=set)
+    ended: List[str] = dataclasses.field(default_factory=list)
 
 
 class Play:
     """One run of one case."""
 
-    def __init__(self, name: str, broker: Broker, settings: Settings, is_slow: bool = False) -> None:
-        self.name, self.broker, self.settings = name, broker, settings
-        self.until_when = time.monotonic() + LONGEST_SECONDS + (SLOW_SESSIONS * (settings.session + settings.late) if is_slow else 0)
+    def __init__(self, case: Case, broker: Broker, settings: Settings, so_far: SoFar) -> None:
+        self.case, self.broker, self.settings, self.so_far = case, broker, settings, so_far
+        slow = SLOW_SESSIONS * (settings.session + settings.late) if case.is_slow else 0
+        self.until_when = time.monotonic() + LONGEST_SECONDS * max(1, settings.rounds / USUAL_ROUNDS) + settings.walks + slow
+        # The cases that this one stands on.
+        self.bases: Set[str] = set()
         self.story = Story(broker.topics)
         self.members: List[Member] = []
         self.notes: List[str] = []
@@ -94,7 +91,7 @@ class Play:
         return self._group
 
     def new_group(self) -> str:
-        return f"conformance-{self.name}-{uuid.uuid4().hex[:8]}"
+        return f"conformance-{self.case.name}-{uuid.uuid4().hex[:8]}"
 
     @property
     def version(self) -> int:
@@ -118,7 +115,7 @@ class Play:
 
     def watch(self, group: str) -> Watch:
         if group not in self._watches:
-            self._watches[group] = Watch(self.story, self.broker.topics, self.settings.grow is not None)
+            self._watches[group] = Watch(self.story, self.broker.topics, self.settings.grow is not None, self.settings.session)
         return self._watches[group]
 
     def connect(self, address: Optional[Address] = None) -> Connection:
@@ -128,6 +125,13 @@ class Play:
 
     # -- what has to hold
 
+    def stands_on(self, *names: str) -> None:
+        """If one of these cases failed, what comes now would only tell that again."""
+        self.bases |= {*names} - {self.case.name}
+        for name in names:
+            if name in self.so_far.failed and name != self.case.name:
+                raise StandsOn(f"stands on {name}")
+
     def fail(self, words: str) -> NoReturn:
         raise Failed(words)
 
@@ -136,10 +140,33 @@ class Play:
             self.fail(words)
 
     def want_code(self, what: str, code: int, *codes: int) -> None:
-        """Refused is refused: of the two codes after which a client joins anew, it is a minor matter which one it is."""
+        """Refused is refused: of the two codes after which a client joins again, it doesn't matter much which one it is."""
         if code not in codes:
             is_minor = code in JOIN_ANEW and any(each in JOIN_ANEW for each in codes)
             raise Failed(f"{what} is answered with {code_text(code)}, and should be with {codes_text(codes)}", is_minor)
+
+    def has_others(self, member: Member) -> bool:
+        """Whether its group has other members."""
+        return any(other is not member and other.is_in and other.group == member.group for other in self.members)
+
+    def want_taken(self, member: Member, reply: Told) -> None:
+        """A broker may have room for so many members and no more, and assignors by other names."""
+        if reply.code == GROUP_MAX_SIZE_REACHED and self.has_others(member):
+            raise NotRun("the broker takes no more members into the group")
+        if reply.code == UNSUPPORTED_ASSIGNOR and member.assignor is not None:
+            raise NotRun(f"the broker has no assignor {member.assignor}")
+
+    def want_in_time(self, *members: Member) -> None:
+        for member in members:
+            if self.watch(member.group).may_be_over(member.id):
+                raise NotRun(f"this machine or the link is too slow: the session of {member.name} may be over")
+
+    def want_kept(self, who: Member, kept: Partitions, *others: Member) -> None:
+        """What a member holds, or what is reserved for it, goes to nobody else while its session isn't over."""
+        for other in others:
+            if kept & other.owned:
+                self.want_in_time(who)
+                self.fail(f"{self.story.partitions(kept & other.owned)} goes to {other.name}, and is still that of {who.name}")
 
     def want_refused(self, what: str, code: int) -> None:
         self.want(code != 0, f"{what} is accepted, and should be refused")
@@ -153,9 +180,10 @@ class Play:
 
     def until(self, what: str, holds: Callable[[], bool], *members: Member, act: Optional[Callable[[Member], object]] = None) -> None:
         """The members beat, and do what they are told (or else `act`), until it holds."""
-        until, pause = time.monotonic() + self.settings.patience, FIRST_PAUSE
+        until, pause, rounds = time.monotonic() + self.settings.patience, FIRST_PAUSE, 0
         while not holds():
-            if time.monotonic() > until:
+            rounds += 1
+            if time.monotonic() > until and rounds > LEAST_ROUNDS:
                 raise Late(f"{self.settings.patience:g} s of heartbeats don't bring it about that {what}")
             for member in members:
                 (act or Member.turn)(member)
@@ -163,15 +191,24 @@ class Play:
             pause = min(LAST_PAUSE, pause * 1.5)
 
     def settle(self, *members: Member) -> None:
-        """The members beat until each partition that they subscribe has one owner, at one epoch of all."""
+        """The members beat until each partition that they subscribe has one owner, at one epoch of all, and nobody waits for a part."""
         members = members or tuple(member for member in self.members if member.is_in)
+        self.stands_on(ALONE, *SHARED * (len(members) > 1))
         try:
-            self.until("", lambda: self.is_settled(members), *members)
+            self.until("", lambda: self.is_settled(members) and not self.idle(members), *members)
         except Late:
-            self.fail(f"after {self.settings.patience:g} s of heartbeats {self.lacks(members)}")
+            idle = " ".join(member.name for member in self.idle(members))
+            lacks = self.lacks(members) or f"{idle} is left without partitions, of a topic that has enough for all"
+            raise Failed(f"after {self.settings.patience:g} s of heartbeats {lacks}", is_minor=not self.lacks(members)) from None
 
     def is_settled(self, members: Sequence[Member]) -> bool:
         return not self.lacks(members)
+
+    def idle(self, members: Sequence[Member]) -> List[Member]:
+        """Who still waits for its part, of a topic that is enough for all."""
+        shares = Counter(name for member in members for name in {*member.names})
+        is_enough = {topic.name for topic in self.broker.topics if topic.count >= shares[topic.name]}
+        return [member for member in members if not member.owned and not is_enough.isdisjoint(member.names)]
 
     def lacks(self, members: Sequence[Member]) -> str:
         """What isn't as it has to be in the end, or nothing."""
@@ -179,7 +216,7 @@ class Play:
         wanted = frozenset(each for topic in self.broker.topics if topic.name in names for each in topic.partitions())
         owned = [each for member in members for each in member.owned]
         missing, more = wanted - frozenset(owned), frozenset(owned) - wanted
-        twice = frozenset(each for each in owned if owned.count(each) > 1)
+        twice = frozenset(each for each, times in Counter(owned).items() if times > 1)
         words = [f"{member.name} is no member" for member in members if not member.is_in]
         rows = ((missing, "nobody's"), (twice, "two members'"), (more, "assigned, and nobody subscribes it"))
         words += [f"{self.story.partitions(some)} is {what}" for some, what in rows if some]
@@ -205,10 +242,10 @@ class Play:
         version: Optional[int] = None,
     ) -> List[int]:
         """A member commits offsets by partition; the code of each."""
-        by_name: Dict[str, List[Tuple[int, int, Optional[str]]]] = {}
+        by_name: Dict[str, List[Part]] = {}
         names = {topic.id: topic.name for topic in self.broker.topics}
         for (topic, index), offset in offsets.items():
-            by_name.setdefault(names[topic], []).append((index, offset, None))
+            by_name.setdefault(names[topic], []).append(Part(index, offset))
         commit = Commit(member.group, member.id if member_id is None else member_id, member.epoch if epoch is None else epoch, by_name)
         return [code for _, _, code in self.send_commit(member, commit, version)]
 
@@ -217,9 +254,14 @@ class Play:
         version = self.broker.version(OFFSET_COMMIT) if version is None else version
         if version is None:
             raise NotRun("the broker offers no OffsetCommit that the suite speaks")
-        self.story.committed(member.name, commit, version, None)
-        fields = member.connection.ask(OFFSET_COMMIT, version, commit.fields(version))
-        results = read_commit_reply(fields, version)
+        self.story.committed(member.name, commit, version)
+        asked = version
+
+        def ask() -> List[Tuple[str, int, int]]:
+            return read_commit_reply(member.connection.ask(OFFSET_COMMIT, asked, commit.fields(asked)), asked)
+
+        results: List[Tuple[str, int, int]] = member.asks(ask, lambda found: found[0][2] if found else 0)
+        member.judge_time(commit.group, commit.member, results[0][2] if results else 0)
         self.story.say(f"{member.name} <- {', '.join(code_text(code) for _, _, code in results) or 'nothing'}")
         return results
 
@@ -233,17 +275,18 @@ class Play:
         version = self.broker.version(OFFSET_FETCH)
         if version is None:
             return None
-        found = self.fetch(member, topic, index)
-        self.want_code("OffsetFetch", found.group_code or found.code, 0)
-        return found.offset
+        found = self.fetch(member, {topic.name: [index]})
+        self.want_code("OffsetFetch", found.first_code(), 0)
+        return found.parts[topic.name, index].offset if (topic.name, index) in found.parts else -1
 
-    def fetch(self, member: Member, topic: Topic, index: int, member_id: Optional[str] = None, epoch: int = -1) -> Fetched:
+    def fetch(self, member: Member, places: Places, member_id: Optional[str] = None, epoch: int = -1) -> Fetched:
+        """What is stored for partitions by the topic's name, or for all of the group."""
         version = self.broker.version(OFFSET_FETCH)
-        if version is None:
+        if version is None or places is None and version < 2:
             raise NotRun("the broker offers no OffsetFetch that the suite speaks")
-        fields = member.connection.ask(OFFSET_FETCH, version, offset_fetch_fields(version, member.group, topic.name, index, member_id, epoch))
-        found = read_offset_fetch_reply(fields, version)
-        self.story.say(f"{member.name}: OffsetFetch of {topic.name}[{index}]: offset {found.offset}, code {found.group_code or found.code}")
+        asked, fields = version, offset_fetch_fields(version, member.group, places, member_id, epoch)
+        found = member.asks(lambda: read_offset_fetch_reply(member.connection.ask(OFFSET_FETCH, asked, fields), asked), Fetched.first_code)
+        self.story.fetched(member.name, found)
         return found
 
     # -- the end
@@ -256,157 +299,20 @@ class Play:
         faults = self.faults()
         self.want(not faults, faults[0] if faults else "")
 
+    def tell_of(self, other: Play) -> None:
+        """From now on what happened is what happened in another run of the case."""
+        self.story.lines, self._watches = other.story.lines, other._watches
+
     def go_on(self) -> None:
         """No case goes on for ever, whatever the broker does."""
-        self.want(time.monotonic() < self.until_when, "the case takes too long: the broker is too slow for it")
+        if time.monotonic() > self.until_when:
+            raise NotRun("it takes too long: the broker, the link or this machine is too slow for it")
 
-    def close(self) -> None:
+    def close(self, leaves: bool) -> None:
         """The members leave, so that the broker has nothing left of the case. What goes wrong here is no matter of the case."""
         with contextlib.suppress(Exception):
             for member in self.members:
-                if member.is_in or member.may_be_in:
+                if leaves and (member.is_in or member.may_be_in):
                     member.leave_quietly()
         for connection in self._connections:
             connection.close()
-
-
-@dataclasses.dataclass
-class Member:
-    """A member that follows KIP-848. It has a connection of its own to the group's coordinator."""
-
-    play: Play
-    name: str
-    group: str
-    names: List[str]
-    id: str = ""
-    instance: Optional[str] = None
-    assignor: Optional[str] = None
-    timeout: int = REBALANCE_MS
-    epoch: int = NO_EPOCH_YET
-    # What it was shown last, what it owns, and whether that has changed since it reported it.
-    assigned: Partitions = NOTHING
-    owned: Partitions = NOTHING
-    has_news: bool = False
-    # It is a member, or it may be one: it has sent a join and doesn't know what came of it.
-    is_in: bool = False
-    may_be_in: bool = False
-    _connection: Optional[Connection] = None
-    ids: Set[str] = dataclasses.field(default_factory=set)
-
-    def __post_init__(self) -> None:
-        # From version 1 on members make their own ids.
-        self.id = self.id or ("" if self.play.version == 0 else new_id())
-
-    @property
-    def connection(self) -> Connection:
-        if self._connection is None:
-            self._connection = self.play.connect(self.play.broker.coordinator_of(self.group))
-        return self._connection
-
-    def connects(self, address: Address) -> None:
-        """From now on it sends to a broker of the case's choice."""
-        self._connection = self.play.connect(address)
-
-    def reconnect(self) -> None:
-        if self._connection is not None:
-            self._connection.close()
-            self._connection = None
-
-    # -- requests
-
-    def request(self, kind: str, **changes: Any) -> Heartbeat:
-        """A join, a beat (short; owned: with what it owns; full: with everything), a leave or away."""
-        it = Heartbeat(self.group, self.id, {"join": JOIN, "leave": LEAVE, "away": AWAY}.get(kind, self.epoch))
-        if kind in ("join", "full"):
-            it = dataclasses.replace(it, instance=self.instance, timeout=self.timeout, names=list(self.names), assignor=self.assignor)
-        if kind == "away":
-            it = dataclasses.replace(it, instance=self.instance)
-        if kind in ("join", "full", "owned"):
-            it = dataclasses.replace(it, owned=NOTHING if kind == "join" else self.owned)
-        it = dataclasses.replace(it, **changes)
-        # Where names are given, clients say that there is no expression by an empty one.
-        return dataclasses.replace(it, regex="") if it.names is not None and "regex" not in changes else it
-
-    def ask(self, request: Heartbeat, lost: bool = False) -> Told:
-        """Sends a request and gives its reply, which isn't taken yet."""
-        version = self.play.version
-        self.play.go_on()
-        self.play.story.asked(self.name, request, lost)
-        self.may_be_in = self.may_be_in or request.epoch == JOIN
-        try:
-            reply = read_heartbeat_reply(self.connection.ask(HEARTBEAT, version, request.fields(version)))
-        except Lost:
-            self.reconnect()
-            raise
-        self.play.story.told(self.name, reply, lost)
-        if reply.code == 0 and request.epoch == JOIN and reply.member:
-            self.ids.add(reply.member)
-        if request.owned is not None and reply.code == 0:
-            self.has_news = False
-        self.play.watch(request.group).exchange(self.name, request, reply)
-        return reply
-
-    def take(self, reply: Told) -> Told:
-        """Does what the reply says, but for the release of what isn't assigned any more."""
-        if reply.code in (UNKNOWN_MEMBER_ID, FENCED_MEMBER_EPOCH):
-            self.is_in, self.epoch, self.owned, self.assigned, self.has_news = False, 0, NOTHING, NOTHING, False
-        if reply.code == 0:
-            self.is_in, self.id, self.epoch = True, reply.member or self.id, reply.epoch
-            if reply.assignment is not None:
-                self.assigned = reply.assignment
-                self.owns(self.owned | reply.assignment)
-        return reply
-
-    def owns(self, partitions: Partitions) -> None:
-        self.has_news = self.has_news or partitions != self.owned
-        self.owned = partitions
-
-    def release(self) -> None:
-        self.owns(self.owned & self.assigned)
-
-    # -- what members do
-
-    def tries_to_join(self, **changes: Any) -> Told:
-        """A join, whatever comes of it."""
-        self.owned = self.assigned = NOTHING
-        return self.take(self.ask(self.request("join", **changes)))
-
-    def join(self, **changes: Any) -> Told:
-        reply = self.tries_to_join(**changes)
-        self.play.want_code(f"the join of {self.name}", reply.code, 0)
-        self.play.want(bool(self.id), f"the join of {self.name} is answered without a member id")
-        return reply
-
-    def tries(self, kind: str = "short", **changes: Any) -> Told:
-        """A beat, whatever comes of it."""
-        return self.take(self.ask(self.request(kind, **changes)))
-
-    def beat(self, kind: str = "short", **changes: Any) -> Told:
-        reply = self.tries(kind, **changes)
-        self.play.want_code(f"the heartbeat of {self.name}", reply.code, 0)
-        return reply
-
-    def turn(self, kind: str = "short") -> Told:
-        """A beat as a client sends it: what it owns is reported where that has changed. What isn't assigned any more is released."""
-        kind = "join" if self.epoch == NO_EPOCH_YET else "owned" if kind == "short" and self.has_news else kind
-        reply = self.beat(kind)
-        self.release()
-        return reply
-
-    def leave(self, kind: str = "leave", **changes: Any) -> Told:
-        """Leaves for good, or, away, for a while."""
-        reply = self.ask(self.request(kind, **changes))
-        self.play.want_code(f"the leave of {self.name}", reply.code, 0)
-        self.is_in, self.owned, self.assigned, self.has_news = False, NOTHING, NOTHING, False
-        self.may_be_in = kind == "away"
-        return reply
-
-    def leave_quietly(self) -> None:
-        """Whatever ids it may have in the group leave; nothing is judged."""
-        version = self.play.version
-        for member in {self.id, *self.ids} - {""}:
-            self.connection.ask(HEARTBEAT, version, Heartbeat(self.group, member, LEAVE).fields(version))
-
-
-def new_id() -> str:
-    return str(uuid.uuid4())

@@ -2,16 +2,43 @@
 
 from __future__ import annotations
 
+import dataclasses
 import json
+import pathlib
+import re
 import xml.etree.ElementTree as ElementTree
-from typing import Any, Dict, List, Sequence
+from typing import Any, Dict, FrozenSet, List, Sequence
 
 from conformance.broker import Broker
-from conformance.cases import TOPICS, topic_of
+from conformance.case import FREE, MUST, SHOULD
 from conformance.messages import HEARTBEAT
 from conformance.runner import FAILED, NOT_RUN, NOTED, PASSED, Result
 
 STATUSES = (PASSED, FAILED, NOTED, NOT_RUN)
+STANDS_ON = "stands on "
+# What failures of one cause don't share: partitions, numbers and ids, and the members' names.
+OWN = re.compile(r"\w+\[[^]]*\]|[0-9a-f-]*\d[0-9a-f-]*|\b([a-z]|m\d+|heir)\b|: [a-z]\d* is at .*")
+# The cases that are known to fail with the broker of this repository.
+KNOWN = str(pathlib.Path(__file__).with_name("known.txt"))
+
+
+@dataclasses.dataclass(frozen=True)
+class Judge:
+    """Which failures count: those of a level or a surer one, but for those that are known."""
+
+    level: str = SHOULD
+    known: FrozenSet[str] = frozenset()
+
+    def counts(self, result: Result) -> bool:
+        levels = (MUST, SHOULD, FREE)
+        is_sure = levels.index(result.level or FREE) <= levels.index(self.level)
+        return result.status == FAILED and is_sure and result.case.name not in self.known
+
+
+def known_in(path: str) -> FrozenSet[str]:
+    """The names of cases in a file: what each line begins with that isn't empty and doesn't begin with #."""
+    lines = pathlib.Path(path).read_text(encoding="utf-8").splitlines()
+    return frozenset(line.split()[0].rstrip(":") for line in lines if line.split() and not line.startswith("#"))
 
 
 def head(broker: Broker) -> str:
@@ -25,39 +52,60 @@ def counts(results: Sequence[Result]) -> str:
 
 
 def by_topic(results: Sequence[Result]) -> Dict[str, List[Result]]:
-    found: Dict[str, List[Result]] = {topic.replace("_", " "): [] for topic in TOPICS}
+    found: Dict[str, List[Result]] = {}
     for result in results:
-        found[topic_of(result.case)].append(result)
-    return {topic: some for topic, some in found.items() if some}
+        found.setdefault(result.case.topic, []).append(result)
+    return found
 
 
 def story(result: Result) -> str:
     """A failed case as a story."""
     case = result.case
     lines = [f"FAILED {case.name}  ({result.level}; {case.section})"]
-    lines += [f"  what it sends:   {case.sends}", f"  what must hold:  {case.holds}", f"  what came:       {result.says}", "  what happened:"]
+    lines += [f"  {case.act:16} {case.sends}", f"  what must hold:  {case.holds}", f"  what came:       {result.says}", "  what happened:"]
     return "\n".join([*lines, *(f"    {line}" for line in result.story)])
 
 
-def text(broker: Broker, results: Sequence[Result], seconds: float, tells_all: bool) -> str:
+def stories(results: Sequence[Result], judge: Judge) -> List[str]:
+    """The failures, by cause: the one on which most stand first, and those that say the same with the first of them."""
+    stand = {result.case.name: 0 for result in results}
+    for result in results:
+        if result.status == NOT_RUN and result.says.startswith(STANDS_ON):
+            stand[result.says[len(STANDS_ON) :]] += 1
+    causes: Dict[str, List[Result]] = {}
+    failed = sorted((it for it in results if it.status == FAILED), key=lambda it: (not judge.counts(it), -stand[it.case.name]))
+    for result in failed:
+        causes.setdefault(OWN.sub("", result.says), []).append(result)
+    lines: List[str] = []
+    for first, *others in causes.values():
+        lines += ["", story(first)]
+        lines += [f"  {stand[first.case.name]} cases stand on it, and weren't run"] if stand[first.case.name] else []
+        lines += [f"  the same came of:  {' '.join(other.case.name for other in others)}"] if others else []
+        lines += [] if any(judge.counts(it) for it in (first, *others)) else ["  (This doesn't fail the run.)"]
+    return lines
+
+
+def text(results: Sequence[Result], seconds: float, tells_all: bool, judge: Judge) -> str:
     """The whole report. The stories of cases that passed are told where all are wanted."""
     lines = []
     for topic, some in by_topic(results).items():
         lines.append(f"{topic:16} {counts(some)}")
-        lines += [f"    {result.case.name}: {result.says}" for result in some if result.status in (NOTED, NOT_RUN)]
+        shown = [result for result in some if result.status in (NOTED, NOT_RUN) and not result.says.startswith(STANDS_ON)]
+        lines += [f"    {result.case.name}: {result.says}" for result in shown]
     for result in results:
-        if result.status == FAILED:
-            lines += ["", story(result)]
-        elif tells_all:
+        if tells_all and result.status != FAILED:
             lines += ["", f"{result.status} {result.case.name}", *(f"    {line}" for line in result.story)]
-    return "\n".join([head(broker), *lines, "", f"{counts(results)}  in {seconds:.1f} s"])
+    lines += stories(results, judge)
+    passes = [result.case.name for result in results if result.case.name in judge.known and result.status == PASSED]
+    lines += ["", f"listed as known to fail, and passed: {' '.join(passes)}"] if passes else []
+    return "\n".join([*lines, "", f"{counts(results)}  in {seconds:.1f} s"])
 
 
-def as_json(broker: Broker, results: Sequence[Result]) -> str:
+def as_json(broker: Broker, results: Sequence[Result], seed: int) -> str:
     cases = [
         {
             "name": result.case.name,
-            "topic": topic_of(result.case),
+            "topic": result.case.topic,
             "section": result.case.section,
             "level": result.case.level,
             "status": result.status,
@@ -71,6 +119,7 @@ def as_json(broker: Broker, results: Sequence[Result]) -> str:
     it: Dict[str, Any] = {
         "broker": f"{broker.address[0]}:{broker.address[1]}",
         "heartbeat_version": broker.version(HEARTBEAT),
+        "seed": seed,
         "topics": {topic.name: topic.count for topic in broker.topics},
         "cases": cases,
     }

@@ -1,23 +1,25 @@
-"""Runs cases, and says what came of each. A broker that closes, is silent or ends is a failed case, and the run goes on."""
+"""Runs cases, and gives the result of each. A broker that closes, is silent or ends is a failed case, and the run goes on."""
 
 from __future__ import annotations
 
-import concurrent.futures
 import dataclasses
+import queue
+import threading
 import time
-from typing import Callable, List, Optional, Sequence, Tuple
+from typing import FrozenSet, Iterator, Optional, Sequence, Tuple
 
 from conformance.broker import Broker, NoBroker, look
 from conformance.case import FREE, MUST, SHOULD, Case
-from conformance.connection import Lost
-from conformance.play import Failed, NotRun, Play, Settings
+from conformance.connection import Lost, Silent
+from conformance.play import Play, Settings, SoFar
 from conformance.starter import Starter
+from conformance.verdict import Failed, NotRun, StandsOn
 from conformance.wire import Unreadable
 
 PASSED, FAILED, NOTED, NOT_RUN = "passed", "failed", "noted", "not run"
 # How long a broker that ends may still seem to be there.
 ENDING_SECONDS = 0.1
-# A broker that doesn't answer before so many cases isn't waited for any more.
+# A broker that doesn't answer in so many cases isn't waited for any more.
 MOST_UNANSWERED = 5
 
 
@@ -31,83 +33,113 @@ class Result:
     level: str = ""
     story: Sequence[str] = ()
     seconds: float = 0.0
+    # The cases that it stands on.
+    bases: FrozenSet[str] = frozenset()
 
 
 class Runner:
     def __init__(self, starter: Starter, settings: Settings, seconds: float, version: Optional[int], topics: Optional[Sequence[str]]) -> None:
         self.starter, self.settings = starter, settings
         self.seconds, self.version, self.topics = seconds, version, topics
-        # Before how many cases, one after the other, the broker couldn't be asked.
+        self.so_far = SoFar()
+        # In how many cases, one after the other, the broker hasn't answered.
         self.unanswered = 0
+        self._broker: Optional[Broker] = None
 
     def look(self) -> Broker:
         """The broker as it is now. Raises NoBroker."""
-        return look(self.starter.address(), self.seconds, self.version, self.topics)
+        address = self.starter.address()
+        if self._broker is None or self._broker.address != address:
+            self._broker = look(address, self.seconds, self.version, self.topics)
+        return self._broker
 
-    def run(self, cases: Sequence[Case], tell: Callable[[Result], None]) -> List[Result]:
+    def run(self, cases: Sequence[Case]) -> Iterator[Result]:
         """The fast cases one after the other, and the slow ones, which wait most of the time, all at once."""
-        results = []
         for case in cases:
             if not case.is_slow:
-                results.append(self.run_one(case))
-                tell(results[-1])
-        slow = [case for case in cases if case.is_slow]
-        for result in self.run_side_by_side(slow):
-            results.append(result)
-            tell(result)
-        return results
-
-    def run_side_by_side(self, cases: Sequence[Case]) -> List[Result]:
-        """Where the broker ended meanwhile, those that failed are run once more, each alone."""
+                yield self.run_one(case)
         # What makes partitions comes last and alone.
         alone = [case for case in cases if case.name == "grow"]
-        many = [case for case in cases if case not in alone]
-        results = []
-        if many:
-            with concurrent.futures.ThreadPoolExecutor(len(many)) as pool:
-                results = list(pool.map(lambda case: self.run_one(case, restarts=False), many))
-            if self.starter.has_ended():
-                results = [self.run_one(result.case) if result.status == FAILED else result for result in results]
-        return results + [self.run_one(case) for case in alone]
+        yield from self.run_side_by_side([case for case in cases if case.is_slow and case not in alone])
+        for case in alone:
+            yield self.run_one(case)
+
+    def run_side_by_side(self, cases: Sequence[Case]) -> Iterator[Result]:
+        """If the broker ended meanwhile, those that failed are run once more, each alone."""
+        found: queue.Queue[Result] = queue.Queue()
+        for case in cases:
+            # (Nobody waits for these when the run is broken off.)
+            threading.Thread(target=lambda case: found.put(self.run_one(case, restarts=False)), args=(case,), daemon=True).start()
+        failed = []
+        for _ in cases:
+            result = found.get()
+            if result.status == FAILED:
+                failed.append(result)
+            else:
+                yield result
+        has_ended = bool(failed) and self.starter.has_ended()
+        for result in failed:
+            yield self.run_one(result.case) if has_ended else self.on_base(result)
+
+    def on_base(self, result: Result) -> Result:
+        """A case that failed, or wasn't run, since one failed on which it stands."""
+        base = min(result.bases & self.so_far.failed - {result.case.name}, default=None)
+        return dataclasses.replace(result, status=NOT_RUN, says=f"stands on {base}", story=()) if base else result
 
     def run_one(self, case: Case, restarts: bool = True) -> Result:
+        if self.unanswered >= MOST_UNANSWERED:
+            return Result(case, NOT_RUN, f"the broker hasn't answered in {MOST_UNANSWERED} cases one after the other, and isn't asked any more")
         try:
-            if self.unanswered >= MOST_UNANSWERED:
-                raise NoBroker(f"it hasn't answered before {MOST_UNANSWERED} cases one after the other, and isn't asked any more")
             broker = self.look()
-            self.unanswered = 0
         except NoBroker as why:
             self.unanswered += 1
-            return Result(case, FAILED, f"the broker can't be asked: {why}", MUST)
+            return Result(case, NOTED if case.level == FREE else FAILED, f"the broker can't be asked: {why}", case.level)
         began = time.monotonic()
-        play = Play(case.name, broker, self.settings, case.is_slow)
-        status, says, level = outcome(case, play)
-        play.close()
+        play = Play(case, broker, self.settings, self.so_far)
+        status, says, level, is_silent = outcome(case, play)
+        self.unanswered = self.unanswered + 1 if is_silent else 0
+        play.close(leaves=not is_silent)
         if status in (FAILED, NOTED):
+            self._broker = None
             time.sleep(ENDING_SECONDS)
         if restarts and status != NOT_RUN and self.starter.has_ended():
-            # Whatever the answer may be, a broker goes on.
-            status, says, level = FAILED, f"{self.starter.why()}: {says}" if says else self.starter.why(), MUST
-        return Result(case, status, says, level, play.story.shown(), time.monotonic() - began)
+            status, level = self.ended(case)
+            says = f"{self.starter.why()}: {says}" if says else self.starter.why()
+        if status == FAILED:
+            self.so_far.failed.add(case.name)
+        return Result(case, status, says, level, play.story.shown(), time.monotonic() - began, frozenset(play.bases))
+
+    def ended(self, case: Case) -> Tuple[str, str]:
+        """Whatever the answer may be, a broker goes on. (After a free case the last one tells.)"""
+        if case.level == FREE:
+            self.so_far.ended.append(case.name)
+            return NOTED, FREE
+        return FAILED, MUST
 
 
-def outcome(case: Case, play: Play) -> Tuple[str, str, str]:
-    """The status of a case, why, and how sure the standard is of that."""
-    wrong = NOTED if case.level == FREE else FAILED
+def outcome(case: Case, play: Play) -> Tuple[str, str, str, bool]:
+    """The status of a case, why, how sure the standard is of that, and whether nothing came from the broker."""
+    status, says, level = NOTED if case.level == FREE else FAILED, "", case.level
+    is_silent = False
     try:
         case.run(play)
         play.judge()
+        return (NOTED, "; ".join(play.notes), level, False) if play.notes else (PASSED, "", level, False)
     except NotRun as why:
-        return NOT_RUN, str(why), case.level
+        # (What the checker saw, it saw in the case on which this one stands, too.)
+        if not play.faults() or isinstance(why, StandsOn):
+            return NOT_RUN, str(why), level, False
     except Failed as why:
-        # What the checker saw comes before what came of it.
-        level = SHOULD if why.is_minor and case.level == MUST and not play.faults() else case.level
-        return wrong, "; then ".join(dict.fromkeys([*play.faults(), str(why)])), level
+        says = str(why)
+        level = SHOULD if why.is_minor and level == MUST else level
     except Lost as why:
-        return wrong, "; then ".join([*play.faults(), str(why)]), case.level
+        says, is_silent = str(why), isinstance(why, Silent)
     except Unreadable as why:
-        return wrong, f"a reply can't be read: {why}", case.level
+        says = f"a reply can't be read: {why}"
     except Exception as why:  # pylint: disable=broad-except
         # (A reply that nobody thought of: the run goes on.)
-        return FAILED, f"the case broke off: {type(why).__name__}: {why}", case.level
-    return (NOTED, "; ".join(play.notes), case.level) if play.notes else (PASSED, "", case.level)
+        says = f"the case broke off: {type(why).__name__}: {why}"
+    # The checker's findings come before the case's result, and no broker may break its rules.
+    faults = play.faults()
+    level = MUST if faults and case.level != FREE else level
+    return status, "; then ".join(dict.fromkeys([*faults, *[says] * bool(says)])), level, is_silent

@@ -16,8 +16,10 @@ from typing import IO, Optional
 from conformance.broker import NoBroker, is_there
 from conformance.connection import Address
 
-END_SECONDS = 5.0
+# How long a broker may take to start, and to end.
+START_SECONDS, END_SECONDS = 60.0, 1.0
 POLL_SECONDS = 0.05
+LONGEST_LINE, SHOWN_CHARACTERS = 1 << 16, 300
 ADDRESS = re.compile(rb"(\S+?):(\d{1,5})(?!\d)")
 
 
@@ -28,6 +30,7 @@ class Starter:
         self.given, self.command, self.seconds = address, command, seconds
         self.process: Optional[subprocess.Popen[bytes]] = None
         self.found: Optional[Address] = None
+        self.last_error = ""
         # (Slow cases are played at once.)
         self.starting = threading.Lock()
 
@@ -62,13 +65,14 @@ class Starter:
                 shlex.split(command),
                 stdin=subprocess.DEVNULL,
                 stdout=subprocess.PIPE,
-                stderr=subprocess.DEVNULL,
+                stderr=subprocess.PIPE,
                 start_new_session=True,
             )
         except (OSError, ValueError) as why:
             raise NoBroker(f"--start: {command}: {why}") from None
-        assert self.process.stdout is not None
-        until = time.monotonic() + self.seconds
+        assert self.process.stdout is not None and self.process.stderr is not None
+        threading.Thread(target=self._hear, args=(self.process.stderr,), daemon=True).start()
+        until = time.monotonic() + START_SECONDS
         address = self.given or self._printed(self.process.stdout, until)
         threading.Thread(target=drain, args=(self.process.stdout,), daemon=True).start()
         while not is_there(address, self.seconds):
@@ -86,12 +90,19 @@ class Starter:
                 printed += os.read(output.fileno(), 4096)
             self._go_on(until, "it has printed no HOST:PORT")
 
+    def _hear(self, errors: IO[bytes]) -> None:
+        """Keeps the last line of its standard error."""
+        with errors:
+            for line in iter(lambda: errors.readline(LONGEST_LINE), b""):
+                self.last_error = line.decode(errors="replace").strip()[:SHOWN_CHARACTERS] or self.last_error
+
     def _go_on(self, until: float, why: str) -> None:
         assert self.process is not None
         if self.process.poll() is not None:
-            raise NoBroker(f"--start: the command ended with status {self.process.returncode}: {why}")
+            time.sleep(POLL_SECONDS)
+            raise NoBroker(f"--start: the command ended with status {self.process.returncode}: {self.last_error or why}")
         if time.monotonic() > until:
-            raise NoBroker(f"--start: after {self.seconds:g} s {why}")
+            raise NoBroker(f"--start: after {START_SECONDS:g} s {why}")
         time.sleep(POLL_SECONDS)
 
     def end(self) -> None:

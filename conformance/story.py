@@ -3,9 +3,9 @@
 from __future__ import annotations
 
 import time
-from typing import Dict, Iterable, List, Optional, Sequence, Tuple
+from typing import Dict, Iterable, List, Sequence, Tuple
 
-from conformance.messages import AWAY, JOIN, LEAVE, Commit, Heartbeat, Partitions, Told, Topic, by_topic
+from conformance.messages import AWAY, JOIN, LEAVE, Commit, Fetched, Heartbeat, Partitions, Told, Topic, by_topic
 
 CODES = {
     0: "NONE",
@@ -20,6 +20,7 @@ CODES = {
     35: "UNSUPPORTED_VERSION",
     42: "INVALID_REQUEST",
     69: "GROUP_ID_NOT_FOUND",
+    81: "GROUP_MAX_SIZE_REACHED",
     82: "FENCED_INSTANCE_ID",
     110: "FENCED_MEMBER_EPOCH",
     111: "UNRELEASED_INSTANCE_ID",
@@ -52,6 +53,8 @@ class Story:
     def __init__(self, topics: Sequence[Topic]) -> None:
         self.began = time.monotonic()
         self.lines: List[Tuple[float, str]] = []
+        # So many are shown at most: the first and the last ones.
+        self.most = MOST_LINES
         self._names: Dict[bytes, str] = {topic.id: topic.name for topic in topics}
 
     def say(self, line: str) -> None:
@@ -68,7 +71,8 @@ class Story:
                 until = self.lines[at + size * times - 1][0]
                 out.append(f"           (the same{'' if size == 1 else f' {size} lines'} {times - 1} times more, until {until:.3f} s)")
             at += size * times
-        return out
+        left_out, begin = len(out) - self.most + 1, self.most // 2
+        return [*out[:begin], f"           ({left_out} lines are left out)", *out[begin + left_out :]] if left_out > 1 else out
 
     def _block(self, at: int) -> Tuple[int, int]:
         """How many lines from there on come again at once, and how often they stand there; one line, once, where none do."""
@@ -111,11 +115,13 @@ class Story:
         words += [f"member id {short(reply.member)}"] if reply.member else []
         self.say(f"{who} <- {', '.join(words)}" + (" (lost)" if lost else ""))
 
-    def committed(self, who: str, commit: Commit, version: int, codes: Optional[Sequence[int]]) -> None:
-        parts = " ".join(f"{short(name)}[{index}]={offset}" for name, parts in commit.topics.items() for index, offset, _ in parts)
+    def committed(self, who: str, commit: Commit, version: int) -> None:
+        parts = " ".join(f"{short(name)}[{part.index}]={part.offset}" for name, parts in commit.topics.items() for part in parts[:MOST_NAMES])
         self.say(f"{who} -> commits {parts} at epoch {commit.epoch} (version {version})")
-        if codes is not None:
-            self.say(f"{who} <- {', '.join(map(code_text, codes))}")
+
+    def fetched(self, who: str, found: Fetched) -> None:
+        parts = " ".join(f"{short(name)}[{index}]={part.offset}" for (name, index), part in list(found.parts.items())[:MOST_NAMES])
+        self.say(f"{who}: OffsetFetch gives {parts or 'nothing'}, {code_text(found.first_code())}")
 
 
 def runs(indexes: Sequence[int]) -> str:

@@ -1,9 +1,9 @@
-"""docs/CONFORMANCE.md, made of the cases, of what came of them with the peers, and of the planted faults.
+"""docs/CONFORMANCE.md, made of the cases, of their results with the peers, and of the planted faults.
 
     python3 -m conformance.table                  writes it
     python3 -m conformance.table --check          status 1 where it isn't up to date
     python3 -m conformance.table --take PEER FILE ..
-        takes over what `--json` wrote of runs with a peer: of a case that the first one didn't play, what the second says
+        takes over what `--json` wrote of runs with a peer; of a case that the first run didn't play, what the second says
 """
 
 from __future__ import annotations
@@ -14,19 +14,19 @@ import sys
 from typing import Dict, List, NamedTuple, Sequence
 
 from conformance.case import FREE, MUST, SHOULD, Case
-from conformance.cases import load, topic_of
+from conformance.cases import load
+from conformance.members import table as members
 from conformance.planted.faults import TOP, Fault, found_before, read
 from conformance.runner import FAILED, NOT_RUN, NOTED, PASSED
 
 DOCUMENT = TOP / "docs/CONFORMANCE.md"
-MOST_OTHERS = 4
 PEERS = pathlib.Path(__file__).resolve().parent / "peers"
 # The files in PEERS, with the heads of their columns.
-COLUMNS = {"migwelun": "Migwelun", "librdkafka-mock": "librdkafka's mock"}
+COLUMNS = {"migwelun": "Migwelun", "kafka-model": "Kafka (a model)", "librdkafka-mock": "the mock"}
 
 
 class Kept(NamedTuple):
-    """What came of a case: its status, how sure the standard is of a failure, and why."""
+    """The result of a case: its status, how sure the standard is of a failure, and why."""
 
     status: str
     level: str
@@ -34,7 +34,7 @@ class Kept(NamedTuple):
 
 
 def main(words: Sequence[str]) -> int:
-    if list(words[:1]) == ["--take"] and len(words) > 2 and words[1] in COLUMNS:
+    if list(words[:1]) == ["--take"] and len(words) > 2 and words[1] in {**COLUMNS, **members.COLUMNS}:
         try:
             take(words[1], words[2:])
         except (OSError, ValueError, KeyError) as why:
@@ -53,7 +53,7 @@ def main(words: Sequence[str]) -> int:
     return 0
 
 
-# ---- what came of the cases
+# ---- the results of the cases
 
 
 def take(peer: str, files: Sequence[str]) -> None:
@@ -81,11 +81,13 @@ def cell(text: str) -> str:
 
 
 def outcome(kept: Dict[str, Kept], case: Case) -> str:
+    """The result of a case with a peer, or nothing if it passed."""
     found = kept.get(case.name, Kept(NOT_RUN, case.level, "it is newer than the run"))
     if found.status == PASSED:
-        return "passed"
+        return ""
     head = f"**failed** ({found.level})" if found.status == FAILED else found.status
-    return f"{head}: {cell(found.says)}"
+    says = found.says.partition(": the broker closed")[0].removeprefix(f"{case.sends}: ")
+    return f"{head}: {cell(says)}"
 
 
 def tally(kept: Dict[str, Kept], cases: Sequence[Case]) -> str:
@@ -104,36 +106,44 @@ def document() -> str:
     text = text.replace("@CASES@", f"{len(cases)} cases ({levels}), of which {sum(case.is_slow for case in cases)} are slow")
     text = text.replace("@TALLIES@", "\n".join(f"- {head}: {tally(kept, cases)}." for head, kept in columns.items()))
     parts = [text.rstrip("\n")]
-    for topic in dict.fromkeys(map(topic_of, cases)):
-        parts.append(f"\n## {topic.capitalize()}\n")
-        parts.append("| Case | Level, section | It sends | What must hold | " + " | ".join(columns) + " |")
-        parts.append("|---" * (4 + len(columns)) + "|")
-        parts += [row(case, list(columns.values())) for case in cases if topic_of(case) == topic]
-    return "\n".join([*parts, *planted(cases, faults)]) + "\n"
+    for topic in dict.fromkeys(case.topic for case in cases):
+        parts += of_topic(topic, [case for case in cases if case.topic == topic], columns)
+    return "\n".join([*parts, *planted(cases, faults), *members.section(kept_of, cell)]) + "\n"
+
+
+def of_topic(topic: str, cases: Sequence[Case], columns: Dict[str, Dict[str, Kept]]) -> List[str]:
+    """The cases of a topic: the names of those that passed wherever they were played, and a row for each other one."""
+    results = {case.name: {head: said for head, kept in columns.items() if (said := outcome(kept, case))} for case in cases}
+    others = [case for case in cases if any(not said.startswith(NOT_RUN) for said in results[case.name].values())]
+    idle = [case.name for case in cases if case not in others and len(results[case.name]) == len(columns)]
+    passed = [played(case, results[case.name]) for case in cases if case not in others and case.name not in idle]
+    lines = [f"\n## {topic.capitalize()}"]
+    lines += [f"\n{word}: {', '.join(names)}." for word, names in (("Passed", passed), ("Not played", idle)) if names]
+    if others:
+        lines += ["", "|Case|What must hold (of free cases: what is sent)|Result, unless passed|", "|---|---|---|"]
+    return lines + [row(case, results[case.name]) for case in others]
+
+
+def played(case: Case, results: Dict[str, str]) -> str:
+    """A case that passed, and where it wasn't played."""
+    return f"{case.name} (not with {' and '.join(results)})" if results else case.name
 
 
 def planted(cases: Sequence[Case], faults: Sequence[Fault]) -> List[str]:
-    """The planted faults, and the cases that found none."""
+    """How the planted faults are found, and the cases that found none."""
     found = found_before()
     finders = {name for names in found.values() for name in names}
-    idle = ", ".join(case.name for case in cases if case.name not in finders and case.level != FREE)
+    idle = str(sum(case.name not in finders and case.level != FREE for case in cases))
+    lost = [fault.name for fault in faults if fault.case not in found.get(fault.name, [])]
     text = (PEERS / "planted.md").read_text(encoding="utf-8").replace("@IDLE@", idle).replace("@FAULTS@", str(len(faults)))
-    rows = [f"| {fault.name} | {cell(fault.words['is'])} | {fault.case} | {also(fault, found.get(fault.name, []))} |" for fault in faults]
-    return ["\n## Planted faults\n", text, "| Fault | What is wrong | Found by | Found too by |", "|---|---|---|---|", *rows]
+    return ["\n## Planted faults\n", text.rstrip("\n"), *(f"\n**Not found**: {', '.join(lost)}." for _ in lost[:1])]
 
 
-def also(fault: Fault, found: Sequence[str]) -> str:
-    """The other cases that found a fault, the first of many."""
-    if fault.case not in found:
-        return "**not found**"
-    others = [name for name in found if name != fault.case]
-    return ", ".join(others[:MOST_OTHERS]) + (f" and {len(others) - MOST_OTHERS} more" if len(others) > MOST_OTHERS else "")
-
-
-def row(case: Case, columns: Sequence[Dict[str, Kept]]) -> str:
-    slow = " (slow)" if case.is_slow else ""
-    cells = [case.name + slow, f"{case.level}; {cell(case.section)}", cell(case.sends), cell(case.holds), *(outcome(kept, case) for kept in columns)]
-    return "| " + " | ".join(cells) + " |"
+def row(case: Case, results: Dict[str, str]) -> str:
+    slow = ", slow" if case.is_slow else ""
+    heads = {said: [head for head in results if results[head] == said] for said in results.values()}
+    said = "<br>".join(f"{', '.join(each)}: {said}" for said, each in heads.items())
+    return "|" + "|".join([f"{case.name} ({case.level}{slow})", cell(case.sends if case.level == FREE else case.holds), said]) + "|"
 
 
 if __name__ == "__main__":

@@ -3,10 +3,12 @@
 from __future__ import annotations
 
 import struct
-from typing import Callable, Dict, Iterable, List, Optional, TypeVar
+from typing import Callable, Dict, Iterable, List, Optional, Tuple, TypeVar
 
 Item = TypeVar("Item")
 LONGEST_VARINT = 5
+# So many bytes of a reply that can't be read are shown.
+SHOWN_BYTES = 160
 NO_TAGS = b"\0"
 NULL = b"\0"
 
@@ -21,9 +23,14 @@ class Reader:
     def __init__(self, data: bytes) -> None:
         self.data, self.at = data, 0
 
+    def bad(self, words: str) -> Unreadable:
+        """That the bytes can't be read: why, before which one, and the bytes."""
+        more = ".." if len(self.data) > SHOWN_BYTES else ""
+        return Unreadable(f"{words}, before byte {self.at} of {len(self.data)}: {self.data[:SHOWN_BYTES].hex()}{more}")
+
     def raw(self, size: int) -> bytes:
         if size < 0 or size > len(self.data) - self.at:
-            raise Unreadable(f"a field of {size} bytes at byte {self.at}, where {len(self.data) - self.at} are left")
+            raise self.bad(f"a field of {size} bytes, and {len(self.data) - self.at} are left")
         self.at += size
         return self.data[self.at - size : self.at]
 
@@ -37,18 +44,18 @@ class Reader:
             number |= (byte & 127) << 7 * place
             if byte < 128:
                 return number
-        raise Unreadable(f"a varint of more than {LONGEST_VARINT} bytes at byte {self.at}")
+        raise self.bad(f"a varint of more than {LONGEST_VARINT} bytes")
 
     def _text(self, size: int) -> str:
         try:
             return self.raw(size).decode()
         except UnicodeDecodeError:
-            raise Unreadable(f"a text that isn't UTF-8 before byte {self.at}") from None
+            raise self.bad("a text that isn't UTF-8") from None
 
     def text(self, flexible: bool) -> str:
         text = self.text_or_null(flexible)
         if text is None:
-            raise Unreadable(f"null before byte {self.at}, in a text that can't be null")
+            raise self.bad("null for a text that can't be null")
         return text
 
     def text_or_null(self, flexible: bool) -> Optional[str]:
@@ -58,14 +65,21 @@ class Reader:
     def array(self, flexible: bool, one: Callable[[], Item]) -> List[Item]:
         items = self.array_or_null(flexible, one)
         if items is None:
-            raise Unreadable(f"null before byte {self.at}, in an array that can't be null")
+            raise self.bad("null for an array that can't be null")
         return items
 
     def array_or_null(self, flexible: bool, one: Callable[[], Item]) -> Optional[List[Item]]:
         count = self.varint() - 1 if flexible else self.number(4)
         if count < -1:
-            raise Unreadable(f"an array of {count} elements before byte {self.at}")
+            raise self.bad(f"an array of {count} elements")
         return None if count == -1 else [one() for _ in range(count)]
+
+    def int32s(self) -> Tuple[int, ...]:
+        """A compact array of INT32, which may be long."""
+        count = self.varint() - 1
+        if count < 0:
+            raise self.bad("null for an array that can't be null")
+        return struct.unpack(f">{count}i", self.raw(count * 4))
 
     def tags(self, flexible: bool = True) -> Dict[int, bytes]:
         """Tagged fields. None is known here, so they are only stepped over."""
@@ -74,7 +88,7 @@ class Reader:
 
     def end(self) -> None:
         if self.at != len(self.data):
-            raise Unreadable(f"{len(self.data) - self.at} bytes are left behind the last field")
+            raise self.bad(f"{len(self.data) - self.at} bytes are left after the last field")
 
 
 def int8(number: int) -> bytes:

@@ -11,7 +11,7 @@ each step a line says what both hold. The group is a new one at each run, so the
 A consumer would wait for the reply's heartbeat interval between two heartbeats, and read records meanwhile. This one
 does neither, and it learns the topic's id from its assignment, since it asks for no metadata.
 
-The status is 0 where all went well, 1 where it didn't, with one line on standard error, and 2 after a bad command line.
+The status is 0 if all went well, 1 if it didn't, with one line on standard error, and 2 after a bad command line.
 Messages are encoded from the Kafka protocol guide, KIP-482 and KIP-848 alone; nothing of this project is used.
 """
 

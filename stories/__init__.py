@@ -17,3 +17,8 @@
 Who holds what is what the clients themselves believe that they may read (docs/TWO-MEMBERS.md). It follows from the
 replies that they take, by the rules for a client; where a script settles, from the rules for a whole world.
 """
+
+import sys
+
+if sys.version_info < (3, 9):
+    sys.exit(f"Python 3.9 or later is needed, and this is {sys.version.split()[0]}")

@@ -141,7 +141,7 @@ class Captured:
             self.standings = tuple(dataclasses.replace(it, is_removed=it.is_removed or at in new) for at, it in enumerate(self.standings))
             self.steps.append(self.row(self.replay.ticked, events.Ticked(self.replay.ticked, len(new), 0)))
         elif moment - self.shown >= PAUSE:
-            self.steps.append(self.row(moment, events.ClockSet(moment - moment % 100)))
+            self.steps.append(self.row(moment, events.ClockSet((moment + 50) // 100 * 100)))
         self.standings = now
         self.steps.append(self.row(moment, event))
         self.shown = moment

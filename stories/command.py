@@ -8,6 +8,7 @@ import re
 import sys
 from typing import Callable, Container, Iterable, Iterator, Optional
 
+from conformance.rules.ending import guarded
 from stories import picture, table
 from stories.capture import Captured
 from stories.notation import Writer
@@ -37,8 +38,9 @@ def tell_run(document: str) -> int:
     made = parser("tell-run", document)
     add_script(made)
     made.add_argument("--lines", metavar="A-B", type=span, default=(), help="the table of these lines alone, or of one")
+    made.add_argument("--granted", action="store_true", help="a column with what the coordinator has granted to each client")
     made.add_argument("--story", action="store_true", help="the story of the script")
-    made.add_argument("--strict", action="store_true", help="the status is 1 where something is wrong")
+    made.add_argument("--strict", action="store_true", help="the status is 1 if something is wrong")
     asked = made.parse_args()
     wrong: list[bool] = []
 
@@ -49,7 +51,7 @@ def tell_run(document: str) -> int:
             yield from () if asked.story else so_far(fault.writer, asked.lines)
             raise
         wrong.append(asked.strict and table.is_wrong(it))
-        yield from [*it.heads, "", *it.acts] if asked.story else table.part(it, asked.lines) if asked.lines else table.table(it)
+        yield from [*it.heads, "", *it.acts] if asked.story else table.part(it, asked.lines, asked.granted) if asked.lines else table.table(it, asked.granted)
 
     return run("tell-run", told) or int(any(wrong))
 
@@ -63,10 +65,10 @@ def so_far(writer: Optional[Writer], lines: Container[str]) -> Iterator[str]:
 def tell_capture(document: str) -> int:
     made = parser("tell-capture", document)
     made.add_argument("file", metavar="FILE", help="the recording; - is standard input, for what the broker writes")
-    made.add_argument("topics", metavar="NAME:UUID:COUNT", nargs="*", help="topics, where the recording names none")
+    made.add_argument("topics", metavar="NAME:UUID:COUNT", nargs="*", help="topics, if the recording names none")
     made.add_argument("--group", metavar="GROUP", help="this group alone")
     made.add_argument("--all", action="store_true", help="heartbeats that bring nothing new, too")
-    made.add_argument("--strict", action="store_true", help="the status is 1 where two members hold one partition")
+    made.add_argument("--strict", action="store_true", help="the status is 1 if two members hold the same partition")
     forms = made.add_mutually_exclusive_group()
     forms.add_argument("--picture", action="store_true", help="a picture, as an SVG document")
     forms.add_argument("--script", action="store_true", help="the requests as lines for `coord reply`")
@@ -141,16 +143,15 @@ def story(asked: argparse.Namespace) -> Story:
 
 def run(name: str, lines: Callable[[], Iterable[str]]) -> int:
     """Prints lines, and gives the status: 2 where they can't be made."""
-    try:
-        for line in lines():
-            sys.stdout.buffer.write(f"{line}\n".encode())
-        sys.stdout.flush()
-    except NoScript as wrong:
-        sys.stdout.flush()
-        print(f"{called(name)}: {wrong}", file=sys.stderr)
-        return 2
-    except BrokenPipeError:
-        # Whoever read the lines has ended.
-        os.dup2(os.open(os.devnull, os.O_WRONLY), sys.stdout.fileno())
-        return 1
-    return 0
+
+    def put() -> int:
+        try:
+            for line in lines():
+                sys.stdout.buffer.write(f"{line}\n".encode())
+        except NoScript as wrong:
+            sys.stdout.flush()
+            print(f"{called(name)}: {wrong}", file=sys.stderr)
+            return 2
+        return 0
+
+    return guarded(called(name), put)

@@ -5,26 +5,14 @@ from __future__ import annotations
 import uuid
 from typing import Dict, Iterable, Tuple
 
+from conformance.rules import codes
+
 # A topic's id, and the partition's index; the id of each topic and how many partitions it has, by its name.
 Partition = Tuple[bytes, int]
 Image = Dict[str, Tuple[bytes, int]]
 
-CODES = {
-    0: "NONE",
-    3: "UNKNOWN_TOPIC_OR_PARTITION",
-    12: "OFFSET_METADATA_TOO_LARGE",
-    14: "COORDINATOR_LOAD_IN_PROGRESS",
-    15: "COORDINATOR_NOT_AVAILABLE",
-    16: "NOT_COORDINATOR",
-    25: "UNKNOWN_MEMBER_ID",
-    42: "INVALID_REQUEST",
-    69: "GROUP_ID_NOT_FOUND",
-    81: "GROUP_MAX_SIZE_REACHED",
-    110: "FENCED_MEMBER_EPOCH",
-    111: "UNRELEASED_INSTANCE_ID",
-    112: "UNSUPPORTED_ASSIGNOR",
-    113: "STALE_MEMBER_EPOCH",
-}
+# Those of the coordinator, and what else a broker may say of it.
+CODES = {**codes.NAMES, 0: "NONE", 14: "COORDINATOR_LOAD_IN_PROGRESS", 16: "NOT_COORDINATOR"}
 FAULTS = {
     1: "no client has this name",
     2: "no message has this number",

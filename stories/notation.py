@@ -7,7 +7,8 @@ import re
 import uuid
 from typing import Iterable, Iterator, Optional
 
-from conformance.rules.client import Client
+from conformance.rules.client import INSIDE, Client
+from conformance.rules.limits import HEARTBEAT_INTERVAL, SESSION_TIMEOUT
 from conformance.rules.lines import BadLine, Lines, image_of, shown, topic_of
 from conformance.rules.world import ROUNDS, WRONG_STATE
 from stories.names import Topics, counted, fault_name, moment_text
@@ -19,7 +20,7 @@ MILLIS = {"ms": 1, "s": 1_000, "min": 60_000}
 FORMS = {
     "join": (f"join {WORD}", "join a"),
     "beat": (f"beat {WORD}(?: (short|owned|full))?", "beat a owned"),
-    "quit": (f"quit {WORD} (leave|away)", "quit a leave"),
+    "quit": (f"quit {WORD}(?: (leave|away))?", "quit a leave"),
     "lose": (f"lose {WORD}", "lose a"),
     **{word: (f"{word} {WORD}", f"{word} a") for word in ("deliver", "take", "bring")},
     "release": (f"release {WORD} {WORD}/([0-9]+)", "release a orders/0"),
@@ -53,6 +54,8 @@ ONLY = {
 REBALANCE = 60_000
 # What is said of clients, and where it isn't said.
 SAID = {"group": "g", "static as": "-", "assignor": "-", "rebalance timeout": f"{REBALANCE} ms", "subscribes": "-"}
+# While a client is silent the others send a heartbeat at least so often.
+KEPT_ALIVE = SESSION_TIMEOUT - HEARTBEAT_INTERVAL
 CLIENT = '"group g", "static as i1", "assignor range", "rebalance timeout 60 s" or "subscribes orders"'
 TOPIC = re.compile(f"{WORD}: (?:([0-9]+) partitions?|deleted)")
 
@@ -150,7 +153,8 @@ class Notation:
     def known(self, name: str) -> Client:
         number = self.client(name)
         if not number:
-            raise Unclear(f"no client is called {shown(name)}{meant(name, self.names())}")
+            none = f'; this story has no clients: a line as "{name}: group g" says that there is one'
+            raise Unclear(f"no client is called {shown(name)}{meant(name, self.names()) or none}")
         return self.rules.clients[number - 1]
 
     def made_line(self, word: str, *parts: str) -> str:
@@ -158,6 +162,8 @@ class Notation:
             return f"{word} {self.message(word, parts[0])}"
         if word == "beat":
             return f"beat {parts[0]} {parts[1] or 'short'}"
+        if word == "quit":
+            return f"quit {parts[0]} {parts[1] or ('leave' if self.known(parts[0]).instance is None else 'away')}"
         if word == "release":
             return f"release {parts[0]} {self.topic(parts[1])} {parts[2]}"
         if word in ("wait", "clock", "tick"):
@@ -166,7 +172,7 @@ class Notation:
         return {"no": "image", "run": "".join(parts)}.get(word) or " ".join([word, *parts])
 
     def image_line(self, act: str) -> str:
-        """A line of topics changes those that it names. One that is new, or made anew, gets an id of its own."""
+        """A line of topics changes those that it names. One that is new, or created again, gets an id of its own."""
         image, name = {it: (uuid.UUID(bytes=topic), count) for it, (topic, count) in self.image().items()}, ""
         for part in re.split(" *, *", act):
             found = TOPIC.fullmatch(part)
@@ -232,7 +238,7 @@ class Writer(Notation):
                 raise fault from None
 
     def add_clients(self, text: str, known: list[str]) -> None:
-        """Clients whose names are before the colon, with what is said behind it."""
+        """Clients whose names are before the colon, with what is said after it."""
         names, parts = text.split(":", 1)
         said = {**SAID, "subscribes": " ".join(known) or "-"}
         for part in filter(None, map(str.strip, parts.split(","))):
@@ -253,6 +259,10 @@ class Writer(Notation):
 
     def act(self, text: str) -> None:
         """A line of acts. Behind the first one, what goes on about a message needs no client's name."""
+        silent = re.fullmatch(f"wait {TIME} *, *(.+) silent", text)
+        if silent:
+            self.wait(int(silent[1]) * MILLIS[silent[2]], [self.known(name) for name in re.split("[ ,]+", silent[3])])
+            return
         of = ""
         for part in [text] if ":" in text or text.startswith("run ") else re.split(" *, *", text):
             words = part.split(" ")
@@ -301,6 +311,16 @@ class Writer(Notation):
         for topic, index in revoked:
             self.play(f"release {client.name} {uuid.UUID(bytes=topic)} {index}")
 
+    def wait(self, time: int, silent: list[Client]) -> None:
+        """Time passes in which all members but these send heartbeats, report what they own, and stop reading what they have to revoke."""
+        end = self.now() + time
+        while self.now() < end:
+            for it in (it for it in self.rules.clients if it not in silent and it.place == INSIDE and not it.waits):
+                for act in ("beat {} owned", "deliver {}", "take {}"):
+                    self.play(self.line(act.format(it.name)))
+                self.release(it, may_be_nothing=True)
+            self.play(f"tick {min(end, self.now() + KEPT_ALIVE)}")
+
     def settle(self, names: list[str]) -> None:
         """Rounds in which no message is lost, act by act, as long as something changes: of some clients, or of all that are members."""
         world = self.rules.world
@@ -318,7 +338,7 @@ class Writer(Notation):
 
 
 class Telling(Notation):
-    """Says a script's lines as a story does. What a story can't say is said as the script does, behind `run`."""
+    """Says a script's lines as a story does. What a story can't say is said as the script does, after `run`."""
 
     def __init__(self, rules: Lines, given: dict[str, tuple[str, int]]) -> None:
         super().__init__(rules)

@@ -318,7 +318,7 @@ class Picture:
     # -- messages
 
     def edge(self, client: int, row: int) -> float:
-        """Where messages of a client begin and end: beside its lane, and beside what is written on it."""
+        """Where messages of a client begin and end: next to its lane, and next to what is written on it."""
         pill = self.rows[row].pills[client]
         away = pill_width(pill) / 2 + 1 if pill else LANE
         return self.lanes[client] + (away if client < self.half else -away)

@@ -193,7 +193,7 @@ def read_topic(reader: Reader, version: int) -> tuple[Optional[str], bytes, int]
 
 
 def first_version(body: bytes, key: int, version: int) -> bytes:
-    """A request as the program reads it. Version 1 of heartbeats has a regular expression behind the names, which has to be null."""
+    """A request as the program reads it. Version 1 of heartbeats has a regular expression after the names, which has to be null."""
     if key == COMMIT:
         return body[:2] + b"\0\x09" + body[4:]
     if version == 0:

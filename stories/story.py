@@ -48,12 +48,14 @@ class Standing:
 
 @dataclasses.dataclass(frozen=True)
 class Step:
-    """A line of the script by its number, or a moment; what happens, and where each client stands after it."""
+    """A line of the script by its number, or a moment; what happens, where each client stands after it, and what the coordinator has granted to
+    each, where the rules know that."""
 
     at: str
     text: str
     event: Event
     standings: tuple[Standing, ...]
+    granted: tuple[Partitions, ...] = ()
 
 
 @dataclasses.dataclass(frozen=True)
@@ -117,8 +119,8 @@ class Teller:
 
     # -- lines
 
-    def play(self, number: int, line: bytes) -> Optional[tuple[Event, tuple[Standing, ...]]]:
-        """What happens in a line and where the clients stand after it; None for the line of a client."""
+    def play(self, number: int, line: bytes) -> Optional[tuple[Event, tuple[Standing, ...], tuple[Partitions, ...]]]:
+        """What happens in a line, where the clients stand after it and what is granted to each; None for the line of a client."""
         try:
             text = " ".join(words_of(line))
             if not text.startswith("client "):
@@ -144,7 +146,7 @@ class Teller:
             raise NoScript(f"line {number}: this output isn't the script's: it has no such client or message") from None
         removed = [self.agrees and is_removed(self.rules.world, client) for client in self.rules.clients]
         self.standings = tuple(map(standing_of, self.clients, self.standings, removed))
-        return event, self.standings
+        return event, self.standings, tuple(granted_to(self.rules.world, client) for client in self.rules.clients if self.agrees)
 
     def members(self) -> set[tuple[str, str]]:
         """All members by their groups and ids."""
@@ -246,6 +248,11 @@ def is_removed(world: World, client: Client) -> bool:
     """The client takes itself for a member, and its coordinator has no record of it."""
     group = world.node.groups.get(client.group)
     return client.place == INSIDE and group is not None and client.id not in group.records
+
+
+def granted_to(world: World, client: Client) -> Partitions:
+    group = world.node.groups.get(client.group)
+    return frozenset(group.held.get(client.id, ())) if group is not None and client.id else frozenset()
 
 
 def standing_of(client: Client, before: Standing, removed: bool) -> Standing:

@@ -7,18 +7,18 @@ from typing import Container, Iterator
 
 from stories import events
 from stories.names import printable, shortened
-from stories.story import MEMBER, Step, Story
+from stories.story import MEMBER, UNKNOWN, Step, Story
 from stories.words import rows_of
 
 # The longest text of a cell, and of a list of partitions, in characters.
 LONGEST, LONGEST_HOLDING = 100, 30
 
 
-def table(story: Story) -> Iterator[str]:
+def table(story: Story, with_granted: bool = False) -> Iterator[str]:
     """The clients, each step, what stands out, and where the clients are at the end."""
-    yield from map(printable, story.heads)
+    yield from map(printable, story.heads if story.people else ['no clients: a line as "a: group g" of a story says that there is one'])
     yield ""
-    yield from part(story)
+    yield from part(story, (), with_granted)
     yield ""
     yield from unusual(story)
     for at, standing in enumerate(story.last):
@@ -55,18 +55,27 @@ def is_wrong(story: Story) -> bool:
     return any(isinstance(step.event, events.Refused) for step in story.steps) or any(doubles(story))
 
 
-def part(story: Story, lines: Container[str] = ()) -> Iterator[str]:
-    """The steps, or those of some lines, each with what comes of it and with who holds what after it."""
+def part(story: Story, lines: Container[str] = (), with_granted: bool = False) -> Iterator[str]:
+    """The steps, or those of some lines, each with what happens and which partitions each client holds after it; also with what
+    the coordinator has granted."""
     first = slice(None if story.acts else 1)
-    rows = [[*[story.where, "act"][first], "what comes of it", *(f"{it.name} holds" for it in story.people)]]
+    rows = [[*[story.where, "act"][first], "what happens", *(f"{it.name} holds" for it in story.people), *["granted"] * with_granted]]
     for step, row in zip(story.steps, rows_of(story)):
         if not lines or step.at in lines:
-            held = (holding(story, step, at) for at in range(len(story.people)))
+            held = [*(holding(story, step, at) for at in range(len(story.people))), *[granted(story, step)] * with_granted]
             rows.append([*[step.at, shortened(step.text, LONGEST)][first], shortened(row.text(story.people), LONGEST), *held])
     widths = [max(map(len, cells)) for cells in zip(*rows)]
     for first, *rest in rows:
         cells = [first.rjust(widths[0]), *(cell.ljust(width) for cell, width in zip(rest, widths[1:]))]
         yield "  ".join(cells).rstrip()
+
+
+def granted(story: Story, step: Step) -> str:
+    """What the coordinator has granted, to the clients that have something of it."""
+    if not step.granted:
+        return UNKNOWN
+    each = [f"{person.name} {story.topics.text(it, LONGEST_HOLDING)}" for person, it in zip(story.people, step.granted) if it]
+    return "; ".join(each) or "-"
 
 
 def holding(story: Story, step: Step, client: int) -> str:

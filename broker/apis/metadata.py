@@ -73,7 +73,8 @@ def _entry(code: int, topic: Topic, partitions: bytes, version: int) -> bytes:
     return int16(code) + name + topic_id + is_internal + partitions + NOT_TOLD + NO_TAGS
 
 
-def _partition(leader: Node, index: int) -> bytes:
-    one, none = compact_array([int32(leader.id)]), compact_array([])
+def _partition(leader: Optional[Node], index: int) -> bytes:
+    number, code = (leader.id, codes.NONE) if leader else (-1, codes.LEADER_NOT_AVAILABLE)
+    one, none = compact_array([int32(number)] if leader else []), compact_array([])
     replicas, in_sync, offline = one, one, none
-    return int16(codes.NONE) + int32(index) + int32(leader.id) + int32(LEADER_EPOCH) + replicas + in_sync + offline + NO_TAGS
+    return int16(code) + int32(index) + int32(number) + int32(LEADER_EPOCH) + replicas + in_sync + offline + NO_TAGS

@@ -11,6 +11,7 @@ from broker.call import Call
 from broker.commits import Asked, Result, Topic, read_reply, read_request
 from broker.fields import NO_TAGS, compact_array, compact_string, int16, int32
 from broker.frames import Reply
+from broker.link import CoordinatorClosed
 
 
 async def answer(call: Call) -> Reply:
@@ -22,6 +23,8 @@ async def answer(call: Call) -> Reply:
     if not offsets.has_room(asked.group, partitions):
         # What the coordinator takes has to be there at the next OffsetFetch.
         return refuse(call, asked, codes.INVALID_COMMIT_OFFSET_SIZE)
+    if call.cluster.newest.is_late(asked.group, asked.member, call.number):
+        raise CoordinatorClosed("a commit came late: its member has committed over a later connection since")
     reply = await call.link.ask(call.request.body, asked.group)
     if call.cluster.has_log:
         return [reply]

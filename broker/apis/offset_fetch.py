@@ -11,6 +11,7 @@ from broker import codes, commits
 from broker.call import Call
 from broker.fields import NO_TAGS, Reader, Unreadable, compact_array, compact_nullable_string, compact_string, int16, int32, int64, unsigned_varint
 from broker.frames import Reply
+from broker.link import CoordinatorClosed
 from broker.offsets import NOTHING, Committed
 
 # What a code of that commit means here, where it isn't the answer itself.
@@ -86,7 +87,8 @@ async def all_of(call: Call, group: str) -> List[AskedTopic]:
 
 async def _refusal(call: Call, group: AskedGroup) -> int:
     if not call.is_coordinator_of(group.name):
-        return codes.NOT_COORDINATOR
+        # (librdkafka asks again if the connection is closed. If it is told 16 it doesn't, and never reads these partitions.)
+        raise CoordinatorClosed(f"it asked for the offsets of {group.name}, which isn't coordinated from here")
     # (librdkafka names no member.)
     if not group.member or group.epoch < 0:
         await call.link.confirm(group.name)

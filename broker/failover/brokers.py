@@ -1,22 +1,28 @@
-"""Brokers over etcd, a relay before them that records all frames, and wires between each broker and each etcd that can be cut."""
+"""Brokers over etcd, a relay before them that records all frames, and what passes between each broker and its clients and each etcd."""
 
 import asyncio
+import base64
 import contextlib
+import hashlib
 import json
 import os
 import pathlib
 import random
+import signal
 import sys
 import urllib.request
-from typing import Dict, List, Optional, Set
+from typing import Any, Callable, Dict, List, Optional, Set, Tuple
 
-from broker.snapshots import LAST, decoded
+from broker import batches
+from broker.part import LEADERS
+from broker.snapshots import LAST, PIECES, Snapshot, decoded, piece_key
 from broker.streams import within
-from clients.relay import read_frame
+from broker.trials.relay import read_frame
 from clients.stand import HOST, Failed, Ports, Programs, Topic
 from conformance.connection import Address
 from conformance.messages import FIND_COORDINATOR, find_coordinator_fields, framed, header, read_find_coordinator_reply, reply_fields
-from broker.failover.etcds import Etcds
+from broker.failover.etcds import Etcds, text
+from broker.failover.wires import PASSES, REFUSED, SOAK, SOAK_FRAMES, Fate, Gate, Late, Wire, dice
 
 # How many brokers there are, how many there may be where one is added, and into how many parts the groups are divided.
 BROKERS, SLOTS, PARTS = 3, 4, 6
@@ -35,10 +41,11 @@ class Channel:
     left: Set["asyncio.Future[None]"] = set()
 
     @classmethod
-    async def open(cls, address: Address, seconds: float) -> "Channel":
+    async def open(cls, address: Address, seconds: float, own_port: int = 0) -> "Channel":
         it = cls()
         try:
-            it.reader, it.writer = await within(seconds, asyncio.open_connection(*address))
+            own = (HOST, own_port) if own_port else None
+            it.reader, it.writer = await within(seconds, asyncio.open_connection(*address, local_addr=own))
         except (OSError, asyncio.TimeoutError):
             raise Gone from None
         return it
@@ -61,60 +68,33 @@ class Channel:
         return reply[4:]
 
     async def drain(self) -> None:
-        while await read_frame(self.reader):
-            pass
-        self.writer.close()
-
-
-class Wire:
-    """Passes bytes on between a broker and an etcd. While it is cut nothing passes, and nothing is closed. A request that has `refused` in it never
-    passes, and closes its connection."""
-
-    def __init__(self, target: int) -> None:
-        self.target, self.port, self.whole = target, 0, asyncio.Event()
-        self.whole.set()
-        self.refused, self.met = b"", asyncio.Event()
-
-    async def listen(self) -> None:
-        server = await asyncio.start_server(self.accept, HOST, 0)
-        self.port = server.sockets[0].getsockname()[1]
-
-    async def accept(self, reader: asyncio.StreamReader, writer: asyncio.StreamWriter) -> None:
-        # (In Python 3.11 what serves a connection may not be cancelled, so it is told to end in another way.)
-        with contextlib.suppress(OSError, asyncio.CancelledError):
-            await self.whole.wait()
-            far_reader, far = await asyncio.open_connection(HOST, self.target)
-            await asyncio.gather(self.pass_on(reader, far), self.pass_on(far_reader, writer))
-        writer.close()
-
-    async def pass_on(self, reader: asyncio.StreamReader, writer: asyncio.StreamWriter) -> None:
         with contextlib.suppress(OSError):
-            while data := await reader.read(1 << 16):
-                await self.whole.wait()
-                if self.refused and self.refused in data:
-                    self.met.set()
-                    break
-                writer.write(data)
-                await writer.drain()
-        writer.close()
+            while await read_frame(self.reader):
+                pass
+        self.writer.close()
 
 
 class Brokers(Programs):
     """Each is called by its slot, which has a port of its own, and a door in the relay, which it advertises."""
 
-    def __init__(self, folder: pathlib.Path, etcds: Etcds, topic: Topic, lease: int, library: str, top: pathlib.Path) -> None:
-        """`top` is the repository whose brokers these are."""
+    def __init__(self, folder: pathlib.Path, etcds: Etcds, topic: Topic, lease: int, library: str, top: pathlib.Path, longest: float) -> None:
+        """`top` is the repository whose brokers these are. A late request is `longest` seconds late at most."""
         super().__init__(folder)
         self.etcds, self.topic, self.lease, self.library, self.top = etcds, topic, lease, library, top
         self.ports = Ports(3 * SLOTS + 1)
         self.fronts, doors, self.pages = (self.ports.numbers[at * SLOTS : (at + 1) * SLOTS] for at in range(3))
         self.doors: List[Address] = [(HOST, door) for door in doors]
-        self.wires = [[Wire(port) for port in etcds.clients] for _ in doors]
+        self.late, self.longest, self.dropped = Late(), longest, 0
+        self.wires = [[Wire(port, self.late) for port in etcds.clients] for _ in doors]
+        self.gates = [Gate(port, self.late) for port in self.fronts]
+        # What becomes of requests and frames where no fault says otherwise; and who has a consumer of its own play: a group, and a name.
+        self.usual: Tuple[Callable[[str, str], Fate], Callable[[], Fate]] = (lambda kind, key: Fate(PASSES), lambda: Fate(PASSES))
+        self.play: Callable[[str, str], Any] = lambda group, name: None
 
     async def begin(self) -> None:
-        for wire in sum(self.wires, []):
-            await wire.listen()
-        self.relay(self.ports.numbers[-1], [f"client:{door[1]}:{front}" for door, front in zip(self.doors, self.fronts)])
+        for each in [*sum(self.wires, []), *self.gates]:
+            await each.listen()
+        self.relay(self.ports.numbers[-1], [f"client:{door[1]}:{gate.port}" for door, gate in zip(self.doors, self.gates)])
         await asyncio.gather(*map(self.start_one, range(BROKERS)))
 
     async def start_one(self, slot: int) -> None:
@@ -123,6 +103,10 @@ class Brokers(Programs):
         words += ["--snapshot-bytes", str(SNAPSHOT_BYTES)]
         words += ["--lease", str(self.lease), "--rate", "5", "--port", str(self.fronts[slot]), "--status", str(self.pages[slot])]
         await asyncio.to_thread(self.start, str(slot), "listening", [*words, "--library", self.library, self.topic.word()], self.top)
+
+    async def end_one(self, slot: int) -> None:
+        """Ends one for good."""
+        await asyncio.to_thread(self.send_signal, str(slot), signal.SIGTERM)
 
     async def add_one(self) -> int:
         """Starts one more, in a slot that is free."""
@@ -141,20 +125,44 @@ class Brokers(Programs):
         for wire in sum(self.wires, []):
             wire.whole.set()
 
-    async def refuse(self, slot: int, words: bytes, seconds: float) -> None:
-        """Lets no request with these words pass from a broker to an etcd, and returns once it has made one. Raises Failed."""
+    async def refuse(self, slot: int, kind: str, seconds: float) -> None:
+        """Lets no request of a kind pass from a broker to an etcd, and returns once it has made one. Raises Failed."""
         met = asyncio.Event()
-        for wire in self.wires[slot]:
-            wire.refused, wire.met = words, met
+
+        def fate(asked: str, _: str) -> Fate:
+            if asked == kind:
+                met.set()
+            return Fate(REFUSED if asked == kind else PASSES)
+
+        self.meet(fate, slot)
         try:
             await within(seconds, met.wait())
         except asyncio.TimeoutError:
             self.let_pass()
-            raise Failed(f"a broker doesn't ask etcd for {words.decode()} within {seconds:g} s") from None
+            raise Failed(f"a broker asks etcd for no {kind} within {seconds:g} s") from None
+
+    def meet(self, fate: Callable[[str, str], Fate], *slots: int) -> None:
+        """Has the requests of these brokers, or of all, meet a fate."""
+        for slot in slots or range(SLOTS):
+            for wire in self.wires[slot]:
+                wire.fate = fate
 
     def let_pass(self) -> None:
-        for wire in sum(self.wires, []):
-            wire.refused = b""
+        self.meet(self.usual[0])
+
+    def soak(self, numbers: random.Random) -> None:
+        """From now on requests and frames are late, lost or done twice now and then."""
+        self.usual = (lambda kind, key: dice(numbers, SOAK) if kind else Fate(PASSES)), lambda: dice(numbers, SOAK_FRAMES)
+        self.let_pass()
+        for gate in self.gates:
+            gate.fate = self.usual[1]
+
+    def rest(self) -> None:
+        """From now on all passes."""
+        self.usual = (lambda kind, key: Fate(PASSES)), lambda: Fate(PASSES)
+        self.let_pass()
+        for gate in self.gates:
+            gate.fate = self.usual[1]
 
     def connected(self, slot: int) -> Set[int]:
         """The ports that a broker is connected to."""
@@ -167,9 +175,24 @@ class Brokers(Programs):
         with urllib.request.urlopen(f"http://{HOST}:{self.pages[slot]}/groups", timeout=PAGE_SECONDS) as page:
             return page.read().decode()
 
-    def snapshots(self) -> Dict[int, int]:
-        """The place of each part's last snapshot."""
-        return {int(key[len(LAST) :]): decoded(value).place for key, value in self.etcds.pairs(LAST).items()}
+    def snapshots(self) -> Dict[int, Snapshot]:
+        """Each part's last snapshot."""
+        return {int(key[len(LAST) :]): decoded(value) for key, value in self.etcds.pairs(LAST).items()}
+
+    def broken(self) -> List[str]:
+        """The parts that can't be made again of what is in etcd: the last snapshot isn't whole, or the log doesn't go on after it."""
+        found, last, pieces = [], self.snapshots(), self.etcds.pairs(PIECES)
+        first = {part: self.etcds.first(batches.key(part, it.place + 1), batches.end(part)) for part, it in last.items()}
+        # (Where another one was named meanwhile, this one may be gone.)
+        for part, it in self.snapshots().items():
+            keys = [piece_key(part, it.place, number) for number in range(it.pieces)]
+            whole = b"".join(pieces.get(key, b"") for key in keys)
+            if last.get(part) == it and hashlib.sha256(whole).hexdigest() != it.checksum:
+                count = f"{sum(key in pieces for key in keys)} of {it.pieces} pieces"
+                found.append(f"the snapshot of part {part} at entry {it.place} isn't whole in etcd: {count}")
+            if last.get(part) == it and first[part] not in ("", batches.key(part, it.place + 1)):
+                found.append(f"the log of part {part} goes on with {first[part]} after its snapshot at entry {it.place}")
+        return found
 
     def restored(self, slot: int) -> Dict[int, int]:
         """The place of the snapshot that a broker's replica of each part went on from, where it has met one."""
@@ -192,6 +215,16 @@ class Brokers(Programs):
                 if code == 0:
                     return address
         raise Gone
+
+    def leadership(self, part: int) -> int:
+        """The revision at which a part's leadership was created, where its broker takes requests; else 0."""
+        found = self.etcds.any("kv/range", key=text(f"{LEADERS}{part}".encode())).get("kvs", [])
+        for slot in self.slots() if found else ():
+            with contextlib.suppress(OSError):
+                seen = json.loads(self.page(slot))["parts"][part]
+                if seen["is_led_here"] and seen["leader"] == int(base64.b64decode(found[0]["value"])):
+                    return int(found[0]["create_revision"])
+        return 0
 
     async def leader_of(self, group: str) -> Optional[int]:
         """The slot of the broker that leads a group's part."""

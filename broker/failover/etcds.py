@@ -25,9 +25,10 @@ class NotHere(Exception):
 
 
 def install() -> None:
-    """Installs etcd where it isn't there, and root may."""
+    """Installs etcd if it is missing and this is root, and says so before."""
     if shutil.which("etcd") is None and os.geteuid() == 0 and shutil.which("apt-get") is not None:
         words = ["apt-get", "install", "--yes", "--no-install-recommends", "etcd-server", "etcd-client"]
+        print(f"etcd isn't here: {' '.join(words)}", flush=True)
         commands.run(["env", "DEBIAN_FRONTEND=noninteractive", *words], limit=INSTALL_SECONDS)
     if shutil.which("etcd") is None:
         raise NotHere("etcd isn't there, and can't be installed")
@@ -103,6 +104,11 @@ class Etcds(Programs):
         """The keys below a folder's name, which ends in `/`, with their values."""
         found = self.any("kv/range", key=text(folder.encode()), range_end=text(folder[:-1].encode() + b"0"))
         return {base64.b64decode(it["key"]).decode(): base64.b64decode(it["value"]) for it in found.get("kvs", [])}
+
+    def first(self, key: str, end: str) -> str:
+        """The first key from one on, and before another one; or nothing."""
+        found = self.any("kv/range", key=text(key.encode()), range_end=text(end.encode()), limit=1, keys_only=True).get("kvs", [])
+        return base64.b64decode(found[0]["key"]).decode() if found else ""
 
     def fill(self) -> None:
         """Puts in as much as there is room for."""

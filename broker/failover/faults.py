@@ -1,24 +1,25 @@
 """The faults: what is done, and how long a group may go unanswered by it. What must hold always is in run."""
 
 import asyncio
+import contextlib
 import itertools
 import signal
 import time
+import uuid
 from typing import Awaitable, Callable, Dict, List, NamedTuple, Sequence
 
-from broker.snapshots import LAST, PIECES, folder
-from clients.stand import Failed, Programs
-from broker.failover.brokers import Brokers
-from broker.failover.etcds import text
+from broker.snapshots import PIECES, Snapshot, folder
+from clients.stand import HOST, Failed, Programs
+from broker.failover.brokers import Brokers, Channel, Gone
+from broker.failover.latecomers import DROPPED, OPENING, answers, dropped_requests, late_report, late_requests, requests_twice
+from rules.messages import Heartbeat
 
 # A time longer than a session; how long all is down; and within how long a new broker leads, a snapshot is due, and its pieces are deleted.
 LONG_SECONDS, DOWN_SECONDS, SPREAD_SECONDS, DUE_SECONDS, TIDY_SECONDS = 60, 120, 30, 180, 30
-# How requests begin that a leader makes for a snapshot: one that names it, one that deletes what it takes the place of, and one that puts a piece.
-# Each in turn is the one that doesn't come to etcd any more.
-STEPS = itertools.cycle(
-    f'"{operation}": {{"key": "{text(key.encode())}'.encode()
-    for operation, key in (("request_put", LAST), ("request_delete_range", PIECES), ("request_put", PIECES))
-)
+# The requests that a leader makes for a snapshot. Each in turn is the one that doesn't come to etcd any more.
+STEPS = itertools.cycle(("name", "tidy", "piece"))
+# Members whose heartbeats are long, and how many topics each subscribes to: 900 kB.
+LONG_GROUP, LONG_MEMBERS, LONG_NAMES, LONG_ANSWER_SECONDS = "long", 10, 19_000, 30
 
 
 async def at_once(_: Brokers, __: int) -> None:
@@ -61,9 +62,9 @@ async def kill_writer(it: Brokers, slot: int) -> None:
 
 
 def unnamed(it: Brokers) -> List[str]:
-    """The pieces of snapshots but the last of each part."""
+    """The pieces of snapshots but the last of each part and the one before."""
     pieces = it.etcds.pairs(PIECES)
-    folders = tuple(folder(part, place) + "/" for part, place in it.snapshots().items())
+    folders = tuple(f"{folder(part, place)}/" for part, last in it.snapshots().items() for place in (last.place, last.before))
     return [key for key in pieces if not key.startswith(folders)]
 
 
@@ -118,10 +119,10 @@ async def restart_all(it: Brokers, _: int) -> None:
     await asyncio.gather(*map(it.start_one, slots))
 
 
-def begun_without(it: Brokers, slot: int, snapshots: Dict[int, int]) -> List[int]:
+def begun_without(it: Brokers, slot: int, snapshots: Dict[int, Snapshot]) -> List[int]:
     """The parts of which a broker hasn't met these snapshots, nor later ones."""
     restored = it.restored(slot)
-    return [part for part, place in snapshots.items() if restored.get(part, 0) < place]
+    return [part for part, last in snapshots.items() if restored.get(part, 0) < last.place]
 
 
 async def replace(it: Brokers, slot: int) -> None:
@@ -133,7 +134,7 @@ async def replace(it: Brokers, slot: int) -> None:
         await asyncio.sleep(0.5)
     while late := await asyncio.to_thread(begun_without, it, new, before):
         if time.monotonic() > until:
-            raise Failed(f"a new broker doesn't begin part {late[0]} with its snapshot of entry {before[late[0]]}")
+            raise Failed(f"a new broker doesn't begin part {late[0]} with its snapshot of entry {before[late[0]].place}")
         await asyncio.sleep(0.5)
     await asyncio.to_thread(it.send_signal, str(slot), signal.SIGTERM)
 
@@ -147,7 +148,30 @@ async def fill_etcd(it: Brokers, slot: int) -> None:
         raise Failed("no line and no page says that etcd has no room")
 
 
+async def long_heartbeats(it: Brokers, _: int) -> None:
+    """Members send one after the other, side by side. (They do so past the relay, which would be held up by its record.)"""
+    until = time.monotonic() + 2 * it.lease
+    await asyncio.gather(*(long_member(it, str(uuid.UUID(int=number)), until) for number in range(1, LONG_MEMBERS + 1)))
+
+
+async def long_member(it: Brokers, member: str, until: float) -> None:
+    join = Heartbeat(LONG_GROUP, member, timeout=60_000, names=[f"topic-{at:040d}" for at in range(LONG_NAMES)], owned=set()).frame()
+    leave = Heartbeat(LONG_GROUP, member, -1).frame()
+    with contextlib.suppress(Gone):
+        channel = await Channel.open((HOST, it.fronts[await answers(it, LONG_GROUP)]), LONG_ANSWER_SECONDS)
+        while time.monotonic() < until:
+            await channel.ask(join, LONG_ANSWER_SECONDS)
+        await channel.ask(leave, LONG_ANSWER_SECONDS)
+        channel.writer.close()
+
+
 FAULTS: Dict[str, Fault] = {
+    "late": Fault("the next request of each kind to etcd is 0.5 to 60 s late, or done after a later one; brokers come and go", late_requests, 10),
+    "late-tcp": Fault("the same, since packets are dropped and sent again", dropped_requests, 12),
+    "twice": Fault("all requests to etcd are done twice, the second time 0.5 to 60 s later, while brokers come and go", requests_twice, 6),
+    "late-client": Fault("a report and a commit come late over old connections; another broker led meanwhile, or the same again", late_report, 10),
+    "late-client-tcp": Fault("the same, since packets are dropped", lambda it, slot: late_report(it, slot, DROPPED), 10),
+    "late-opening": Fault("the same, and packets of the connections' opening are dropped too", lambda it, slot: late_report(it, slot, OPENING), 10),
     "kill": Fault("kill -9 of a broker, which starts again after the lease and 2 s", kill, times=20),
     "kill-writer": Fault("kill -9 of a broker while it writes a snapshot", kill_writer, times=3, comes=writes_snapshot),
     "stop": Fault("SIGSTOP of a broker for twice the lease, then SIGCONT", lambda it, slot: pause(it, [str(slot)], 2 * it.lease)),
@@ -162,8 +186,11 @@ FAULTS: Dict[str, Fault] = {
         *(LONG_SECONDS + 2, LONG_SECONDS - 2),
     ),
     "restart-all": Fault(f"kill -9 of all, which start again after {DOWN_SECONDS} s", restart_all, DOWN_SECONDS + 15, DOWN_SECONDS - 2),
+    "long": Fault(f"{LONG_MEMBERS} members of a group send heartbeats of 900 kB for twice the lease, without a pause", long_heartbeats),
     "replace": Fault("a broker is added, and another one ended for good", replace),
-    "compact": Fault("etcd's history is compacted while a broker is cut off, and another one starts behind that", compact, 4),
+    "compact": Fault("etcd's history is compacted while a broker is cut off, and another one starts after that", compact, 4),
     "fill-etcd": Fault("etcd's room is used up for twice the lease, then given back", fill_etcd, 60),
 }
-SHORT = ("stop", "cut", "kill")
+SHORT = ("stop", "cut", "kill", "late", "late-client", "late-client-tcp", "late-opening")
+# What is brought in a short soak.
+SHORT_SOAK = ("replace", "kill")

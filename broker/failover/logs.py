@@ -1,21 +1,22 @@
-"""The logs in etcd, run through the library from their beginning, beside the frames that passed."""
+"""The logs in etcd, run through the library from their beginning, and compared with the frames that passed."""
 
 import base64
 import collections
 import contextlib
+import hashlib
 import json
 import pathlib
 import threading
 import time
-from typing import Any, Counter, Deque, Dict, List, Optional, Tuple
+from typing import Any, Counter, Deque, Dict, List, Optional, Set, Tuple
 
 from broker.batches import LOGS, decode, part_and_place
 from broker.embedded import module
-from broker.settings import KEY
-from clients.log import COMMIT, HEARTBEAT, head_of, read_events
 from broker.failover.etcds import Etcds, call, opened, text
 from broker.failover.member import NOT_HERE
-from rules.messages import read_commit_reply, read_heartbeat_reply
+from broker.settings import KEY
+from broker.trials.log import COMMIT, HEARTBEAT, head_of, read_events
+from rules.messages import read_commit_reply, read_heartbeat_reply, read_request
 
 SILENT_SECONDS, CATCH_UP_SECONDS = 2, 30
 # Where the body of a frame's entry begins. Each part has a salt of its own.
@@ -45,9 +46,13 @@ class Logs:
         self.revision, self.ends = 0, False
         # How many bytes the batches of each part have.
         self.sizes: Counter[int] = collections.Counter()
+        # What each batch was, by its part and place: an append that is done late, behind the log's being cut there, puts the same one there again.
+        self.batches: Dict[Tuple[int, int], bytes] = {}
         # The replies to each request, as the logs make them; and what can't be.
         self.replies: Dict[Ask, List[bytes]] = collections.defaultdict(list)
         self.faults: List[str] = []
+        # Requests of members that leave: where the first one's answer takes long there is another one, which is told 25.
+        self.leaves: Set[Ask] = set()
         threading.Thread(target=self.follow, daemon=True).start()
 
     def follow(self) -> None:
@@ -77,8 +82,11 @@ class Logs:
             part, place = part_and_place(base64.b64decode(pair["key"]).decode())
             batch = base64.b64decode(pair["value"])
             self.sizes[part] += len(batch)
-            for at, entry in enumerate(decode(batch).entries):
-                self.apply(part, place + at, entry)
+            if self.batches.setdefault((part, place), hashlib.sha256(batch).digest()) != hashlib.sha256(batch).digest():
+                self.faults.append(f"part {part}: the batch at {place} is another one than before")
+            elif part not in self.runs or place > self.runs[part].place().applied:
+                for at, entry in enumerate(decode(batch).entries):
+                    self.apply(part, place + at, entry)
         self.revision = max(self.revision, int(pair["mod_revision"]))
 
     def apply(self, part: int, place: int, entry: bytes) -> None:
@@ -90,7 +98,10 @@ class Logs:
             self.faults.append(f"part {part}: the entry at {place} is refused: {why}")
             return
         if applied.kind == "frame" and applied.reply is not None:
-            self.replies[asked_of(bytes(4) + entry[BODY:])].append(applied.reply)
+            asked = asked_of(bytes(4) + entry[BODY:])
+            self.replies[asked].append(applied.reply)
+            if asked[1] == HEARTBEAT and read_request(entry[BODY:]).epoch < 0:
+                self.leaves.add(asked)
 
     @staticmethod
     def last(found: Dict[str, Any]) -> Tuple[int, int]:
@@ -121,6 +132,8 @@ class Logs:
                         faults.append(f"{asked} was answered {event.frame.hex()} at {event.moment:.3f}, and no log makes that")
         return count, faults
 
-    def codes(self) -> Counter:
-        """How often each code is in the logs' replies."""
-        return collections.Counter(code for asked, replies in self.replies.items() for it in replies for code in codes_of(asked[1], it))
+    def codes(self, late: List[bytes]) -> Counter:
+        """How often each code is in the logs' replies, but for those to these frames, which nobody was told, and to members that leave."""
+        untold = {asked_of(frame) for frame in late} | self.leaves
+        replies = ((asked, it) for asked, some in self.replies.items() if asked not in untold for it in some)
+        return collections.Counter(code for asked, it in replies for code in codes_of(asked[1], it))

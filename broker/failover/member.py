@@ -4,7 +4,7 @@ import asyncio
 import collections
 import time
 import uuid
-from typing import Awaitable, Callable, Counter, Dict, Iterable, List, Optional
+from typing import Awaitable, Callable, Counter, Dict, Iterable, List, Optional, Sequence
 
 from broker.trials.prints import Print
 from clients.stand import Topic
@@ -12,7 +12,7 @@ from conformance.connection import Address
 from conformance.messages import OFFSET_FETCH, framed, header, offset_fetch_fields, read_offset_fetch_reply, reply_fields
 from broker.failover.brokers import Channel, Gone
 from rules.client import FENCED, INSIDE, OUTSIDE, Client
-from rules.messages import Commit, read_commit_reply, read_heartbeat_reply
+from rules.messages import Commit, Heartbeat, read_commit_reply, read_heartbeat_reply
 
 HEARTBEAT_SECONDS, COMMIT_SECONDS, TURN_SECONDS, ANSWER_SECONDS = 1.0, 0.25, 0.05, 1.0
 FETCH_VERSION = 9
@@ -24,13 +24,13 @@ NOT_HERE = (14, 15, 16)
 NUMBERS = 1 << 20
 
 
-async def committed(channel: Channel, group: str, topic: str, index: int) -> int:
-    """The offset that OffsetFetch gives; -1 where there is none."""
-    frame = framed(header(OFFSET_FETCH, FETCH_VERSION, 1) + offset_fetch_fields(FETCH_VERSION, group, topic, index))
-    found = read_offset_fetch_reply(reply_fields(OFFSET_FETCH, FETCH_VERSION, await channel.ask(frame, ANSWER_SECONDS))[1], FETCH_VERSION)
-    if found.group_code or found.code:
+async def committed(channel: Channel, group: str, topic: str, indexes: Sequence[int], seconds: float = ANSWER_SECONDS) -> Dict[int, int]:
+    """The offsets that OffsetFetch gives; -1 where there is none. Raises Gone."""
+    frame = framed(header(OFFSET_FETCH, FETCH_VERSION, 1) + offset_fetch_fields(FETCH_VERSION, group, {topic: indexes}))
+    found = read_offset_fetch_reply(reply_fields(OFFSET_FETCH, FETCH_VERSION, await channel.ask(frame, seconds))[1], FETCH_VERSION)
+    if found.first_code():
         raise Gone
-    return found.offset
+    return {index: found.parts[topic, index].offset for index in indexes}
 
 
 class Member:
@@ -45,8 +45,8 @@ class Member:
         # The offset of each partition that was committed last, and whether what it owns has changed since it reported it.
         self.offsets: Dict[int, int] = {}
         self.has_news = False
-        # While it holds on, it gives nothing up; and it leaves.
-        self.holds_on = self.leaves = False
+        # While it holds on, it gives nothing up; it says nothing; and it leaves.
+        self.holds_on = self.is_silent = self.leaves = False
         self.beat_due = self.commit_due = 0.0
         # When it was answered by the coordinator, and the codes.
         self.answered: List[float] = []
@@ -63,12 +63,16 @@ class Member:
     async def run(self) -> None:
         while not self.leaves or self.client.place == INSIDE:
             try:
-                await self.turn()
+                if not self.is_silent:
+                    await self.turn()
             except Gone:
                 self.client.give_up()
                 self.channel, self.beat_due = None, 0.0
             await asyncio.sleep(TURN_SECONDS)
         self.say("CLOSED")
+
+    def hush(self) -> None:
+        self.is_silent = True
 
     async def quit(self) -> None:
         self.say("CLOSING")
@@ -110,6 +114,14 @@ class Member:
         self.beat_due = time.monotonic() + HEARTBEAT_SECONDS
         await self.change(channel)
 
+    def first_frames(self) -> List[bytes]:
+        """What it has sent when it had just joined and hadn't taken anything: that it owns nothing, and a commit of an early offset."""
+        report = Heartbeat(self.client.group, self.client.id, correlation=self.client.number + NUMBERS // 2)
+        report.epoch, report.owned = self.client.epoch, set()
+        parts = [(index, 0, -1, None) for index in range(self.topic.count)]
+        commit = Commit(self.client.group, self.client.id, self.client.epoch, [(self.topic.name, parts)], correlation=self.commits + NUMBERS // 2)
+        return [report.frame(), commit.frame()]
+
     async def change(self, channel: Channel) -> None:
         """Gives up what isn't assigned any more, and takes what is, from the committed offset on."""
         own, shown = ({index for _, index in them} for them in (self.client.own, self.client.shown))
@@ -121,7 +133,7 @@ class Member:
             self.offsets.pop(index, None)
         new = own & shown - self.offsets.keys()
         if new and not self.leaves:
-            found = {index: await committed(channel, self.client.group, self.topic.name, index) for index in sorted(new)}
+            found = await committed(channel, self.client.group, self.topic.name, sorted(new))
             self.say_of("ASSIGN", new)
             self.offsets.update({index: max(offset, 0) for index, offset in found.items()})
         if new or lost:

@@ -1,4 +1,4 @@
-"""How fast a broker over etcd is, beside one with a coordinator of its own."""
+"""How fast a broker over etcd is, compared with one that has a coordinator of its own."""
 
 import pathlib
 import sys

@@ -1,4 +1,4 @@
-"""How long programs had to wait for this machine: for a processor, and behind the moments of timers."""
+"""How long programs had to wait for this machine: for a processor, and after the moments of timers."""
 
 import asyncio
 import contextlib

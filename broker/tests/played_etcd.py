@@ -12,8 +12,9 @@ from broker.etcd import Etcd
 from broker.tests.support import HOST
 
 Message = Dict[str, Any]
-# What becomes of a request: it is done and answered, or done alone, or neither; or an error is answered.
-DONE, DONE_ALONE, LOST = "done", "done alone", "lost"
+# What becomes of a request: it is done and answered, or done alone, or neither, or it is done once the test says so; or an error is answered.
+DONE, DONE_ALONE, LOST, LATE = "done", "done alone", "lost", "late"
+NO_LEASE = {"error": "requested lease not found", "message": "etcdserver: requested lease not found", "code": 5}
 NO_SPACE = {"error": "mvcc: database space exceeded", "message": "etcdserver: mvcc: database space exceeded", "code": 8}
 COMPACTED = {"error": "required revision has been compacted", "message": "etcdserver: mvcc: required revision has been compacted", "code": 11}
 TOO_LONG = {"error": "context deadline exceeded", "message": "context deadline exceeded", "code": 4}
@@ -41,8 +42,13 @@ class PlayedEtcd:
         # The revisions up to which it was to forget.
         self.compacted: List[int] = []
         self.changed = asyncio.Condition()
+        # The requests that are late, and all that were done with what came of them.
+        self.late: List[Tuple[str, Message]] = []
+        self.done: List[Tuple[str, Message, Message]] = []
         # What becomes of a request, by its path and its fields.
         self.fate: Callable[[str, Message], Any] = lambda path, request: DONE
+        # How long each answer takes, and how many watches were begun; and whether they bring nothing.
+        self.seconds_each, self.watches, self.is_mute = 0.0, 0, False
         self._writers: List[asyncio.StreamWriter] = []
 
     # ---- what it has
@@ -65,6 +71,19 @@ class PlayedEtcd:
 
     # ---- requests
 
+    async def do(self, path: str, request: Message) -> Message:
+        """Does a request, and tells those that watch."""
+        answer = self.answer(path, request)
+        self.done.append((path, request, answer))
+        async with self.changed:
+            self.changed.notify_all()
+        return answer
+
+    async def do_late(self) -> List[Message]:
+        """Does the requests that are late, each for a first or another time."""
+        late, self.late = self.late, []
+        return [await self.do(*each) for each in late]
+
     def answer(self, path: str, request: Message) -> Message:
         header = {"revision": str(self.revision)}
         if path == "kv/range":
@@ -76,10 +95,12 @@ class PlayedEtcd:
             self.seconds[str(self.leases)] = request["TTL"]
             return {"header": header, "ID": str(self.leases), "TTL": request["TTL"]}
         if path == "lease/keepalive":
-            return {"result": {"header": header, "ID": request["ID"], "TTL": self.seconds[request["ID"]]}}
+            return {"result": {"header": header, "ID": request["ID"], "TTL": self.seconds.get(request["ID"], "0")}}
         if path == "kv/compaction":
             self.compacted.append(int(request["revision"]))
             return {"header": header}
+        if self.seconds.get(request["ID"], "0") == "0":
+            return NO_LEASE
         self.end_lease(request["ID"])
         return {"header": header}
 
@@ -91,19 +112,26 @@ class PlayedEtcd:
     def range(self, request: Message) -> Message:
         first = unpacked(request["key"])
         end = unpacked(request["range_end"]) if "range_end" in request else f"{first}\0"
-        found = [self.pairs[key] for key in sorted(self.pairs) if first <= key < end]
+        since = int(request.get("min_mod_revision", 0))
+        found = [self.pairs[key] for key in sorted(self.pairs) if first <= key < end and int(self.pairs[key]["mod_revision"]) >= since]
         limit = int(request.get("limit", 0)) or len(found)
         return {"kvs": found[:limit], "more": len(found) > limit}
 
     def txn(self, request: Message) -> Message:
         def holds(compare: Message) -> bool:
-            return self.pairs.get(unpacked(compare["key"]), {}).get("create_revision", "0") == compare["create_revision"]
+            field = {"CREATE": "create_revision", "MOD": "mod_revision"}[compare["target"]]
+            found = self.range(compare)["kvs"] or [{}]
+            return all(pair.get(field, "0") == compare[field] for pair in found)
 
         succeeded = all(map(holds, request["compare"]))
-        responses = [self.do(operation) for operation in request["success" if succeeded else "failure"]]
+        operations = request["success" if succeeded else "failure"]
+        leases = {each.get("request_put", {}).get("lease", "0") for each in operations}
+        if any(self.seconds.get(lease, "0") == "0" for lease in leases - {"0"}):
+            return NO_LEASE
+        responses = [self.operate(operation) for operation in operations]
         return {"header": {"revision": str(self.revision)}, "succeeded": succeeded, "responses": responses}
 
-    def do(self, operation: Message) -> Message:
+    def operate(self, operation: Message) -> Message:
         (kind, fields), = operation.items()
         if kind == "request_put":
             self.put(fields["key"], fields["value"], fields["lease"])
@@ -128,19 +156,20 @@ class PlayedEtcd:
         if path == "watch":
             await self._watch(request["create_request"], writer)
             return False
+        await asyncio.sleep(self.seconds_each)
         fate = self.fate(path, request)
-        if fate in (DONE, DONE_ALONE):
-            answer = self.answer(path, request)
-            async with self.changed:
-                self.changed.notify_all()
-        if fate in (DONE_ALONE, LOST):
+        answer = await self.do(path, request) if fate in (DONE, DONE_ALONE) else fate
+        if fate == LATE:
+            self.late.append((path, request))
+        if fate in (DONE_ALONE, LOST, LATE):
             return False
-        status, body = ("200 OK", answer) if fate == DONE else ("429 Too Many Requests", fate)
+        status, body = ("429 Too Many Requests" if "error" in answer else "200 OK"), answer
         data = json.dumps(body).encode()
         writer.write(f"HTTP/1.1 {status}\r\nContent-Length: {len(data)}\r\n\r\n".encode() + data)
         return True
 
     async def _watch(self, request: Message, writer: asyncio.StreamWriter) -> None:
+        self.watches += 1
         first, end, told = unpacked(request["key"]), unpacked(request["range_end"]), 0
         writer.write(b"HTTP/1.1 200 OK\r\nTransfer-Encoding: chunked\r\n\r\n")
         self._chunk(writer, {"result": {"created": True}})
@@ -151,7 +180,7 @@ class PlayedEtcd:
                     self._chunk(writer, {"result": {"events": [event]}})
             told = len(self.history)
             async with self.changed:
-                await self.changed.wait_for(lambda: len(self.history) > told)
+                await self.changed.wait_for(lambda: len(self.history) > told and not self.is_mute)
 
     @staticmethod
     def _chunk(writer: asyncio.StreamWriter, message: Message) -> None:

@@ -11,6 +11,7 @@ from broker.apis import ANSWERS
 from broker.call import Call
 from broker.cluster import Cluster, group_number, java_hash
 from broker.frames import Reply, read_request
+from broker.link import CoordinatorClosed
 from broker.turns import Pace
 from broker.watch import Watch
 from broker.tests.support import data, run_alone, small_cluster
@@ -69,14 +70,20 @@ class Apis(unittest.TestCase):
         asked = [
             "0044 0000 00000007 ffff 00 06 'hello' 01 00000000 00 00 0000ea60 02 07 'orders' 00 01 00",
             "0008 0009 00000008 ffff 00 06 'hello' 00000002 02 'm' 00 02 07 'orders' 02 00000001 0000000000000005 ffffffff 00 00 00 00",
-            "0009 0009 00000005 ffff 00 02 06 'hello' 02 'm' 00000002 00 00 01 00",
         ]
         refused = [
             "00000007 00 00000000 0010 26 'another broker coordinates this group' 00 00000000 00000000 ff 00",
             "00000008 00 00000000 02 07 'orders' 02 00000001 0010 00 00 00",
-            "00000005 00 00000000 02 06 'hello' 01 0010 00 00",
         ]
         self.assertEqual([answer(cluster, text).hex() for text in asked], [data(text).hex() for text in refused])
+        with self.assertRaisesRegex(CoordinatorClosed, "it asked for the offsets of hello, which isn't coordinated from here"):
+            answer(cluster, "0009 0009 00000005 ffff 00 02 06 'hello' 02 'm' 00000002 00 00 01 00")
+
+    def test_a_partition_may_have_no_leader_for_now(self) -> None:
+        cluster = small_cluster(partitions=1)
+        with mock.patch.object(cluster, "leader_of", lambda _: None):
+            reply = answer(cluster, "0003 000b 00000002 0001 'c' 00 00 00 00 00")
+        self.assertIn(data("07 'orders' 11111111111111111111111111111111 00 02 0005 00000000 ffffffff 00000000 01 01 01 00"), reply)
 
     def test_partitions_have_leaders_all_round(self) -> None:
         leaders: List[int] = [small_cluster(3).leader_of(index).id for index in range(7)]

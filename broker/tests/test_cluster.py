@@ -4,6 +4,7 @@ from __future__ import annotations
 
 import asyncio
 import contextlib
+import json
 import socket
 import struct
 import unittest
@@ -13,12 +14,15 @@ from unittest import mock
 from broker.__main__ import run
 from broker.apis.offset_fetch import all_of
 from broker.command_line import parse
+from broker.cluster import Node
 from broker.etcd_cluster import EtcdCluster
+from broker.members import Broker as Known
 from broker.offsets import Committed
 from broker.output import STANDARD_ERROR
 from broker.tests.played_etcd import DONE, LOST, played_etcd, text_of, unpacked
 from broker.tests.support import HOST, TOPIC, Client, close_all, until
 from broker.tests.test_part import TOPICS, PlayedReplica
+from broker.tests.test_status import get
 from broker.turns import Pace, Turns
 
 # FindCoordinator for the group `g`, and what another broker has in etcd that leads all.
@@ -33,7 +37,7 @@ class Broker:
         self.port = port
         self.lines: List[str] = []
         self.writers: List[asyncio.StreamWriter] = []
-        options = parse(["--etcd", etcd, "--advertise", f"{HOST}:{port}", "--parts", "1", "--lease", "12", TOPIC])
+        options = parse(["--etcd", etcd, "--advertise", f"{HOST}:{port}", "--parts", "1", "--lease", "12", "--status", "0", TOPIC])
         self.task = asyncio.ensure_future(run(options, self.lines.append))
 
     async def client(self) -> Client:
@@ -51,6 +55,12 @@ class Broker:
         host = body[at + 6 :][: struct.unpack_from(">h", body, at + 4)[0]].decode()
         return f"code {code}" if code else host
 
+    async def told(self) -> List[str]:
+        """The lines that its page shows."""
+        port = next(int(line.rstrip("/").rpartition(":")[2]) for line in self.lines if line.startswith("status "))
+        _, _, body = await get(port, "/groups")
+        return [each["line"] for each in json.loads(body)["lines"]]
+
     def listens(self) -> int:
         return sum(line.startswith("listening ") for line in self.lines)
 
@@ -66,7 +76,8 @@ async def broker() -> AsyncIterator[Any]:
             played.put(text_of(f"migwelun/{key}"), text_of(value), "99")
         played.fate = lambda path, request: LOST if path == "kv/range" and "/log/" in unpacked(request["key"]) else DONE
         replica = mock.patch("broker.etcd_cluster.replica_of", lambda *_: PlayedReplica())
-        with replica, mock.patch.object(STANDARD_ERROR, "line", said.append), mock.patch("broker.serving.NO_LEASE_SECONDS", 3):
+        version = mock.patch.multiple("broker.__main__", replica_of=lambda *_: PlayedReplica(), version_of=lambda _: "1")
+        with replica, version, mock.patch.object(STANDARD_ERROR, "line", said.append), mock.patch("broker.serving.NO_LEASE_SECONDS", 3):
             it = Broker(str(etcd).removeprefix("etcd "), port)
             try:
                 yield played, it, said
@@ -98,6 +109,13 @@ class Serving(unittest.IsolatedAsyncioTestCase):
         closed = "broker: clients' connections are closed, since this broker has had no lease in etcd for 3 s"
         self.assertEqual([line for line in said if "clients' connections" in line], [closed])
 
+    async def test_the_page_tells_who_leads(self) -> None:
+        async with broker() as (played, it, said):
+            played.fate = lambda path, request: DONE
+            await until(lambda: any("is led by" in line for line in it.lines))
+            found = await it.told()
+        self.assertEqual(found, ["part 0 is led by 10.0.0.5:9092"])
+
     async def test_clients_stay_where_a_lease_is_missed_for_a_moment(self) -> None:
         async with broker() as (played, it, said):
             played.fate = lambda path, request: DONE
@@ -122,6 +140,33 @@ class Serving(unittest.IsolatedAsyncioTestCase):
             found.append(await it.named())
         self.assertEqual(found, [None, 0, "10.0.0.5"])
         self.assertIn(f"broker: no other broker at {HOST}:{it.port} is in the cluster any more", said)
+
+
+class Leaders(unittest.TestCase):
+    def test_a_partition_whose_leader_changes_has_none_for_some_time(self) -> None:
+        """At a moment these brokers are there, and so many partitions have these leaders then; -1 for none."""
+        own = Node(1, HOST, 1, mock.Mock())
+        cluster = EtcdCluster(own, mock.Mock(), TOPICS, mock.Mock(), mock.Mock())
+        cluster.members = mock.Mock(brokers={})
+        rows = [
+            (10.0, [1, 2], [1, -1, 1, -1]),
+            (12.1, [1, 2], [1, 2, 1, 2]),
+            (20.0, [0, 1, 2], [-1, -1, -1, -1]),
+            (21.0, [1, 2], [1, 2, 1, 2]),
+            (22.0, [0, 1, 2], [-1, -1, -1, -1]),
+            (24.1, [0, 1, 2], [0, 1, 2, 0]),
+            (30.0, [0, 1], [0, 1, -1, -1]),
+            (32.1, [0, 1], [0, 1, 0, 1]),
+        ]
+        found = []
+        for moment, there, wanted in rows:
+            with mock.patch("broker.etcd_cluster.time.monotonic", lambda: moment):
+                cluster.members.brokers = {number: Known(HOST, number, ()) for number in there}
+                cluster.have_changed()
+                leaders = [cluster.leader_of(index) for index in range(len(wanted))]
+            found.append((moment, there, [leader.id if leader else -1 for leader in leaders]))
+        cluster.members.is_member = lambda: False
+        self.assertEqual((found, cluster.leader_of(0)), (rows, None))
 
 
 class Fetching(unittest.IsolatedAsyncioTestCase):

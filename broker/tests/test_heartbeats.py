@@ -79,10 +79,8 @@ class Fed(unittest.IsolatedAsyncioTestCase):
         feed = Feed(Offsets(), watch, Turns(), lambda *_: False)
         running = asyncio.ensure_future(feed.run())
         for now[0], asked, told in passed:
-            waits = asyncio.get_running_loop().create_future()
-            feed.put(Passed(bytes(SIZE * 7) + asked, SimpleNamespace(kind="frame", reply=framed(told)), waits, True))
-            await until(waits.done)
-            self.assertEqual(waits.result(), told)
+            feed.put(Passed(bytes(SIZE * 7) + asked, SimpleNamespace(kind="frame", reply=framed(told)), True))
+            await until(feed.is_told)
         running.cancel()
         return watch.groups.groups["g"].members, lines, [*watch.heartbeats.lines()]
 

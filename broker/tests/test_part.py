@@ -7,6 +7,7 @@ import contextlib
 import dataclasses
 import json
 import struct
+import time
 import unittest
 from typing import Any, AsyncIterator, Callable, Iterator, List, Optional
 from unittest import mock
@@ -34,9 +35,9 @@ BAD_BATCHES = [
     ("", "it has 0 bytes"),
     ("0000 0000000000000001", "it has 10 bytes"),
     ("0001 0000000000000001 0000000000000001 00000001 ff", "its version is 1"),
-    ("0000 0000000000000001 0000000000000001 00000002 ff", "an entry ends behind it, at byte 22"),
-    ("0000 0000000000000001 0000000000000001 ffffffff ff", "an entry ends behind it, at byte 22"),
-    ("0000 0000000000000001 0000000000000001 0000", "an entry ends behind it, at byte 22"),
+    ("0000 0000000000000001 0000000000000001 00000002 ff", "an entry ends after it, at byte 22"),
+    ("0000 0000000000000001 0000000000000001 ffffffff ff", "an entry ends after it, at byte 22"),
+    ("0000 0000000000000001 0000000000000001 0000", "an entry ends after it, at byte 22"),
     ("0000 0000000000000001 0000000000000001", "it has no entry"),
 ]
 # Brokers, who leads what, how many parts there are, what has stopped where; and how many parts each is to lead, and how many of them move.
@@ -58,11 +59,24 @@ class Applied:
     removed: int = 0
 
 
+@dataclasses.dataclass
+class Place:
+    moment: int
+
+
 class PlayedReplica:
     """Entries are texts. A frame's reply is its body, and `bad` is refused."""
 
     def __init__(self) -> None:
         self.applied: List[str] = []
+        self.clocks: List[int] = []
+
+    def close(self) -> None:
+        pass
+
+    def place(self) -> Place:
+        """Its moment is the number of entries, in seconds."""
+        return Place(1000 * len(self.applied))
 
     def lead(self) -> bytes:
         return b"leads"
@@ -73,7 +87,8 @@ class PlayedReplica:
     def propose_topics(self, _: Any) -> bytes:
         return b"topics"
 
-    def propose_tick(self, _: int) -> bytes:
+    def propose_tick(self, clock: int) -> bytes:
+        self.clocks.append(clock)
         return b"tick"
 
     def propose(self, body: bytes, *_: int) -> bytes:
@@ -115,10 +130,11 @@ class Running:
             task.cancel()
         await asyncio.gather(*self.tasks, return_exceptions=True)
 
-    async def ask(self, body: str) -> Optional[str]:
-        """The reply, or None where the connection is closed."""
+    async def ask(self, body: str, since: Optional[float] = None) -> Optional[str]:
+        """The reply, or None where the connection is closed. It wasn't open before a moment, or is new."""
+        since = time.monotonic() if since is None else since
         try:
-            return (await asyncio.wait_for(self.part.ask(body.encode(), 1, 1), SECONDS)).decode()
+            return (await asyncio.wait_for(self.part.ask(body.encode(), 1, 1, since), SECONDS)).decode()
         except CoordinatorClosed:
             return None
 
@@ -128,7 +144,7 @@ async def parts(count: int = 1, snapshot_bytes: int = BYTES) -> AsyncIterator[An
     """A played etcd, brokers, and what is said on standard error."""
     said: List[str] = []
     async with played_etcd() as (played, etcd):
-        with mock.patch.object(STANDARD_ERROR, "line", said.append), mock.patch("broker.leading.TICK_SECONDS", 60):
+        with mock.patch.object(STANDARD_ERROR, "line", said.append), mock.patch.multiple("broker.leading", TICK_SECONDS=60, ALONE_SECONDS=60):
             running = [Running(etcd, number, snapshot_bytes) for number in range(count)]
             try:
                 yield (played, said, *running)
@@ -213,6 +229,21 @@ class Leading(unittest.IsolatedAsyncioTestCase):
             found = await asking, it.part.serves, link.end.call_count, await it.ask("b")
         self.assertEqual(found, (None, False, 1, None))
 
+    async def test_connections_from_before_a_leadership_are_closed(self) -> None:
+        """Also where this broker leads again, after another one or at once."""
+        async with parts(2) as (played, _, first, second):
+            moments = [time.monotonic()]
+            found = []
+            for it in (first, second, first, first):
+                it.part.want(True)
+                await it.lead()
+                moments.append(time.monotonic())
+                found.append([await it.ask(f"{len(moments)} {at}", moment) is not None for at, moment in enumerate(moments)])
+                it.part.want(False)
+                it.part.resign()
+                await until(lambda: not it.part.serves and not played.values("migwelun/cluster/leaders/"))
+        self.assertEqual(found, [[False] * count + [True] for count in range(1, 5)])
+
     async def test_a_part_that_is_given_up_is_led_by_another_one(self) -> None:
         async with parts(2) as (played, _, first, second):
             await first.lead()
@@ -255,9 +286,9 @@ class Following(unittest.IsolatedAsyncioTestCase):
                 said: List[str] = []
                 with mock.patch.object(STANDARD_ERROR, "line", said.append):
                     it = Running(etcd, 0)
-                    await asyncio.wait_for(it.tasks[0], SECONDS)
-                    it.tasks[1].cancel()
-                self.assertEqual((it.part.fault, said), (why, [f"broker: part 0 stops here, until this broker is started again: {why}"]))
+                    await until(lambda: said)
+                    await it.end()
+                self.assertEqual((it.part.fault, said), (why, [f"broker: part 0 stops here, until it has another snapshot or this broker is started again: {why}"]))
 
     async def test_what_the_watch_brings_is_applied_in_order_once(self) -> None:
         async with parts() as (played, _, it):

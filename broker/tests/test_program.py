@@ -55,12 +55,15 @@ OF_TWO_MEMBERS = [
 ]
 # Command lines that are refused, and a part of why.
 REFUSED = [
-    (["--start", "t:11:2", "--port", "0"], "argument NAME:UUID:COUNT: 't:11:2' wants a UUID behind its first colon"),
-    (["--start", "--port", "0"], "the following arguments are required: NAME:UUID:COUNT"),
-    (["--port", "0", f"t:{ORDERS}:2"], "wants --coordinator HOST:PORT, --start, --embedded or --etcd HOST:PORT"),
+    (["--start", "t:11:2", "--port", "0"], "argument TOPIC: 't:11:2' wants a UUID after its first colon"),
+    (["--start", "--port", "0"], "the following arguments are required: TOPIC"),
+    (["--port", "0", f"t:{ORDERS}:2"], "wants --start-rules, --start-unproved, --start, --coordinator HOST:PORT, --embedded or --etcd HOST:PORT"),
     (["--etcd", "127.0.0.1:2379", f"t:{ORDERS}:2"], "--etcd wants --advertise HOST:PORT and --parts N"),
     (["--etcd", "127.0.0.1:2379,x", f"t:{ORDERS}:2"], "'x' is no HOST:PORT"),
-    (["--etcd", "127.0.0.1:2379", "--start", "--port", "0", f"t:{ORDERS}:2"], "go with none of --coordinator, --start and --embedded"),
+    (["--etcd", "https://127.0.0.1:2379", f"t:{ORDERS}:2"], "'https://127.0.0.1:2379' is no HOST:PORT"),
+    (["--etcd", "http://127.0.0.1:2379/v3", f"t:{ORDERS}:2"], "'127.0.0.1:2379/v3' is no HOST:PORT"),
+    (["--etcd", "http://127.0.0.1:2379/,127.0.0.1:2380", f"t:{ORDERS}:2"], "--etcd wants --advertise HOST:PORT and --parts N"),
+    (["--etcd", "127.0.0.1:2379", "--start", "--port", "0", f"t:{ORDERS}:2"], "go with none of --coordinator, --start, --start-unproved, --start-rules and --embedded"),
     (["--etcd", "127.0.0.1:2379", "--parts", "0", f"t:{ORDERS}:2"], "'0' is no number from 1 to 1000"),
     (["--start", f"t:{ORDERS}:2"], "the following arguments are required: --port"),
     (["--start", "--port", "0", f"t:{ORDERS}:0"], "wants a number of partitions from 1 to 100000 at its end"),
@@ -197,9 +200,14 @@ class Program(unittest.TestCase):
 
     def test_a_program_that_can_not_be_started_and_a_port_that_is_taken_are_said(self) -> None:
         with socket.create_server((HOST, 0)) as taken:
+            port = str(taken.getsockname()[1])
+            over_etcd = ["--etcd", f"{HOST}:9", "--parts", "1"]
             rows = [
                 (["--start", "--program", "/nowhere", "--port", "0"], "/nowhere can't be started"),
-                (["--start", "--port", str(taken.getsockname()[1])], "Address already in use"),
+                (["--start", "--port", port], f"broker: --port: {HOST}:{port}: Address already in use\n"),
+                (["--start", "--port", "0", "--status", port], f"broker: --status: {HOST}:{port}: Address already in use\n"),
+                ([*over_etcd, "--advertise", f"{HOST}:{port}"], f"broker: --advertise: {HOST}:{port}: Address already in use\n"),
+                ([*over_etcd, "--advertise", "nobody.invalid:9093"], "broker: --advertise: nobody.invalid:9093: "),
                 (["--embedded", "--library", "/nowhere", "--port", "0"], "tools/build-library makes it"),
                 (["--start", "--record", "/nowhere/record", "--port", "0"], "No such file or directory: '/nowhere/record'"),
             ]
@@ -240,6 +248,9 @@ class Program(unittest.TestCase):
     @needs_program
     def test_two_members_of_another_hand(self) -> None:
         self.see_two_members("--start", "--program", PROGRAM)
+
+    def test_two_members_of_another_hand_by_the_rules(self) -> None:
+        self.see_two_members("--start-rules")
 
     @needs_library
     def test_two_members_of_another_hand_embedded(self) -> None:

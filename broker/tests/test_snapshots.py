@@ -33,10 +33,18 @@ def places(played: PlayedEtcd) -> List[int]:
     return [batches.part_and_place(key)[1] for key in played.values(batches.LOGS)]
 
 
+def is_whole(played: PlayedEtcd) -> bool:
+    """All pieces of the last snapshot are there."""
+    it, pieces = last(played), played.values(snapshots.PIECES)
+    return all(snapshots.piece_key(0, it.place, number) in pieces for number in range(it.pieces))
+
+
 def is_tidy(played: PlayedEtcd) -> bool:
-    """The log is cut, and only the pieces of the last snapshot are there."""
-    it, pieces = last(played), [*played.values(snapshots.PIECES)]
-    return places(played)[0] == it.before + 1 and pieces == [snapshots.piece_key(0, it.place, number) for number in range(it.pieces)]
+    """The log is cut, and only the pieces of the last snapshot and of the one before are there."""
+    it, pieces = last(played), played.values(snapshots.PIECES)
+    folders = {piece.rpartition("/")[0] for piece in pieces}
+    wanted = {snapshots.folder(0, place) for place in (it.before, it.place) if place}
+    return places(played)[0] == it.before + 1 and is_whole(played) and folders == wanted
 
 
 def depose(played: PlayedEtcd) -> None:

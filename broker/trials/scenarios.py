@@ -9,9 +9,9 @@ import time
 from typing import Any, Callable, Dict, Iterable, NamedTuple, Sequence, Set, Tuple
 
 from broker.trials.consumers import Consumers
+from broker.trials.log import Exchange
 from broker.trials.roots import CLIENTS
 from broker.trials.trial import BOTH, Trial
-from clients.log import Exchange
 from clients.stand import HOST
 from rules.messages import read_commit_reply
 
@@ -24,7 +24,7 @@ IN_USE = ("UNRELEASED_INSTANCE_ID", "still used by another member")
 
 
 def settled(t: Trial, names: Sequence[str], *options: object, what: str = "", **settings: Any) -> Dict[str, Consumers]:
-    """Consumers that have come one behind the other, and among whom all is settled."""
+    """Consumers that have come one after the other, and have settled."""
     group = {name: t.start(name, *options, **{key: of(name) if callable(of) else of for key, of in settings.items()}) for name in names}
     t.quiet(BOTH, what or f"{len(names)} consumers", group[names[-1]].started)
     return group
@@ -109,7 +109,7 @@ def static_away_too_long(t: Trial) -> None:
 
 
 def rolling_restart(t: Trial) -> None:
-    """Five static members are started anew one after the other, and no partition moves."""
+    """Five static members are restarted one after the other, and no partition moves."""
     names = [f"s{number}" for number in range(1, 6)]
     static = settled(t, names, what="5 static members", group_instance_id=instance)
     before = {name: {*parts} for name, parts in t.owned.items()}

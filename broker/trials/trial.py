@@ -10,9 +10,9 @@ import time
 from typing import Any, Callable, Counter, Dict, Iterator, List, Sequence, Set
 
 from broker.trials.consumers import Consumers
+from broker.trials.log import Exchange, read_exchanges
 from broker.trials.prints import CHANGES, Print, partitions_of
 from broker.trials.roots import CLIENTS, CONSUMER
-from clients.log import Exchange, read_exchanges
 from clients.stand import HOST, Stand, Topic
 
 ORDERS = Topic("orders", "aaaaaaaa-0000-4000-8000-000000000001", 12)

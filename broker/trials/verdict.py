@@ -3,10 +3,10 @@
 import collections
 from typing import Dict, List, Sequence, Tuple
 
+from broker.trials.holds import Holds
+from broker.trials.log import Exchange
 from broker.trials.prints import Owners, Print, overlaps, records_read
 from broker.trials.trial import Crowd, Trial
-from clients.holds import Holds
-from clients.log import Exchange
 
 
 def judge(trial: Trial) -> None:

@@ -4,9 +4,9 @@ from __future__ import annotations
 
 from typing import List, Optional, Sequence
 
-from conformance.case import ASSIGNORS, FREE, GROUP_EPOCH, MUST, SHOULD, case
+from conformance.member import Member
 from conformance.messages import Topic
-from conformance.play import Member, Play
+from conformance.play import Play
 
 UNIFORM, RANGE = "uniform", "range"
 
@@ -25,23 +25,16 @@ def want_even(play: Play, members: Sequence[Member], topics: Sequence[Topic], wh
     play.want(max(counts) - min(counts) <= 1, f"of {what} the members have {', '.join(map(str, counts))}")
 
 
-@case("assign-even", ASSIGNORS, SHOULD, "three members share a topic; no assignor is named", "no two differ by more than one partition")
 def assign_even(play: Play) -> None:
     topic = play.topic(0, partitions=3)
     want_even(play, settled(play, 3, None, [topic]), [topic], topic.name)
 
 
-@case("assign-uniform", ASSIGNORS, SHOULD, "three members of `uniform` share two topics", "in all, no two differ by more than one partition")
 def assign_uniform(play: Play) -> None:
     topics = [play.topic(0, partitions=2), play.topic(1)]
     want_even(play, settled(play, 3, UNIFORM, topics), topics, "both topics")
 
 
-@case(
-    "assign-range", ASSIGNORS, SHOULD,
-    "three members of `range` share two topics",
-    "of each topic no two differ by more than one partition, and each has a run without gaps",
-)
 def assign_range(play: Play) -> None:
     topics = [play.topic(0, partitions=2), play.topic(1)]
     members = settled(play, 3, RANGE, topics)
@@ -52,11 +45,6 @@ def assign_range(play: Play) -> None:
             play.want(not indexes or indexes[-1] - indexes[0] < len(indexes), f"`range` gives {member.name} {play.story.partitions(member.owned)}")
 
 
-@case(
-    "assign-range-together", ASSIGNORS, SHOULD,
-    "two members of `range` share two topics with as many partitions",
-    "partitions with the same index go to the same member",
-)
 def assign_range_together(play: Play) -> None:
     first = play.topic(0, partitions=2)
     others = [topic for topic in play.broker.topics if topic.count == first.count and topic != first]
@@ -68,11 +56,6 @@ def assign_range_together(play: Play) -> None:
         play.want(indexes[0] == indexes[1], f"`range` gives {member.name} {play.story.partitions(member.owned)}")
 
 
-@case(
-    "assign-more-members", ASSIGNORS, MUST,
-    "more members than partitions",
-    "each partition has one owner, and the rest have nothing and go on as members",
-)
 def assign_more_members(play: Play) -> None:
     topic = min(play.broker.topics, key=lambda each: each.count)
     count = min(topic.count, 12) + 2
@@ -81,24 +64,20 @@ def assign_more_members(play: Play) -> None:
         play.want(any(not member.owned for member in members), "each of more members than partitions has one")
 
 
-@case(
-    "assign-change", GROUP_EPOCH, SHOULD,
-    "a settled member names another assignor",
-    "the group epoch rises, and each partition has one owner again",
-)
 def assign_change(play: Play) -> None:
     topic = play.topic(0, partitions=2)
     a, b = settled(play, 2, UNIFORM, [topic])
     epoch = a.epoch
     for member in (a, b):
         member.assignor = RANGE
-        member.beat(assignor=RANGE)
+        reply = member.tries(assignor=RANGE)
+        play.want_taken(member, reply)
+        play.want_code(f"the heartbeat of {member.name}", reply.code, 0)
         member.release()
+    play.until("both get to a higher epoch, since they name another assignor", lambda: min(a.epoch, b.epoch) > epoch, a, b)
     play.settle(a, b)
-    play.want(a.epoch > epoch, f"both name another assignor and stay at epoch {epoch}")
 
 
-@case("assign-mixed", ASSIGNORS, MUST, "two members name different assignors", "one of them is used: each partition has one owner")
 def assign_mixed(play: Play) -> None:
     topic = play.topic(0, partitions=2)
     a, b = play.member("a", assignor=UNIFORM, names=[topic.name]), play.member("b", assignor=RANGE, names=[topic.name])
@@ -107,11 +86,6 @@ def assign_mixed(play: Play) -> None:
     play.settle(a, b)
 
 
-@case(
-    "assign-sticky", ASSIGNORS, FREE,
-    "of three settled members of `uniform` one leaves",
-    "how many of the partitions that stay owned change their owner is the broker's choice",
-)
 def assign_sticky(play: Play) -> None:
     topic = play.topic(0, partitions=3)
     members = settled(play, 3, UNIFORM, [topic])

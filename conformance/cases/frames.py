@@ -4,11 +4,13 @@ from __future__ import annotations
 
 import dataclasses
 import time
-from typing import Callable, NamedTuple, Optional
+from typing import Callable, Dict, Optional
 
-from conformance.case import COMPACT, FREE, GUIDE, HANDLING, MUST, SHOULD, TAGGED_FIELDS, case
+from conformance.broker import ASK_AGAIN
+from conformance.case import FREE
 from conformance.cases.heartbeats import NO_SUCH_TOPIC
 from conformance.connection import Closed, Connection, Lost
+from conformance.member import ALONE, Member, new_id
 from conformance.messages import (
     API_VERSIONS,
     CLIENT,
@@ -25,8 +27,9 @@ from conformance.messages import (
     read_metadata_reply,
     reply_fields,
 )
-from conformance.play import Member, NotRun, Play, new_id
+from conformance.play import Play
 from conformance.story import code_text
+from conformance.verdict import NotRun
 from conformance.wire import NO_TAGS, Unreadable, array, int8, int16, int32, tags, text, varint
 
 UNSUPPORTED_VERSION = 35
@@ -50,10 +53,15 @@ def receive(play: Play, connection: Connection, correlation: int = CORRELATION) 
 
 def sends(play: Play, member: Member, frame: bytes, what: str) -> Told:
     """The member sends a frame of its own making, which is accepted."""
+    play.stands_on(ALONE)
     play.story.say(f"{member.name} -> {what}: {frame[:80].hex()}{'..' if len(frame) > 80 else ''}")
-    member.connection.send(frame)
     member.may_be_in = True
-    reply = receive(play, member.connection)
+
+    def ask() -> Told:
+        member.connection.send(frame)
+        return receive(play, member.connection)
+
+    reply: Told = member.asks(ask, lambda told: told.code)
     play.story.told(member.name, reply, False)
     play.want_code(what, reply.code, 0)
     member.ids.add(reply.member or member.id)
@@ -64,11 +72,6 @@ def joiner(play: Play) -> Member:
     return play.member("a", id=new_id())
 
 
-@case(
-    "frame-correlation", GUIDE + ", request header", MUST,
-    "requests with correlation ids 0, -1, and the least and greatest number",
-    "each reply has its request's",
-)
 def frame_correlation(play: Play) -> None:
     a = joiner(play)
     a.join()
@@ -78,7 +81,6 @@ def frame_correlation(play: Play) -> None:
         a.take(receive(play, a.connection, correlation))
 
 
-@case("frame-order", GUIDE + ", network", MUST, "ten requests are sent before a reply is read", "they are answered in their order")
 def frame_order(play: Play) -> None:
     a = joiner(play)
     a.join()
@@ -86,14 +88,9 @@ def frame_order(play: Play) -> None:
     frames = [framed(head(play, number) + a.request("short").fields(play.version)) for number in range(10)]
     a.connection.send(b"".join(frames))
     for number in range(10):
-        play.want_code("a heartbeat of ten", receive(play, a.connection, number).code, 0)
+        play.want_code("a heartbeat of ten", receive(play, a.connection, number).code, 0, *ASK_AGAIN)
 
 
-@case(
-    "frame-order-apis", GUIDE + ", network", MUST,
-    "requests of three APIs are sent before a reply is read",
-    "they are answered in their order, over all APIs",
-)
 def frame_order_apis(play: Play) -> None:
     a = joiner(play)
     a.join()
@@ -107,17 +104,18 @@ def frame_order_apis(play: Play) -> None:
     play.want(found == [1, 2, 3, 1], f"requests 1, 2, 3 and 1 are answered in the order {found}")
 
 
-@case("frame-in-pieces", GUIDE + ", network", MUST, "a request is sent byte by byte", "it is answered as one that is sent whole")
 def frame_in_pieces(play: Play) -> None:
+    play.stands_on(ALONE)
     a = joiner(play)
     frame = framed(head(play) + a.request("join").fields(play.version))
     for at in range(len(frame) - 1):
         a.connection.send(frame[at : at + 1])
         time.sleep(0.0005)
-    sends(play, a, frame[-1:], "the last byte of a join")
+    a.connection.send(frame[-1:])
+    a.may_be_in = True
+    play.want_code("a join that is sent byte by byte", receive(play, a.connection).code, 0, *ASK_AGAIN)
 
 
-@case("frame-client-id", GUIDE + ", request header", MUST, "requests whose client id is null, empty, and of 300 characters", "each is answered")
 def frame_client_id(play: Play) -> None:
     a = joiner(play)
     for client in (None, "", "c" * 300, CLIENT):
@@ -125,18 +123,12 @@ def frame_client_id(play: Play) -> None:
         sends(play, a, frame, f"a join with client id {client and client[:8]!r}")
 
 
-@case(
-    "frame-group-characters", GUIDE + ", primitive types", SHOULD,
-    "a group id with letters of other scripts, spaces and an emoji",
-    "texts are UTF-8: it is a group id as any other",
-)
 def frame_group_characters(play: Play) -> None:
     a = play.member("a", group=play.new_group() + " \u00e9\u65e5\u672c \U0001f600")
     a.join()
     play.settle(a)
 
 
-@case("tags-in-header", TAGGED_FIELDS, MUST, "a join with a tagged field in its header that nobody knows", "it is stepped over")
 def tags_in_header(play: Play) -> None:
     a = joiner(play)
     sends(
@@ -147,18 +139,12 @@ def tags_in_header(play: Play) -> None:
     )
 
 
-@case("tags-in-body", TAGGED_FIELDS, MUST, "a join with two tagged fields at its end that nobody knows", "they are stepped over")
 def tags_in_body(play: Play) -> None:
     a = joiner(play)
     extra = {NO_SUCH_TAG: b"", NO_SUCH_TAG + 1: b"v" * 200}
     sends(play, a, framed(head(play) + a.request("join").fields(play.version, extra)), "a join with tagged fields")
 
 
-@case(
-    "tags-in-partitions", TAGGED_FIELDS, MUST,
-    "a report with a tagged field in an entry of TopicPartitions",
-    "it is stepped over, and the report counts",
-)
 def tags_in_partitions(play: Play) -> None:
     a = joiner(play)
     a.join()
@@ -171,11 +157,6 @@ def tags_in_partitions(play: Play) -> None:
     )
 
 
-@case(
-    "partitions-in-any-order", GUIDE + ", ConsumerGroupHeartbeat", SHOULD,
-    "a report that lists each partition in an entry of its own, the last one first",
-    "a list is a set: it is answered as any report of these",
-)
 def partitions_in_any_order(play: Play) -> None:
     a = joiner(play)
     a.join()
@@ -190,11 +171,6 @@ def partitions_in_any_order(play: Play) -> None:
     play.want(reply.epoch == epoch and reply.assignment in (None, a.owned), f"it is answered with epoch {reply.epoch}")
 
 
-@case(
-    "api-versions-later", "KIP-511", MUST,
-    "ApiVersions in a version that no broker has yet",
-    "answered in the layout of version 0, with UNSUPPORTED_VERSION",
-)
 def api_versions_later(play: Play) -> None:
     connection = play.connect()
     connection.send(framed(int16(API_VERSIONS) + int16(32_000) + int32(CORRELATION) + text(CLIENT, False) + NO_TAGS + api_versions_fields(3)))
@@ -205,11 +181,6 @@ def api_versions_later(play: Play) -> None:
     play.want(not offered or API_VERSIONS in offered, "the reply lists APIs, and not ApiVersions")
 
 
-@case(
-    "api-versions-3", "KIP-511", MUST,
-    "ApiVersions in version 3, where it is offered",
-    "the reply's header has no tagged fields, and the list is that of version 0",
-)
 def api_versions_3(play: Play) -> None:
     if 3 not in play.broker.versions(API_VERSIONS):
         raise NotRun("the broker offers no ApiVersions of version 3")
@@ -222,7 +193,6 @@ def api_versions_3(play: Play) -> None:
     )
 
 
-@case("topic-ids", "KIP-516", MUST, "Metadata, and then an assignment", "assignments name topics by the ids that Metadata gives")
 def topic_ids(play: Play) -> None:
     version = play.broker.version(METADATA)
     assert version is not None
@@ -234,22 +204,15 @@ def topic_ids(play: Play) -> None:
     play.settle(a)
 
 
-@case(
-    "frame-long-names", GUIDE + ", primitive types", SHOULD,
-    "a member whose group id, member id, instance and rack have 240 characters each",
-    "the guide has texts of up to 32,767 bytes: it is a member as any other",
-)
 def frame_long_names(play: Play) -> None:
-    a = play.member("a", group=play.new_group().ljust(240, "g"), id=new_id().ljust(240, "m"), instance="i" * 240)
-    a.join(rack="r" * 240)
-    play.settle(a)
+    group, base = play.new_group().ljust(240, "g"), new_id().ljust(239, "m")
+    members = [play.member(name, group=group, id=base + name, instance=name.rjust(240, "i")) for name in "ab"]
+    for member in members:
+        member.join(rack="r" * 240)
+        play.want(member.id == base + member.name, f"the join under an id of 240 characters is answered with one of {len(member.id)}")
+    play.settle(*members)
 
 
-@case(
-    "frame-many-subscriptions", GUIDE + ", primitive types", SHOULD,
-    "a member that subscribes a topic and 2,000 others that aren't there",
-    "an array may have 2,001 entries: it is a member, and gets the one topic's partitions",
-)
 def frame_many_subscriptions(play: Play) -> None:
     names = [f"{NO_SUCH_TOPIC}-{number}" for number in range(2_000)]
     a = play.member("a", names=[play.topic().name, *names])
@@ -258,17 +221,6 @@ def frame_many_subscriptions(play: Play) -> None:
 
 
 # ---- frames that are wrong
-
-
-class Wrong(NamedTuple):
-    """Bytes that are no request, made of the whole body of a right one, and what has to become of them."""
-
-    name: str
-    section: str
-    level: str
-    sends: str
-    holds: str
-    make: Callable[[Play, bytes], bytes]
 
 
 def without_group(play: Play, body: bytes) -> bytes:
@@ -285,80 +237,6 @@ def instead_of_group(play: Play, body: bytes, field: bytes) -> bytes:
 
 def with_version(play: Play, body: bytes, version: int) -> bytes:
     return framed(body[:2] + int16(version) + body[4:])
-
-
-NOT_ACCEPTED = "it is not accepted: an error, or the connection is closed; other connections go on"
-WRONG = (
-    Wrong(
-        "frame-cut-short", GUIDE + ", primitive types", MUST,
-        "a join whose body ends in the middle",
-        NOT_ACCEPTED,
-        lambda _, body: framed(body[: len(body) // 2]),
-    ),
-    Wrong("frame-without-end", GUIDE + ", primitive types", SHOULD, "a join without its last byte", NOT_ACCEPTED, lambda _, body: framed(body[:-1])),
-    Wrong("frame-null-group", COMPACT, MUST, "a join whose group id is null", NOT_ACCEPTED, without_group),
-    Wrong(
-        "frame-long-group", COMPACT, MUST,
-        "a join whose group id is said to be longer than the frame",
-        NOT_ACCEPTED,
-        lambda play, body: instead_of_group(play, body, varint(30_000)),
-    ),
-    Wrong(
-        "frame-long-varint", COMPACT, MUST,
-        "a join whose first length is a varint of eleven bytes",
-        NOT_ACCEPTED,
-        lambda play, body: instead_of_group(play, body, b"\x80" * 10 + b"\1"),
-    ),
-    Wrong(
-        "frame-many-names", COMPACT, MUST,
-        "a join that is said to subscribe two thousand million topics",
-        NOT_ACCEPTED,
-        lambda play, body: many_names(play),
-    ),
-    Wrong(
-        "frame-many-tags", TAGGED_FIELDS, SHOULD,
-        "a join that is said to have two thousand million tagged fields",
-        NOT_ACCEPTED,
-        lambda _, body: framed(body[:-1] + varint(2_000_000_000)),
-    ),
-    Wrong(
-        "frame-long-tag", TAGGED_FIELDS, SHOULD,
-        "a join with a tagged field that is longer than the frame",
-        NOT_ACCEPTED,
-        lambda _, body: framed(body[:-1] + varint(1) + varint(3) + varint(1_000_000)),
-    ),
-    Wrong("frame-negative-size", GUIDE + ", network", MUST, "a frame whose size is -1", NOT_ACCEPTED, lambda _, body: int32(-1) + body),
-    Wrong(
-        "frame-unknown-api", GUIDE + ", network", MUST,
-        "a request of an API that there isn't",
-        NOT_ACCEPTED,
-        lambda _, body: framed(int16(NO_SUCH_KEY) + body[2:]),
-    ),
-    Wrong(
-        "frame-unknown-version", GUIDE + ", network", MUST,
-        "a heartbeat in a version that isn't offered",
-        NOT_ACCEPTED,
-        lambda play, body: with_version(play, body, 32_000),
-    ),
-    Wrong(
-        "frame-no-utf-8", GUIDE + ", primitive types", FREE,
-        "a join whose group id isn't UTF-8",
-        "texts are UTF-8; what becomes of others is open",
-        lambda play, body: instead_of_group(play, body, varint(5) + b"ab\xff\xfe"),
-    ),
-    Wrong(
-        "frame-bytes-left", GUIDE + ", network", FREE,
-        "a join with three bytes behind its last field",
-        "left open: Kafka's broker steps over them",
-        lambda _, body: framed(body + b"abc"),
-    ),
-    Wrong(
-        "tags-out-of-order", TAGGED_FIELDS, FREE,
-        "a join with two tagged fields in the wrong order",
-        "writers sort them; what readers do is open",
-        lambda _, body: framed(body[:-1] + varint(2) + (varint(9) + varint(0)) + (varint(8) + varint(0))),
-    ),
-)
 
 
 def many_names(play: Play) -> bytes:
@@ -382,35 +260,46 @@ def fate(play: Play, connection: Connection) -> Optional[int]:
     return code
 
 
-def add(row: Wrong) -> None:
-    @case(row.name, row.section, row.level, row.sends, row.holds)
-    def run(play: Play) -> None:
-        a = play.member("other")
-        a.join()
-        play.settle(a)
-        sender = joiner(play)
-        sender.may_be_in = True
-        frame = row.make(play, head(play) + sender.request("join").fields(play.version))
-        play.story.say(f"sends {row.sends}: {frame.hex()}")
-        connection = play.connect(play.broker.coordinator_of(play.group))
-        connection.send(frame)
-        code = fate(play, connection)
-        if row.level == FREE:
-            play.note(f"{row.sends}: {'the connection is closed' if code is None else code_text(code)}")
-        else:
-            play.want(code != 0, f"{row.sends}: it is accepted")
-        a.turn()
+# Bytes that are no request, made of the whole body of a right one.
+WRONG: Dict[str, Callable[[Play, bytes], bytes]] = {
+    "frame-cut-short": lambda _, body: framed(body[: len(body) // 2]),
+    "frame-without-end": lambda _, body: framed(body[:-1]),
+    "frame-null-group": without_group,
+    "frame-long-group": lambda play, body: instead_of_group(play, body, varint(30_000)),
+    "frame-long-varint": lambda play, body: instead_of_group(play, body, b"\x80" * 10 + b"\1"),
+    "frame-many-names": lambda play, _: many_names(play),
+    "frame-many-tags": lambda _, body: framed(body[:-1] + varint(2_000_000_000)),
+    "frame-long-tag": lambda _, body: framed(body[:-1] + varint(1) + varint(3) + varint(1_000_000)),
+    "frame-negative-size": lambda _, body: int32(-1) + body,
+    "frame-unknown-api": lambda _, body: framed(int16(NO_SUCH_KEY) + body[2:]),
+    "frame-unknown-version": lambda play, body: with_version(play, body, 32_000),
+    "frame-no-utf-8": lambda play, body: instead_of_group(play, body, varint(5) + b"ab\xff\xfe"),
+    "frame-bytes-left": lambda _, body: framed(body + b"abc"),
+    "tags-out-of-order": lambda _, body: framed(body[:-1] + varint(2) + (varint(9) + varint(0)) + (varint(8) + varint(0))),
+}
 
 
-for each in WRONG:
-    add(each)
+def wrong(play: Play) -> None:
+    a = play.member("other")
+    a.join()
+    play.settle(a)
+    sender, sends = joiner(play), play.case.sends
+    sender.may_be_in = True
+    frame = WRONG[play.case.name](play, head(play) + sender.request("join").fields(play.version))
+    play.story.say(f"sends {sends}: {frame.hex()}")
+    connection = play.connect(play.broker.coordinator_of(play.group))
+    connection.send(frame)
+    code = fate(play, connection)
+    if play.case.level == FREE:
+        play.note(f"{sends}: {'the connection is closed' if code is None else code_text(code)}")
+    else:
+        play.want(code != 0, f"{sends}: it is accepted")
+    a.turn()
 
 
-@case(
-    "frame-huge", GUIDE + ", network", SHOULD,
-    "a frame whose size is two thousand million bytes",
-    "the connection is closed: nobody waits for so much",
-)
+BODIES = dict.fromkeys(WRONG, wrong)
+
+
 def frame_huge(play: Play) -> None:
     a = joiner(play)
     a.join()
@@ -426,11 +315,6 @@ def frame_huge(play: Play) -> None:
     a.turn()
 
 
-@case(
-    "frame-abandoned", GUIDE + ", network", MUST,
-    "a connection that ends in the middle of a frame, and one that never sends anything",
-    "other connections go on, and the group is as it was",
-)
 def frame_abandoned(play: Play) -> None:
     a = joiner(play)
     a.join()
@@ -445,11 +329,6 @@ def frame_abandoned(play: Play) -> None:
     play.want(a.epoch == epoch, f"it gets from epoch {epoch} to {a.epoch}")
 
 
-@case(
-    "connection-change", GUIDE + ", network", MUST,
-    "a member's connection ends, and it beats on over a new one",
-    "members aren't tied to connections: it goes on as it was",
-)
 def connection_change(play: Play) -> None:
     a = joiner(play)
     a.join()
@@ -462,11 +341,6 @@ def connection_change(play: Play) -> None:
     play.want((a.epoch, a.owned) == (epoch, owned), f"over a new connection it is at epoch {a.epoch} with {play.story.partitions(a.owned)}")
 
 
-@case(
-    "late-request", "none", FREE,
-    "a report that was held up on a former connection comes after newer heartbeats of its member, at the same epoch",
-    "KIP-848 has nothing against it: it may be taken for a new one",
-)
 def late_request(play: Play) -> None:
     play.topic(0, partitions=2)
     a = joiner(play)
@@ -481,11 +355,6 @@ def late_request(play: Play) -> None:
     play.note("a late report on a former connection is " + ("not answered" if code is None else f"answered with {code_text(code)}"))
 
 
-@case(
-    "late-request-stale", HANDLING, MUST,
-    "a report that was held up on a former connection comes when its member is two epochs on",
-    "fenced, or not answered at all; nobody gives up anything for it",
-)
 def late_request_stale(play: Play) -> None:
     play.topic(0, partitions=3)
     a = joiner(play)
@@ -502,14 +371,9 @@ def late_request_stale(play: Play) -> None:
     play.want(fate(play, former) != 0, "the late report is accepted")
     for member in play.members:
         member.turn()
-        play.want(member.owned == had[member.name], f"behind it {member.name} has {play.story.partitions(member.owned)}")
+        play.want(member.owned == had[member.name], f"after it {member.name} has {play.story.partitions(member.owned)}")
 
 
-@case(
-    "late-leave", "none", FREE,
-    "a leave that was held up on a former connection comes when its member has joined again under its id",
-    "KIP-848 has nothing against it: it may be taken for a new one",
-)
 def late_leave(play: Play) -> None:
     a = joiner(play)
     a.join()

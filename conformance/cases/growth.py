@@ -9,14 +9,14 @@ import os
 import subprocess
 from typing import Set
 
-from conformance.case import GROUP_EPOCH, MUST, case
 from conformance.messages import Partition
-from conformance.play import NotRun, Play
+from conformance.play import Play
+from conformance.verdict import NotRun
 
 GROW_SECONDS = 60
 
 
-def grow(play: Play) -> None:
+def add_partitions(play: Play) -> None:
     command = play.settings.grow
     if command is None:
         raise NotRun("it needs --grow COMMAND, which adds partitions to the first topic")
@@ -37,13 +37,7 @@ def grow(play: Play) -> None:
         raise NotRun(f"--grow: {why}") from None
 
 
-@case(
-    "grow", GROUP_EPOCH, MUST,
-    "a topic that two members share gets new partitions",
-    "the group epoch rises, and the new partitions are assigned",
-    is_slow=True,
-)
-def grow_topic(play: Play) -> None:
+def grow(play: Play) -> None:
     if play.settings.grow is None:
         raise NotRun("it needs --grow COMMAND, which adds partitions to the first topic")
     a, b = play.member("a"), play.member("b")
@@ -52,7 +46,7 @@ def grow_topic(play: Play) -> None:
     play.until("both have what they are assigned", lambda: bool(a.owned) and bool(b.owned) and play.are_steady([a, b]), a, b)
     before: Set[Partition] = set(a.owned | b.owned)
     epoch = a.epoch
-    grow(play)
+    add_partitions(play)
     play.until("more partitions are assigned", lambda: len(a.owned | b.owned) > len(before) and play.are_steady([a, b]), a, b)
     play.want(before <= a.owned | b.owned, "partitions that were assigned before aren't any more")
     play.want(a.epoch > epoch, f"both stay at epoch {epoch}")

@@ -2,14 +2,17 @@
 
 from __future__ import annotations
 
+import uuid
 from typing import List, Tuple
 
-from conformance.case import GROUP_EPOCH, HANDLING, MEMBER_EPOCH, MUST, REQUEST, RESPONSE, SHOULD, case
-from conformance.messages import NOTHING, Told
-from conformance.play import Member, Play, new_id
+from conformance.member import Member, new_id
+from conformance.messages import NOTHING, Partitions, Told
+from conformance.play import Play
 
 UNKNOWN_MEMBER_ID, GROUP_ID_NOT_FOUND, FENCED_MEMBER_EPOCH = 25, 69, 110
 NO_SUCH_TOPIC = "conformance-no-such-topic"
+# So many join and leave one after the other: more epochs than a byte has values.
+GUESTS = 130
 
 
 def settled_pair(play: Play) -> Tuple[Member, Member]:
@@ -23,25 +26,10 @@ def settled_pair(play: Play) -> Tuple[Member, Member]:
     return a, b
 
 
-@case("beat-short", REQUEST, MUST, "a settled member sends short heartbeats: all is null", "null is as it was: epoch and assignment stay")
-def beat_short(play: Play) -> None:
-    a = play.member("a")
-    a.join()
-    play.settle(a)
-    epoch, owned = a.epoch, a.owned
-    for _ in range(5):
-        a.turn()
-    play.want(
-        (a.epoch, a.owned) == (epoch, owned),
-        f"short heartbeats take it from epoch {epoch} to {a.epoch}, with {play.story.partitions(a.owned)}",
-    )
+def stays(play: Play, a: Member, epoch: int, owned: Partitions) -> None:
+    play.want((a.epoch, a.assigned) == (epoch, owned), f"it gets from epoch {epoch} to {a.epoch}, with {play.story.partitions(a.assigned)}")
 
 
-@case(
-    "beat-null-names", REQUEST, MUST,
-    "heartbeats with null for the topics, and then another member's join",
-    "null isn't empty: the member's subscription stays, and counts in the next assignment",
-)
 def beat_null_names(play: Play) -> None:
     a, b = settled_pair(play)
     for _ in range(3):
@@ -52,11 +40,6 @@ def beat_null_names(play: Play) -> None:
     play.want(bool(a.owned), "the member that sent null for its topics has nothing after the next rebalance")
 
 
-@case(
-    "beat-full", RESPONSE, SHOULD,
-    "a settled member sends a full heartbeat",
-    "the reply has its whole assignment: a full request gets a full assignment",
-)
 def beat_full(play: Play) -> None:
     a, b = settled_pair(play)
     for member in (a, b):
@@ -65,11 +48,6 @@ def beat_full(play: Play) -> None:
     play.want(a.assigned == a.owned and b.assigned == b.owned, "full heartbeats show another assignment than before")
 
 
-@case(
-    "beat-full-keeps-epoch", GROUP_EPOCH, MUST,
-    "a settled member repeats what it subscribes in full heartbeats",
-    "what is the same is no change: the group epoch stays",
-)
 def beat_full_keeps_epoch(play: Play) -> None:
     a, b = settled_pair(play)
     epoch = a.epoch
@@ -79,11 +57,6 @@ def beat_full_keeps_epoch(play: Play) -> None:
     play.want(a.epoch == b.epoch == epoch, f"full heartbeats take the members from epoch {epoch} to {a.epoch} and {b.epoch}")
 
 
-@case(
-    "beat-owned-keeps-epoch", GROUP_EPOCH, MUST,
-    "settled members report what they own, again and again",
-    "a report is no change: the group epoch stays",
-)
 def beat_owned_keeps_epoch(play: Play) -> None:
     a, b = settled_pair(play)
     epoch = a.epoch
@@ -93,7 +66,6 @@ def beat_owned_keeps_epoch(play: Play) -> None:
     play.want(a.epoch == b.epoch == epoch, f"reports take the members from epoch {epoch} to {a.epoch} and {b.epoch}")
 
 
-@case("beat-unknown-member", HANDLING, MUST, "a heartbeat at epoch 1 under an id that no member has", "UNKNOWN_MEMBER_ID")
 def beat_unknown_member(play: Play) -> None:
     a, nobody = play.member("a"), play.member("nobody", id=new_id(), epoch=1)
     a.join()
@@ -101,18 +73,12 @@ def beat_unknown_member(play: Play) -> None:
     play.want_code("a heartbeat of nobody", reply.code, UNKNOWN_MEMBER_ID)
 
 
-@case(
-    "beat-unknown-group", HANDLING, MUST,
-    "a heartbeat at epoch 1 to a group that isn't there",
-    "only a join makes a group: UNKNOWN_MEMBER_ID or GROUP_ID_NOT_FOUND",
-)
 def beat_unknown_group(play: Play) -> None:
     nobody = play.member("nobody", id=new_id(), epoch=1)
     reply = nobody.ask(nobody.request("full"))
     play.want_code("a heartbeat to a group that isn't there", reply.code, UNKNOWN_MEMBER_ID, GROUP_ID_NOT_FOUND)
 
 
-@case("fence-later-epoch", HANDLING, MUST, "a heartbeat at an epoch above the member's", "FENCED_MEMBER_EPOCH")
 def fence_later_epoch(play: Play) -> None:
     a = play.member("a")
     a.join()
@@ -121,7 +87,6 @@ def fence_later_epoch(play: Play) -> None:
     play.want_code("a heartbeat at a later epoch", reply.code, FENCED_MEMBER_EPOCH)
 
 
-@case("fence-old-epoch", HANDLING, MUST, "a heartbeat at an epoch before the member's previous one", "FENCED_MEMBER_EPOCH")
 def fence_old_epoch(play: Play) -> None:
     a, b = settled_pair(play)
     old = a.epoch
@@ -133,11 +98,7 @@ def fence_old_epoch(play: Play) -> None:
     play.want_code(f"a heartbeat at epoch {old} of a member at {a.epoch}", reply.code, FENCED_MEMBER_EPOCH)
 
 
-@case(
-    "fence-previous-epoch-others-partitions", HANDLING, MUST, "a heartbeat at the previous epoch that reports what another member has by now",
-    "FENCED_MEMBER_EPOCH: only with a subset of its own partitions is the epoch before accepted",
-)
-def fence_previous_epoch(play: Play) -> None:
+def fence_previous_epoch_others_partitions(play: Play) -> None:
     play.topic(0, partitions=2)
     a, b = play.member("a"), play.member("b")
     a.join()
@@ -149,11 +110,6 @@ def fence_previous_epoch(play: Play) -> None:
     play.want_code("a heartbeat of before the rebalance, with all that it had then,", reply.code, FENCED_MEMBER_EPOCH)
 
 
-@case(
-    "fence-previous-epoch-no-report", HANDLING, SHOULD,
-    "a heartbeat at the previous epoch that doesn't report",
-    "FENCED_MEMBER_EPOCH: without a report nothing shows that it is safe",
-)
 def fence_previous_epoch_no_report(play: Play) -> None:
     play.topic(0, partitions=2)
     a, b = play.member("a"), play.member("b")
@@ -166,11 +122,6 @@ def fence_previous_epoch_no_report(play: Play) -> None:
     play.want_code("a heartbeat at the previous epoch without a report", reply.code, FENCED_MEMBER_EPOCH)
 
 
-@case(
-    "previous-epoch-accepted", HANDLING, SHOULD,
-    "the reply that raises a member's epoch is lost; it sends its report again, at the epoch that it knows",
-    "accepted, since it reports a subset of its partitions; the reply has the new epoch",
-)
 def previous_epoch_accepted(play: Play) -> None:
     a, former = lost_acknowledgement(play)
     reply = a.tries("full", epoch=former)
@@ -179,11 +130,6 @@ def previous_epoch_accepted(play: Play) -> None:
     play.settle()
 
 
-@case(
-    "previous-epoch-recovers", HANDLING, MUST,
-    "the reply that raises a member's epoch is lost; it sends its report again, and joins anew if it is fenced",
-    "either way everybody has its partitions in the end",
-)
 def previous_epoch_recovers(play: Play) -> None:
     a, former = lost_acknowledgement(play)
     reply = a.tries("full", epoch=former)
@@ -195,11 +141,13 @@ def previous_epoch_recovers(play: Play) -> None:
 
 def told_to_revoke(play: Play, a: Member) -> None:
     """The member beats until it is told to give something up, which it hasn't done yet."""
+    play.stands_on("revoke-shows-intersection")
     play.until(f"{a.name} is told to give up partitions", lambda: a.owned != a.assigned, a, act=Member.beat)
 
 
 def lost_acknowledgement(play: Play) -> Tuple[Member, int]:
     """A member that gave up partitions, whose report was answered with a new epoch: it hasn't got the reply."""
+    play.stands_on("report-raises-epoch")
     play.topic(0, partitions=2)
     a, b = play.member("a", id=new_id()), play.member("b")
     a.join()
@@ -218,11 +166,6 @@ def lost_acknowledgement(play: Play) -> Tuple[Member, int]:
     return a, former
 
 
-@case(
-    "lost-assignment", RESPONSE, MUST,
-    "the reply that assigns partitions is lost; the member sends a full heartbeat",
-    "the full heartbeat is answered with the assignment: it isn't lost",
-)
 def lost_assignment(play: Play) -> None:
     play.topic(0, partitions=2)
     a, b = play.member("a"), play.member("b", id=new_id())
@@ -251,11 +194,6 @@ def lost_assignment(play: Play) -> None:
     play.settle(a, b)
 
 
-@case(
-    "lost-revocation", MEMBER_EPOCH, MUST,
-    "the reply that asks a member to revoke is lost; it beats again",
-    "a full heartbeat gets it again; nothing goes to others before the report",
-)
 def lost_revocation(play: Play) -> None:
     play.topic(0, partitions=2)
     a, b = play.member("a"), play.member("b")
@@ -270,11 +208,6 @@ def lost_revocation(play: Play) -> None:
     play.settle(a, b)
 
 
-@case(
-    "rejoin-after-fence", HANDLING, MUST,
-    "a member is fenced, drops its partitions, and joins again under its id",
-    "it is accepted, and everybody has its partitions in the end",
-)
 def rejoin_after_fence(play: Play) -> None:
     a, b = settled_pair(play)
     reply = a.tries("owned", epoch=a.epoch + 7)
@@ -283,11 +216,6 @@ def rejoin_after_fence(play: Play) -> None:
     play.settle(a, b)
 
 
-@case(
-    "fence-harms-nobody", HANDLING, MUST,
-    "somebody beats under a member's id at a wrong epoch, and is fenced",
-    "the other members go on with what they have",
-)
 def fence_harms_nobody(play: Play) -> None:
     a, b = settled_pair(play)
     had = b.owned
@@ -297,7 +225,6 @@ def fence_harms_nobody(play: Play) -> None:
     play.want(had <= b.owned, f"after another member was fenced, b lost {play.story.partitions(had - b.owned)}")
 
 
-@case("epoch-is-repeated", RESPONSE, MUST, "settled members beat", "each reply has the member's epoch, and no other")
 def epoch_is_repeated(play: Play) -> None:
     a, b = settled_pair(play)
     for _ in range(4):
@@ -305,3 +232,73 @@ def epoch_is_repeated(play: Play) -> None:
             before = member.epoch
             reply = member.turn()
             play.want(reply.epoch == before, f"a settled member at epoch {before} is answered with epoch {reply.epoch}")
+
+
+def beat_names_owned(play: Play) -> None:
+    a, b = settled_pair(play)
+    epoch, owned = a.epoch, a.owned
+    for _ in range(2):
+        a.beat("owned", names=list(a.names))
+        b.turn()
+    stays(play, a, epoch, owned)
+
+
+def beat_interval(play: Play) -> None:
+    a = play.member("a")
+    told = [a.join()]
+    play.settle(a)
+    told += [a.beat(kind) for kind in ("short", "owned", "full")]
+    play.member("b").join()
+    told += [a.turn() for _ in range(4)]
+    session = play.settings.session * 1000
+    for reply in told:
+        play.want(0 < reply.interval < session, f"a reply has heartbeat interval {reply.interval} ms; the session timeout is {session:g} ms")
+        play.want(0 <= reply.throttle < session, f"a reply has throttle time {reply.throttle} ms; the session timeout is {session:g} ms")
+
+
+def fence_previous_epoch_given_up(play: Play) -> None:
+    play.topic(0, partitions=2)
+    a, b = play.member("a"), play.member("b")
+    a.join()
+    play.settle(a)
+    former, had = a.epoch, a.owned
+    b.join()
+    told_to_revoke(play, a)
+    play.until("its report raises its epoch", lambda: a.epoch > former, a)
+    reply = a.ask(a.request("owned", epoch=former, owned=had))
+    play.want_code("a report at the former epoch of what was given up", reply.code, FENCED_MEMBER_EPOCH)
+
+
+def report_unknown_topic(play: Play) -> None:
+    a, b = settled_pair(play)
+    epoch, owned = a.epoch, a.owned
+    for kind in ("owned", "full"):
+        a.beat(kind, owned=owned | {(uuid.uuid4().bytes, 0)})
+        b.turn()
+    stays(play, a, epoch, owned)
+
+
+def epoch_beyond_255(play: Play) -> None:
+    other = play.topic(1)
+    a = play.member("a")
+    a.join()
+    play.settle(a)
+    wanted = a.epoch + 2 * GUESTS
+    for number in range(GUESTS):
+        guest = play.member("guest", names=[other.name], id=new_id())
+        guest.join()
+        guest.leave()
+        play.members.remove(guest)
+        guest.reconnect()
+        if number % 10 == 0:
+            a.turn()
+    play.until(f"the one that stays is at epoch {wanted}", lambda: a.epoch >= wanted, a)
+
+
+def fence_keeps_member(play: Play) -> None:
+    a, _ = settled_pair(play)
+    epoch, owned = a.epoch, a.owned
+    reply = a.ask(a.request("owned", epoch=epoch + 7))
+    play.want_code("a heartbeat at a later epoch", reply.code, FENCED_MEMBER_EPOCH)
+    a.beat("full")
+    stays(play, a, epoch, owned)

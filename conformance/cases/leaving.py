@@ -2,13 +2,12 @@
 
 from __future__ import annotations
 
-from conformance.case import GROUP_EPOCH, HANDLING, MUST, RESPONSE, SHOULD, case
 from conformance.cases.heartbeats import UNKNOWN_MEMBER_ID, settled_pair
+from conformance.member import new_id
 from conformance.messages import LEAVE
-from conformance.play import Play, new_id
+from conformance.play import Play
 
 
-@case("leave-reply", RESPONSE, MUST, "a member leaves: member epoch -1", "the reply has member epoch -1")
 def leave_reply(play: Play) -> None:
     a = play.member("a")
     a.join()
@@ -16,7 +15,6 @@ def leave_reply(play: Play) -> None:
     play.want(reply.epoch == LEAVE, f"the reply to the leave has member epoch {reply.epoch}")
 
 
-@case("leave-frees", GROUP_EPOCH, MUST, "one of two members leaves", "the group epoch rises, and the other member gets its partitions")
 def leave_frees(play: Play) -> None:
     a, b = settled_pair(play)
     epoch = a.epoch
@@ -25,7 +23,6 @@ def leave_frees(play: Play) -> None:
     play.want(a.epoch > epoch, f"after the leave the member is at epoch {a.epoch}, and was at {epoch} before")
 
 
-@case("leave-ends-membership", HANDLING, MUST, "a member beats after it left", "UNKNOWN_MEMBER_ID: it is none any more")
 def leave_ends_membership(play: Play) -> None:
     a, b = settled_pair(play)
     epoch, owned = b.epoch, b.owned
@@ -35,7 +32,6 @@ def leave_ends_membership(play: Play) -> None:
     play.settle(a)
 
 
-@case("leave-twice", HANDLING, SHOULD, "a member leaves twice: the reply to the first was lost", "UNKNOWN_MEMBER_ID the second time")
 def leave_twice(play: Play) -> None:
     a, b = settled_pair(play)
     b.leave()
@@ -44,7 +40,6 @@ def leave_twice(play: Play) -> None:
     play.settle(a)
 
 
-@case("leave-unknown", HANDLING, MUST, "a leave under an id that no member has", "refused, and the group's members go on")
 def leave_unknown(play: Play) -> None:
     a = play.member("a")
     a.join()
@@ -55,7 +50,6 @@ def leave_unknown(play: Play) -> None:
     play.settle(a)
 
 
-@case("leave-while-revoking", GROUP_EPOCH, MUST, "the first member is told to revoke, and leaves without a report", "the second gets everything")
 def leave_while_revoking(play: Play) -> None:
     a, b = play.member("a"), play.member("b")
     a.join()
@@ -66,7 +60,6 @@ def leave_while_revoking(play: Play) -> None:
     play.settle(b)
 
 
-@case("leave-and-join", HANDLING, MUST, "a member leaves, and joins again under the same id", "it is accepted, at a higher epoch than before")
 def leave_and_join(play: Play) -> None:
     a, b = play.member("a", id=new_id()), play.member("b")
     a.join()
@@ -79,7 +72,6 @@ def leave_and_join(play: Play) -> None:
     play.want(a.epoch > epoch, f"it joins again at epoch {a.epoch}, and was at {epoch} before")
 
 
-@case("last-leaves", GROUP_EPOCH, MUST, "the only member leaves, and another one joins the empty group", "the new one gets everything")
 def last_leaves(play: Play) -> None:
     a, b = play.member("a"), play.member("b")
     a.join()
@@ -89,7 +81,6 @@ def last_leaves(play: Play) -> None:
     play.settle(b)
 
 
-@case("last-leaves-epoch", GROUP_EPOCH, SHOULD, "the only member leaves, and joins again at once", "the group is there still: its epoch goes on")
 def last_leaves_epoch(play: Play) -> None:
     a = play.member("a", id=new_id())
     a.join()

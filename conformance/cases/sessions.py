@@ -3,13 +3,12 @@
 from __future__ import annotations
 
 import time
-from typing import Callable
+from typing import Callable, Optional, Tuple
 
-from conformance.case import MUST, REBALANCE_TIMEOUT, SESSIONS, SHOULD, STATIC, case
 from conformance.cases.heartbeats import UNKNOWN_MEMBER_ID, settled_pair, told_to_revoke
 from conformance.cases.static_members import heir, static_pair
-from conformance.messages import NOTHING
-from conformance.play import Member, Play, new_id
+from conformance.member import REBALANCE_MS, Member, new_id
+from conformance.play import Play
 
 PAUSE = 0.25
 # A rebalance timeout that is over soon, in milliseconds.
@@ -29,23 +28,18 @@ def wait(play: Play, seconds: float, *members: Member, until: Callable[[], bool]
 def falls_silent(play: Play, member: Member) -> None:
     """From now on the member sends nothing, and is none any more when its session is over. What it had may go to others then."""
     play.story.say(f"-- {member.name} falls silent")
-    play.watch(member.group).gone(member.id)
+    member.is_in, member.may_end = False, True
 
 
 def is_over(play: Play) -> float:
     return play.settings.session + play.settings.late
 
 
-@case(
-    "session-ends", SESSIONS, MUST,
-    "one of two members falls silent for a session timeout",
-    "it is removed, and the other one gets its partitions",
-    is_slow=True,
-)
 def session_ends(play: Play) -> None:
+    # (This isn't the first group, nor the only one.)
+    play.member("other", group=play.new_group()).join()
     a, b = settled_pair(play)
     falls_silent(play, b)
-    b.is_in = False
     play.want(
         wait(play, is_over(play), a, until=lambda: play.is_settled([a])),
         f"{is_over(play):g} s after the last heartbeat the other member has {play.story.partitions(a.owned)}",
@@ -54,16 +48,11 @@ def session_ends(play: Play) -> None:
     play.want_code("a heartbeat of the member that was removed", reply.code, UNKNOWN_MEMBER_ID)
 
 
-@case(
-    "session-holds", SESSIONS, MUST,
-    "one of two members falls silent for three quarters of its session",
-    "it is a member still: nothing of it goes to the other one",
-    is_slow=True,
-)
 def session_holds(play: Play) -> None:
     a, b = settled_pair(play)
     had, epoch = a.owned, a.epoch
-    wait(play, play.settings.session * 0.75, a)
+    wait(play, play.settings.session * 0.9, a)
+    play.want_in_time(b)
     play.want(
         (a.owned, a.epoch) == (had, epoch),
         f"the other member is at epoch {a.epoch} with {play.story.partitions(a.owned)} before the session is over",
@@ -71,174 +60,164 @@ def session_holds(play: Play) -> None:
     b.beat("full")
 
 
-@case(
-    "session-goes-on", SESSIONS, MUST,
-    "a member beats short heartbeats for longer than a session",
-    "each heartbeat begins the session anew",
-    is_slow=True,
-)
 def session_goes_on(play: Play) -> None:
-    a = play.member("a")
-    a.join()
-    play.settle(a)
-    epoch = a.epoch
-    for _ in range(5):
-        wait(play, play.settings.session * 0.4)
-        a.turn()
-    play.want(a.epoch == epoch, f"it is at epoch {a.epoch} and was at {epoch}")
+    members = [play.member(name) for name in "abc"]
+    for member in members:
+        member.join()
+    play.settle(*members)
+    epoch = members[0].epoch
+    for _ in range(3):
+        wait(play, play.settings.session * 0.45)
+        for member, kind in zip(members, ("short", "owned", "full")):
+            member.beat(kind)
+    epochs = {member.epoch for member in members}
+    play.want(epochs == {epoch}, f"they are at epochs {epochs} and were at {epoch}")
 
 
-@case(
-    "session-rejoin", SESSIONS, MUST,
-    "a member that was removed joins again under its id",
-    "it is accepted, at a higher epoch than it had",
-    is_slow=True,
-)
+def session_fenced(play: Play) -> None:
+    play.stands_on("session-ends")
+    a, b = settled_pair(play)
+    falls_silent(play, b)
+    request, until = b.request("owned", epoch=b.epoch + 7), time.monotonic() + is_over(play)
+    while not play.is_settled([a]) and time.monotonic() < until:
+        b.ask(request)
+        wait(play, play.settings.session / 8, a)
+    play.want(play.is_settled([a]), f"{is_over(play):g} s after the last heartbeat at its epoch the other has {play.story.partitions(a.owned)}")
+
+
 def session_rejoin(play: Play) -> None:
+    play.stands_on("session-ends")
     a, b = settled_pair(play)
     epoch = b.epoch
     falls_silent(play, b)
-    b.is_in = False
     play.want(wait(play, is_over(play), a, until=lambda: play.is_settled([a])), "the silent member isn't removed")
     b.join()
     play.settle(a, b)
     play.want(b.epoch > epoch, f"it joins again at epoch {b.epoch}, and was at {epoch}")
 
 
-@case(
-    "session-all-end", SESSIONS, MUST,
-    "all members fall silent for a session timeout, and then a new one joins",
-    "it gets everything: nothing of the old ones is left",
-    is_slow=True,
-)
 def session_all_end(play: Play) -> None:
     for member in settled_pair(play):
         falls_silent(play, member)
-        member.is_in = False
     wait(play, is_over(play))
     c = play.member("c")
     c.join()
     play.settle(c)
 
 
-@case("session-of-commits", SESSIONS, MUST, "a member was removed; a commit of before comes late", "UNKNOWN_MEMBER_ID", is_slow=True)
 def session_of_commits(play: Play) -> None:
+    play.stands_on("session-ends")
     play.wants_commits()
     a, b = settled_pair(play)
-    partition = min(b.owned)
+    partition = b.any()
     falls_silent(play, b)
-    b.is_in = False
     play.want(wait(play, is_over(play), a, until=lambda: play.is_settled([a])), "the silent member isn't removed")
     play.want_code("a commit of the member that was removed", play.commit(b, {partition: 1})[0], UNKNOWN_MEMBER_ID)
 
 
-@case(
-    "rebalance-timeout-ends", REBALANCE_TIMEOUT, MUST,
-    "a member with a rebalance timeout of 2 s is told to revoke, and beats on without a report",
-    "it is removed, and the others get its partitions",
-    is_slow=True,
-)
-def rebalance_timeout_ends(play: Play) -> None:
-    play.topic(0, partitions=2)
-    a, b = play.member("a", timeout=SOON_MS), play.member("b")
-    a.join()
-    play.settle(a)
-    b.join()
-    told_to_revoke(play, a)
-    play.story.say("-- a beats on, and gives nothing up")
-    begin, reply = time.monotonic(), a.tries()
+def is_removed(play: Play, a: Member, b: Member) -> None:
+    """The member was told to revoke. It beats on without a report until it is removed, soon after its rebalance timeout."""
+    play.story.say(f"-- {a.name} beats on, and gives nothing up")
+    begin, reply, a.may_end = time.monotonic(), a.tries(), True
     while reply.code == 0 and time.monotonic() < begin + SOON_MS / 1000 + play.settings.late:
         time.sleep(PAUSE)
-        if time.monotonic() > begin + SOON_MS / 1000:
-            # From now on what it has may go to others.
-            play.watch(a.group).members[a.id].holds = NOTHING
         b.turn()
         reply = a.tries()
     play.want_code(f"{play.settings.late:g} s after its rebalance timeout a heartbeat of the member", reply.code, UNKNOWN_MEMBER_ID)
     play.settle(b)
 
 
-@case(
-    "rebalance-timeout-met", REBALANCE_TIMEOUT, MUST,
-    "a member with a rebalance timeout of 2 s reports in time, and beats on",
-    "it stays a member, also when the timeout is over",
-    is_slow=True,
-)
-def rebalance_timeout_met(play: Play) -> None:
+def told_soon(play: Play, at_first: int = SOON_MS, later: Optional[int] = None) -> Tuple[Member, Member]:
+    """A member with a rebalance timeout that is told to revoke. It says another timeout, if one is given, in a later heartbeat."""
     play.topic(0, partitions=2)
-    a, b = play.member("a", timeout=SOON_MS), play.member("b")
+    a, b = play.member("a", timeout=at_first, id=new_id()), play.member("b")
     a.join()
     play.settle(a)
+    if later is not None:
+        a.timeout = later
+        a.beat("full")
     b.join()
     told_to_revoke(play, a)
-    time.sleep(SOON_MS / 4000)
+    return a, b
+
+
+def stays(play: Play, *members: Member) -> None:
+    """When a rebalance timeout that began before is over, the first one is a member as it was."""
+    play.settle(*members)
+    epoch = members[0].epoch
+    wait(play, SOON_MS / 1000 * 2, *members)
+    play.want(members[0].epoch == epoch, f"it is at epoch {members[0].epoch} and was at {epoch}")
+
+
+def rebalance_timeout_ends(play: Play) -> None:
+    is_removed(play, *told_soon(play))
+
+
+def rebalance_timeout_lowered(play: Play) -> None:
+    is_removed(play, *told_soon(play, REBALANCE_MS, SOON_MS))
+
+
+def rebalance_timeout_raised(play: Play) -> None:
+    a, b = told_soon(play, SOON_MS, REBALANCE_MS)
+    until = time.monotonic() + SOON_MS / 1000 * 2
+    while time.monotonic() < until:
+        a.beat()
+        b.turn()
+        time.sleep(PAUSE)
     a.release()
     play.settle(a, b)
-    epoch = a.epoch
-    wait(play, SOON_MS / 1000 * 2, a, b)
-    play.want(a.epoch == epoch, f"it is at epoch {a.epoch} and was at {epoch}")
 
 
-@case(
-    "rebalance-timeout-of-settled", REBALANCE_TIMEOUT, SHOULD,
-    "a settled member with a rebalance timeout of 2 s beats for longer",
-    "there is nothing to revoke, so the timeout doesn't run",
-    is_slow=True,
-)
+def rebalance_timeout_rejoin(play: Play) -> None:
+    a, b = told_soon(play)
+    a.join()
+    stays(play, a, b)
+
+
+def rebalance_timeout_given_back(play: Play) -> None:
+    a, b = told_soon(play)
+    b.leave()
+    stays(play, a)
+
+
+def rebalance_timeout_met(play: Play) -> None:
+    a, b = told_soon(play)
+    time.sleep(SOON_MS / 4000)
+    a.release()
+    stays(play, a, b)
+
+
 def rebalance_timeout_of_settled(play: Play) -> None:
     a = play.member("a", timeout=SOON_MS)
     a.join()
-    play.settle(a)
-    epoch = a.epoch
-    wait(play, SOON_MS / 1000 * 2, a)
-    play.want(a.epoch == epoch, f"it is at epoch {a.epoch} and was at {epoch}")
+    stays(play, a)
 
 
-@case(
-    "static-away-ends", STATIC, MUST,
-    "a static member leaves for a while, and doesn't come back for a session timeout",
-    "it is removed, and the other one gets its partitions",
-    is_slow=True,
-)
 def static_away_ends(play: Play) -> None:
     s, d = static_pair(play)
-    member = s.id
     s.leave("away")
-    play.watch(s.group).gone(member)
     play.want(
         wait(play, is_over(play), d, until=lambda: play.is_settled([d])),
         f"{is_over(play):g} s after it left the other member has {play.story.partitions(d.owned)}",
     )
 
 
-@case(
-    "static-killed-ends", STATIC, MUST,
-    "a static member is killed: it falls silent without leaving; after its session another one joins with its instance",
-    "the instance is free",
-    is_slow=True,
-)
 def static_killed_ends(play: Play) -> None:
+    play.stands_on("session-ends")
     s, d = static_pair(play)
     falls_silent(play, s)
-    s.is_in = False
     play.want(wait(play, is_over(play), d, until=lambda: play.is_settled([d])), "the silent member isn't removed")
     back = heir(play, s)
     back.join()
     play.settle(back, d)
 
 
-@case(
-    "static-away-back-late", STATIC, MUST,
-    "a static member is away for three quarters of its session, comes back, and beats",
-    "its partitions were reserved, and it is a member beyond the session in which it left",
-    is_slow=True,
-)
 def static_away_back_late(play: Play) -> None:
     s, d = static_pair(play)
     kept = s.owned
     s.leave("away")
     wait(play, play.settings.session * 0.75, d)
-    play.want(not kept & d.owned, f"{play.story.partitions(kept & d.owned)} goes to the other member before the session is over")
+    play.want_kept(s, kept, d)
     back = heir(play, s)
     back.join()
     play.settle(back, d)
@@ -246,14 +225,13 @@ def static_away_back_late(play: Play) -> None:
     play.want(back.owned == kept, f"it has {play.story.partitions(back.owned)}, and had {play.story.partitions(kept)}")
 
 
-@case("late-join", SESSIONS, MUST, "a member joins and never beats", "it is removed after its session as any other", is_slow=True)
 def late_join(play: Play) -> None:
+    play.stands_on("session-ends")
     a, b = play.member("a"), play.member("b", id=new_id())
     a.join()
     play.settle(a)
     b.join()
     falls_silent(play, b)
-    b.is_in = False
     epoch = a.epoch
     play.want(
         wait(play, is_over(play), a, until=lambda: play.is_settled([a]) and a.epoch > epoch + 1),

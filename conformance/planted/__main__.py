@@ -6,23 +6,23 @@ import argparse
 import concurrent.futures
 import contextlib
 import pathlib
-import random
 import signal
 import sys
 import tempfile
-from typing import List, NamedTuple, Sequence, Set
+import time
+from typing import List, NamedTuple, Sequence, Set, Tuple
 
 from conformance.broker import NoBroker
-from conformance.case import FREE, Case
+from conformance.case import FREE, MUST, Case
 from conformance.cases import load
-from conformance.planted.faults import RULES, BadFault, Fault, found_before, plant, read, write_found
-from conformance.planted.known import KNOWN
-from conformance.planted.stand import SESSION_SECONDS, Broken, over_rules, stop
+from conformance.planted.faults import RULES, BadFault, Fault, found_before, plant, read, variants, write_found
+from conformance.planted.stand import SESSION_SECONDS, Broken, Stand, over_rules, stop
 from conformance.play import Settings
-from conformance.runner import FAILED, Runner
+from conformance.report import KNOWN, counts, known_in, story
+from conformance.runner import FAILED, Result, Runner
 from conformance.starter import Starter
 
-TIMEOUT, PATIENCE = 5.0, 1.5
+TIMEOUT, PATIENCE, VARIANT_PATIENCE = 5.0, 1.5, 10.0
 # The session timeout where slow cases are played, and how much later its end may be noticed.
 SHORT_SESSION, LATE = 3.0, 3.0
 # After so many cases that failed no more are played against a fault.
@@ -39,34 +39,39 @@ class Found(NamedTuple):
 
 def main(words: Sequence[str]) -> int:
     parser = argparse.ArgumentParser(prog="python3 -m conformance.planted", description=__doc__)
-    parser.add_argument("--only", nargs="+", metavar="FAULT", help="these faults alone")
+    parser.add_argument("--only", nargs="+", metavar="FAULT", help="these faults alone, or these variants")
     parser.add_argument("--named", action="store_true", help="plays only the case that has to find the fault")
     parser.add_argument("--write", action="store_true", help="writes what was found into found.json, of which docs/CONFORMANCE.md is made")
-    parser.add_argument("--jobs", type=int, default=2, metavar="N", help="so many at once (%(default)d)")
+    parser.add_argument("--jobs", type=int, default=2, metavar="N", help="how many at once (%(default)d)")
+    parser.add_argument("--variants", type=int, nargs="?", const=25, metavar="WALKS", help="plays the cases and this number of walks (25) without a fault")
+    parser.add_argument("--slow", action="store_true", help="with --variants: the slow cases too")
     parser.add_argument(
         "--serve",
         nargs="?",
         const="",
-        metavar="FAULT",
-        help="serves a broker with this fault, or with none, until a signal; prints HOST:PORT",
+        metavar="NAME",
+        help="serves a broker with this fault or variant, or with none, until a signal; prints HOST:PORT",
     )
     options = parser.parse_args(words)
-    faults = {fault.name: fault for fault in read()}
-    missing = [name for name in [*(options.only or ()), *([options.serve] if options.serve else ())] if name not in faults]
+    faults, others = {fault.name: fault for fault in read()}, {variant.name: variant for variant in variants()}
+    them = others if options.variants else faults if options.serve is None else {**others, **faults}
+    missing = [name for name in [*(options.only or ()), *([options.serve] if options.serve else ())] if name not in them]
     if missing:
-        parser.error(f"there is no fault {missing[0]}")
+        parser.error(f"there is no {missing[0]} among these: {' '.join(them)}")
     signal.signal(signal.SIGTERM, stop)
     signal.signal(signal.SIGINT, stop)
     if options.serve is not None:
-        return serve([faults[options.serve]] if options.serve else [])
-    return show([faults[name] for name in options.only or faults], load(), options)
+        return serve([them[options.serve]] if options.serve else [])
+    chosen = [them[name] for name in options.only or them]
+    return show_variants(chosen, load(), options) if options.variants else show(chosen, load(), options)
 
 
 def serve(faults: Sequence[Fault]) -> int:
     with contextlib.suppress(KeyboardInterrupt), tempfile.TemporaryDirectory() as folder:
         for fault in faults:
             plant(fault, pathlib.Path(folder))
-        with over_rules(pathlib.Path(folder) if faults else RULES.parent) as stand:
+        sessions = [float(fault.words["session"]) for fault in faults if "session" in fault.words]
+        with over_rules(pathlib.Path(folder) if faults else RULES.parent, *sessions) as stand:
             print(stand.addresses[0], flush=True)
             signal.pause()
     return 0
@@ -93,6 +98,39 @@ def show(faults: Sequence[Fault], cases: Sequence[Case], options: argparse.Names
     return int(unfound > 0)
 
 
+def show_variants(chosen: Sequence[Fault], cases: Sequence[Case], options: argparse.Namespace) -> int:
+    """Status 0 if no case that must hold fails with any of them."""
+    bad = 0
+    with concurrent.futures.ThreadPoolExecutor(max(1, options.jobs)) as pool:
+        for variant, results, seconds in pool.map(lambda it: try_variant(it, cases, options), chosen):
+            failed = [result for result in results if result.status == FAILED]
+            musts = [result for result in failed if result.level == MUST]
+            bad += bool(musts)
+            told = " ".join(result.case.name for result in failed if result.level != MUST)
+            print(f"{'BAD' if musts else 'ok'}  {variant.name}: {variant.words['is']}")
+            print(f"    {counts(results)} in {seconds:.0f} s{'; should: ' if told else ''}{told}", flush=True)
+            for result in musts:
+                print(story(result), flush=True)
+    print(f"with {len(chosen) - bad} of {len(chosen)} variants no case fails that must hold")
+    return int(bad > 0)
+
+
+def try_variant(variant: Fault, cases: Sequence[Case], options: argparse.Namespace) -> Tuple[Fault, List[Result], float]:
+    began, session = time.monotonic(), float(variant.words.get("session", SHORT_SESSION if options.slow else SESSION_SECONDS))
+    with tempfile.TemporaryDirectory() as folder:
+        plant(variant, pathlib.Path(folder))
+        with over_rules(pathlib.Path(folder), session) as stand:
+            settings = Settings(VARIANT_PATIENCE, session, LATE, f"kill -USR1 {stand.coordinators[0]}", rounds=options.variants)
+            results = [*runner_of(stand, settings, variant).run([case for case in cases if options.slow or not case.is_slow])]
+    return variant, results, time.monotonic() - began
+
+
+def runner_of(stand: Stand, settings: Settings, fault: Fault) -> Runner:
+    host, _, port = stand.addresses[0].rpartition(":")
+    version = int(fault.words["heartbeat"]) if "heartbeat" in fault.words else None
+    return Runner(Starter((host, int(port)), None, TIMEOUT), settings, TIMEOUT, version, None)
+
+
 def tell(found: Found) -> None:
     others = [name for name in found.cases if name != found.fault.case]
     print(f"{'found' if found.fault.case in found.cases else 'NOT FOUND'}  {found.fault.name}: {found.fault.words['is']}")
@@ -101,25 +139,23 @@ def tell(found: Found) -> None:
 
 
 def try_fault(fault: Fault, cases: Sequence[Case], named: bool) -> Found:
-    """Plays the case that has to find the fault, and then the others in any order; the slow ones too where one of them has to find it."""
+    """Plays the case that has to find the fault, and then the others; the slow ones too if one of them has to find it."""
     is_slow = next(case.is_slow for case in cases if case.name == fault.case)
     first = [case for case in cases if case.name == fault.case]
     # (With a session that ends soon a busy machine may lose a fast case.)
     others = [case for case in cases if case.name != fault.case and not named and case.is_slow == is_slow and case.level != FREE]
-    random.Random(fault.name).shuffle(others)
     session = SHORT_SESSION if is_slow else SESSION_SECONDS
     with tempfile.TemporaryDirectory() as folder:
         plant(fault, pathlib.Path(folder))
         with over_rules(pathlib.Path(folder), session) as stand:
             settings = Settings(PATIENCE, session, LATE, f"kill -USR1 {stand.coordinators[0]}")
-            host, _, port = stand.addresses[0].rpartition(":")
-            runner = Runner(Starter((host, int(port)), None, TIMEOUT), settings, TIMEOUT, None, None)
-            results = runner.run(first, lambda _: None)
+            runner = runner_of(stand, settings, fault)
+            results = [*runner.run(first)]
             results += runner.run_side_by_side(others) if is_slow else []
             for case in [] if is_slow else others:
                 if sum(result.status == FAILED for result in results) < MOST_FAILED:
                     results.append(runner.run_one(case))
-    return Found(fault, [result.case.name for result in results if result.status == FAILED and result.case.name not in KNOWN], len(results))
+    return Found(fault, [result.case.name for result in results if result.status == FAILED and result.case.name not in known_in(KNOWN)], len(results))
 
 
 if __name__ == "__main__":

@@ -79,7 +79,9 @@ def quiet(server: Server, connection: socket.socket, number: int) -> None:
 def main(words: List[str]) -> None:
     sys.path.insert(0, words[0])
     group, node = importlib.import_module("rules.group"), importlib.import_module("rules.node")
-    setattr(group, "SESSION", int(float(words[1]) * 1000))
+    session = int(float(words[1]) * 1000)
+    setattr(group, "SESSION", session)
+    setattr(group, "INTERVAL", min(group.INTERVAL, session // 9))
     server = Server(node.Node(), words[2:])
     signal.signal(signal.SIGUSR1, server.grow)
     with socket.create_server((HOST, 0), backlog=1024) as listener:

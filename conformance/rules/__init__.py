@@ -2,6 +2,7 @@
 
     fields       the bytes of fields, and back
     messages     requests and replies
+    limits, codes  limits and times; error codes and their texts
     assignors    range and uniform: which member owns which partition
     group        one group: heartbeats, ticks and commits
     node         the groups of a coordinator, frame by frame
@@ -12,8 +13,14 @@
     run_scripts  random scripts of worlds
     frame_lines  what `coord frame` prints, and random frames
     decode       what lines ask and print, by field, for people
+    ending       how a tool ends: with a line in place of a traceback
     compare      runs a program over scripts, compares what it prints, and cuts a script down that differs
 
 The rules are those of KIP-848 and of the Kafka protocol guide, and this project's own where these leave a choice
 (docs/MODEL.md). Nothing here is taken from the program.
 """
+
+import sys
+
+if sys.version_info < (3, 9):
+    sys.exit(f"Python 3.9 or later is needed, and this is {sys.version.split()[0]}")

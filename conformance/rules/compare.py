@@ -16,6 +16,7 @@ import time
 from typing import Any, Callable, Dict, Iterable, List, NamedTuple, Optional, Sequence, Tuple
 
 from .decode import Fields
+from .ending import guarded
 
 SEED = 848
 RUN_SECONDS = 60
@@ -27,7 +28,7 @@ Cause = Tuple[object, ...]
 
 
 class Difference(NamedTuple):
-    """Where a program's run isn't as it has to be: the input line's number (0: behind the last), both printed lines, what else is wrong."""
+    """Where a program's run isn't as it has to be: the input line's number (0: after the last), both printed lines, what else is wrong."""
 
     number: int
     wanted: Optional[str]
@@ -37,7 +38,7 @@ class Difference(NamedTuple):
 
 @dataclasses.dataclass
 class Tool:
-    """What is compared: who plays lines by the rules (`line` says what is printed, `report` what is behind the last), how scripts are made,
+    """What is compared: who plays lines by the rules (`line` says what is printed, `report` what is after the last), how scripts are made,
     and what is printed by field."""
 
     name: str
@@ -125,7 +126,7 @@ class Tool:
             yield "  it doesn't always differ"
             return
         if it.wanted is not None or it.found is not None:
-            yield f"  line {it.number} differs: {cut(self.asks(lines[it.number - 1]))}" if it.number else "  the report behind the last line differs"
+            yield f"  line {it.number} differs: {cut(self.asks(lines[it.number - 1]))}" if it.number else "  the report after the last line differs"
         rows = self.differing(lines, it)
         if it.wanted is None or it.found is None:
             rows = [("field", it.wanted or "no line", it.found or "no line")] if it.wanted or it.found else []
@@ -189,8 +190,6 @@ def check(tool: Tool, words: Sequence[str]) -> int:
     except (OSError, ValueError) as why:
         print(f"{tool.called()}: {asked.program[0]} can't be started: {getattr(why, 'strerror', None) or why}", file=sys.stderr)
         return 2
-    except KeyboardInterrupt:
-        return 128 + signal.SIGINT
 
 
 def answer(tool: Tool, words: Sequence[str]) -> int:
@@ -216,16 +215,12 @@ def answer(tool: Tool, words: Sequence[str]) -> int:
 def main(tool: Tool, doc: str, form: Tuple[str, Sequence[int], Callable[..., Iterable[str]]] = ("", (), lambda: ())) -> int:
     """Does what the command line asks for: answer, check, or the tool's own form, with how many words it has, whose lines are printed."""
     first, words = (sys.argv[1:] or [""])[0], sys.argv[2:]
-    try:
-        if first == "answer" and len(words) < 2:
-            return answer(tool, words)
-        if first == "check":
-            return check(tool, words)
-        if first == form[0] and len(words) in form[1] and all(map(str.isdigit, words)):
-            print(*form[2](*map(int, words)), sep="\n")
-            return 0
-    except OSError as why:
-        sys.exit(f"{tool.called()}: {why.filename}: {why.strerror}" if why.filename else f"{tool.called()}: {why}")
+    if first == "answer" and len(words) < 2:
+        return guarded(tool.called(), lambda: answer(tool, words))
+    if first == "check":
+        return guarded(tool.called(), lambda: check(tool, words))
+    if first == form[0] and len(words) in form[1] and all(map(str.isdigit, words)):
+        return guarded(tool.called(), lambda: print(*form[2](*map(int, words)), sep="\n") or 0)
     is_asked, doc = first in ("-h", "--help"), doc.replace(f"tools/{tool.name}", tool.called())
     print(doc.strip() if is_asked else doc.split("\n\n")[1], file=sys.stdout if is_asked else sys.stderr)
     return 0 if is_asked else 2

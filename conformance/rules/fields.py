@@ -2,7 +2,8 @@
 
 from typing import Any, Callable, NamedTuple
 
-LONGEST_TEXT = 32_767
+from .limits import LONGEST_STRING
+
 # Why a field can't be read: it ends too early, a varint isn't in its shortest form, a length or a varint is too great, a text isn't UTF-8,
 # tags don't rise, a count is null or negative where it may not be.
 SHORT, NOT_SHORTEST, TOO_LONG, NOT_UTF8, TAG_ORDER, BAD_COUNT = range(1, 7)
@@ -52,7 +53,7 @@ class Reader:
 
     def text(self, nullable=False):
         length = self.count(nullable)
-        if length is not None and length > LONGEST_TEXT:
+        if length is not None and length > LONGEST_STRING:
             raise Unreadable(TOO_LONG)
         return None if length is None else self.utf8(length)
 
@@ -144,7 +145,7 @@ def array(of, nullable=False):
 
 
 def struct(*kinds):
-    """Fields behind one another, with tagged fields at the end, of which none are written. A value is a tuple."""
+    """Fields one after another, with tagged fields at the end, of which none are written. A value is a tuple."""
 
     def read(reader):
         values = tuple([it.read(reader) for it in kinds])
@@ -155,7 +156,7 @@ def struct(*kinds):
 
 
 def optional(of):
-    """A struct behind a byte 1, or a byte -1 in place of it."""
+    """A struct after a byte 1, or a byte -1 in place of it."""
 
     def read(reader):
         mark = reader.int(1)

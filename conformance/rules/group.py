@@ -3,11 +3,10 @@
 import uuid
 
 from .assignors import owners
+from .limits import GREATEST_EPOCH, LONGEST_METADATA, MOST_MEMBERS
+from .limits import HEARTBEAT_INTERVAL as INTERVAL, MOST_PAST_MEMBERS as MOST_PAST, SESSION_TIMEOUT as SESSION
 
-SESSION, INTERVAL = 45_000, 5_000
-GREATEST_EPOCH, LAST_MOMENT = 2_147_483_647, (1 << 64) - 1
-MOST_MEMBERS, MOST_PAST = 10_000, 4_096
-LONGEST_METADATA = 4_096
+LAST_MOMENT = (1 << 64) - 1
 AWAY = "away"
 
 
@@ -45,7 +44,7 @@ class Group:
     # -- one heartbeat
 
     def heartbeat(self, q, stamp, moment, image, full):
-        """The reply's fields behind the correlation id. A refusal changes nothing."""
+        """The reply's fields after the correlation id. A refusal changes nothing."""
         self.check_request(q)
         own = self.records.get(q.member) if q.member else None
         if q.epoch != 0 and (own is None or q.epoch == -2 and own.instance != q.instance):

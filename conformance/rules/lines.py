@@ -4,17 +4,16 @@ import re
 import uuid
 
 from .client import Client
-from .fields import LONGEST_TEXT
+from .limits import LONGEST_STRING, MOST_PARTITIONS, MOST_TOPIC_PARTITIONS, MOST_TOPICS
 from .world import Refused, World
 
-MOST_TOPICS, MOST_TOPIC_PARTITIONS, MOST_PARTITIONS = 10_000, 100_000, 1_000_000
 INT32, INT64, UINT64 = (1 << 31) - 1, (1 << 63) - 1, (1 << 64) - 1
 # How much of a word is shown in a reason.
 SHOWN = 40
 
 
 class BadLine(ValueError):
-    """A line that can't be read, with the reason: nothing behind it is done."""
+    """A line that can't be read, with the reason: nothing after it is done."""
 
 
 def shown(word):
@@ -31,6 +30,12 @@ def words_of(line):
         raise BadLine("it is empty")
     if "" in words:
         raise BadLine("one space parts two words, and none stands at an end")
+    return words
+
+
+def counted(kind, words, count):
+    if len(words) != count:
+        raise BadLine(f"{shown(kind)} wants {count} word{'s' * (count != 1)} after it and has {len(words)}")
     return words
 
 
@@ -54,8 +59,8 @@ def offset_of(word):
 def name_of(word):
     if word in ("", "-") or re.search("[,:]", word):
         raise BadLine(f"{shown(word)} isn't a name: it is empty or a hyphen, or has a comma or a colon")
-    if len(word.encode()) > LONGEST_TEXT:
-        raise BadLine(f"the name {shown(word)} has more than {LONGEST_TEXT} bytes")
+    if len(word.encode()) > LONGEST_STRING:
+        raise BadLine(f"the name {shown(word)} has more than {LONGEST_STRING} bytes")
     return word
 
 
@@ -65,6 +70,13 @@ def name_or_none(word):
 
 def names_of(word):
     return [] if word == "-" else [name_of(name) for name in word.split(",")]
+
+
+def frame_of(word):
+    """The bytes of a frame as hex, of which there is one or more."""
+    if not re.fullmatch("(?:[0-9a-fA-F]{2})+", word):
+        raise BadLine(f"{shown(word)} isn't the hex of a frame")
+    return bytes.fromhex(word)
 
 
 def beat_of(word):
@@ -118,23 +130,17 @@ class Lines:
         """What is printed for a line, or None."""
         kind, *words = words_of(line if isinstance(line, bytes) else line.encode())
         if kind == "client":
-            return self.add_client(*self.counted(kind, words, 6))
+            return self.add_client(*counted(kind, words, 6))
         if kind not in self.ACTS:
             raise BadLine(f"unknown word {shown(kind)}")
         act, *readers = self.ACTS[kind]
-        words = [words] if kind == "image" else self.counted(kind, words, len(readers))
+        words = [words] if kind == "image" else counted(kind, words, len(readers))
         arguments = [self.number_of_client(word) if read == "client" else read(word) for read, word in zip(readers, words)]
         self.world = self.world or World(self.clients)
         try:
             return act(self, *arguments)
         except Refused as refused:
             return f"refused {refused.fault}"
-
-    @staticmethod
-    def counted(kind, words, count):
-        if len(words) != count:
-            raise BadLine(f"{shown(kind)} wants {count} word{'s' * (count != 1)} behind it and has {len(words)}")
-        return words
 
     def add_client(self, name, group, instance, assignor, rebalance, topics):
         it = Client(name_of(name), name_of(group), name_or_none(instance), name_or_none(assignor), number_of(rebalance, INT32), names_of(topics))

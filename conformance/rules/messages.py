@@ -1,17 +1,9 @@
 """Requests and replies of the two APIs, as values and as frames."""
 
+from .codes import TEXTS
 from .fields import INT16, INT32, INT64, NULLABLE, TEXT, UUID, Reader, Unreadable, array, by_topic, optional, put_int, put_text, struct
 
-TEXTS = {
-    15: "coordinator not available",
-    25: "unknown member",
-    42: "invalid request",
-    81: "group is full",
-    110: "fenced member epoch",
-    111: "instance id in use",
-    112: "unknown assignor",
-}
-# The fields behind the header, in their order. An entry has a topic's id and indexes.
+# The fields after the header, in their order. An entry has a topic's id and indexes.
 ENTRY = struct(UUID, array(INT32))
 HEARTBEAT = {
     **{"group": TEXT, "member": TEXT, "epoch": INT32, "instance": NULLABLE, "rack": NULLABLE, "timeout": INT32},

@@ -2,9 +2,8 @@
 
 from .fields import Unreadable
 from .group import Closes, Group, Refusal
+from .limits import LARGEST_BODY, MOST_GROUPS
 from .messages import Commit, commit_frame, read_request, reply_frame
-
-LARGEST_BODY, MOST_GROUPS = 8_388_608, 100_000
 
 
 class Node:

@@ -5,6 +5,7 @@ import uuid
 
 from .compare import SEED
 from .group import AWAY
+from .lines import BadLine, counted, frame_of, image_of, number_of, shown, words_of
 from .messages import Commit, Heartbeat
 from .node import Node
 
@@ -22,26 +23,39 @@ class Lines(Node):
 
     def line(self, line):
         """What is printed for a line, or None."""
-        kind, *words = (line if isinstance(line, str) else line.decode()).split(" ")
-        if kind == "image":
-            self.image = {n: (uuid.UUID(u).bytes, int(c)) for n, u, c in zip(words[::3], words[1::3], words[2::3])}
-        elif kind == "now":
-            self.moment = int(words[0])
-        elif kind == "tick":
-            return f"removed {self.tick(self.moment)}"
-        elif kind == "stamp":
-            self.stamp = (int(words[0]), int(words[1]))
-        elif kind == "req":
-            self.requests += 1
-            stamp, self.stamp = self.stamp or (1, self.requests), None
-            frame = self.answer(bytes.fromhex(words[0]), stamp, self.moment)
-            return "close" if frame is None else frame.hex()
-        else:
-            raise ValueError(line)
-        return None
+        kind, *words = words_of(line if isinstance(line, bytes) else line.encode())
+        if kind not in self.LINES:
+            raise BadLine(f"unknown word {shown(kind)}")
+        act, *readers = self.LINES[kind]
+        words = [words] if kind == "image" else counted(kind, words, len(readers))
+        return act(self, *(read(word) for read, word in zip(readers, words)))
+
+    def set_image(self, image):
+        self.image = image
+
+    def set_clock(self, moment):
+        self.moment = moment
+
+    def set_stamp(self, *stamp):
+        self.stamp = stamp
+
+    def request(self, frame):
+        self.requests += 1
+        stamp, self.stamp = self.stamp or (1, self.requests), None
+        reply = self.answer(frame, stamp, self.moment)
+        return "close" if reply is None else reply.hex()
 
     def report(self):
         return []
+
+    # What is done in a line of each kind, and how its words are read.
+    LINES = {
+        "image": (set_image, image_of),
+        "now": (set_clock, number_of),
+        "stamp": (set_stamp, number_of, number_of),
+        "req": (request, frame_of),
+        "tick": (lambda self: f"removed {self.tick(self.moment)}",),
+    }
 
 
 def req(message):
@@ -186,7 +200,7 @@ class Large:
         return names[: self.dice.randint(1, len(names))]
 
     def block(self, names):
-        """One block of topics, and now and then the one behind it."""
+        """One block of topics, and now and then the one after it."""
         first = self.dice.randrange(0, len(names), self.size)
         return names[first : first + self.size * self.dice.choice([1, 1, 2])]
 

@@ -5,6 +5,7 @@ import uuid
 
 from .client import INSIDE, OUTSIDE
 from .compare import SEED
+from .limits import SESSION_TIMEOUT
 from .lines import Lines
 
 
@@ -56,7 +57,7 @@ class Play:
         return self.client_acts(self.dice.randrange(len(self.script.clients)))
 
     def pass_time(self):
-        self.moment = max(0, self.moment + self.dice.choice([-500, 900, 900, 5_000, 5_000, 20_000, 45_000]))
+        self.moment = max(0, self.moment + self.dice.choice([-500, 900, 900, 5_000, 5_000, 20_000, SESSION_TIMEOUT]))
         self.put(f"{self.dice.choice(['clock', 'tick', 'tick'])} {self.moment}")
 
     def message(self):
@@ -100,9 +101,9 @@ class Play:
             self.put(f"take {reply.split(' ')[1]}")
 
     def settle(self):
-        """Sometimes everybody joins anew before."""
+        """Sometimes everybody joins again before."""
         if self.dice.random() < 0.5:
-            self.moment += 45_000
+            self.moment += SESSION_TIMEOUT
             self.put(f"tick {self.moment}")
             for client in self.script.clients:
                 self.join_anew(client)

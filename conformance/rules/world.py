@@ -4,9 +4,10 @@ A message never leaves its pool, so it may be delivered never, once or many time
 """
 
 from .client import GREATEST_NUMBER, INSIDE
-from .group import AWAY, GREATEST_EPOCH
+from .group import AWAY
+from .limits import GREATEST_EPOCH, LARGEST_BODY
 from .messages import read_commit_reply, read_heartbeat_reply
-from .node import LARGEST_BODY, Node
+from .node import Node
 
 NO_SUCH_CLIENT, NO_SUCH_MESSAGE, WRONG_STATE, TOO_LARGE, FORGOTTEN = 1, 2, 3, 5, 6
 ROUNDS = 3

@@ -5,7 +5,10 @@ from __future__ import annotations
 import pathlib
 import re
 import shutil
+import signal
 import subprocess
+import sys
+import time
 import xml.etree.ElementTree
 from typing import Iterator, Optional, Tuple
 
@@ -72,7 +75,27 @@ tell-run --lines 12 examples/run/stray-commit.story | 0 | but it doesn't hold t/
 tell-run --strict examples/run/stray-commit.story | 0 | b is steady at epoch 2
 tell-run --strict cases/run/a-client-that-nobody-named-is-refused.in | 1 | is
 write-run no-such-file | 2 | tools/write-run: no-such-file: No such file or directory
+write-run <(printf 't: 2 partitions\\njoin a\\n') | 2 | no client is called "a"; this story has no clients
+tell-run <(printf 't: 2 partitions\\n') | head -1 | 0 | no clients: a line as "a: group g" of a story says that there is one
+write-run <(printf 'a: group g, static as i\\nt: 1 partition\\njoin a, deliver, take\\nquit a\\n') | 0 | quit a away
+write-run <(printf 'a: group g\\nt: 1 partition\\njoin a, deliver, take\\nquit a\\n') | 0 | quit a leave
+tell-run --granted --lines 5 <(printf 'a, b: group g\\nt: 2 partitions\\njoin a, deliver, take\\njoin b, deliver, take\\nwait 46 s, b silent\\n') | 0 | 1 member removed
+tell-run - >/dev/full < examples/run/rebalance.txt | 1 | tools/tell-run: standard output: No space left on device
+write-run examples/run/rebalance.story >/dev/full | 1 | tools/write-run: standard output: No space left on device
+draw-run examples/run/rebalance.story >/dev/full | 1 | tools/draw-run: standard output: No space left on device
+tell-capture examples/capture/fenced.record >/dev/full | 1 | tools/tell-capture: standard output: No space left on device
+run-lines answer examples/run/rebalance.txt >/dev/full | 1 | run-lines: standard output: No space left on device
+reply-lines answer examples/reply/rebalance.txt >/dev/full | 1 | reply-lines: standard output: No space left on device
+frame-lines --bytes 2000 >/dev/full | 1 | frame-lines: standard output: No space left on device
+cases --help >/dev/full | 1 | cases: standard output: No space left on device
+../coord --version >/dev/full | 1 | coord: standard output: No space left on device
 """
+# Tools that read standard input, and so are ended by Ctrl-C: without a word.
+READERS = ("tell-run -", "write-run -", "draw-run -", "tell-capture -", "run-lines answer", "reply-lines answer", "frame-lines answer")
+BEGIN_SECONDS = 5
+# Packages that programs begin with, each of which says that Python is too old, and a program that makes it so.
+PACKAGES = ("broker", "conformance", "stories", "gate", "clients", "rules")
+OLD_PYTHON = "import sys; sys.path[:0] = ['.', 'tools']; sys.version_info, sys.version = (3, 8), '3.8.18 (main)'; import {}"
 
 
 def each(program: Optional[str]) -> Iterator[Tuple[str, Optional[str]]]:
@@ -91,7 +114,11 @@ def each(program: Optional[str]) -> Iterator[Tuple[str, Optional[str]]]:
         line, reason = row.split(" | ")
         yield f"the line {line!r}", why_not_refused(line, reason)
     for row in COMMANDS.strip().splitlines():
-        yield f"`{row.split(' | ')[0]}`", why_other_end_of(*row.split(" | "))
+        yield f"`{row.rsplit(' | ', 2)[0]}`", why_other_end_of(*row.rsplit(" | ", 2))
+    for name in PACKAGES:
+        yield f"{name} over Python 3.8", why_not_too_old(name)
+    for words in READERS:
+        yield f"Ctrl-C in {words}", why_not_interrupted(words.split())
 
 
 def why_not_shown(path: pathlib.Path, shown: set[pathlib.Path], pictures: set[pathlib.Path]) -> Optional[str]:
@@ -201,3 +228,22 @@ def why_other_end_of(command: str, status: str, told: str) -> Optional[str]:
     ran = subprocess.run(["bash", "-c", f"tools/{command}"], cwd=TOP, capture_output=True, text=True, check=False)
     last = ((ran.stdout + ran.stderr).strip().splitlines() or [""])[-1]
     return None if ran.returncode == int(status) and told in last else f"status {ran.returncode}, and the last line is {last!r}"
+
+
+def why_not_interrupted(words: list[str]) -> Optional[str]:
+    """Interrupts a tool once it waits for its input."""
+    pipe = subprocess.PIPE
+    with subprocess.Popen([sys.executable, "-B", TOP / "tools" / words[0], *words[1:]], cwd=TOP, stdin=pipe, stdout=pipe, stderr=subprocess.STDOUT) as tool:
+        until = time.monotonic() + BEGIN_SECONDS
+        while "pipe" not in pathlib.Path(f"/proc/{tool.pid}/wchan").read_text() and time.monotonic() < until:
+            time.sleep(0.05)
+        tool.send_signal(signal.SIGINT)
+        assert tool.stdin is not None and tool.stdout is not None
+        said = tool.stdout.read()
+    return None if (tool.returncode, said) == (128 + signal.SIGINT, b"") else f"status {tool.returncode}, and it says {said.decode()}"
+
+
+def why_not_too_old(name: str) -> Optional[str]:
+    ran = subprocess.run([sys.executable, "-B", "-c", OLD_PYTHON.format(name)], cwd=TOP, capture_output=True, text=True, check=False)
+    wanted = "Python 3.9 or later is needed, and this is 3.8.18\n"
+    return None if (ran.returncode, ran.stderr) == (1, wanted) else f"status {ran.returncode}, and it says {ran.stderr}"

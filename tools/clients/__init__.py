@@ -1,9 +1,6 @@
-"""Frames between clients, front end and coordinator: how they are passed on, recorded, read and played again.
+"""What the checks share that start programs which serve: `stand` has ports, the programs on them, and a front end with coordinators and a relay."""
 
-stand           coordinators, front end and relay, on ports of their own
-relay           passes frames on on both sides of a front end, records them, cuts and delays
-log             what a relay has recorded, as requests with their replies
-holds           who may read what, by the frames
-conversation    a recorded conversation, as a file
-replay          plays conversations again, and compares bytes
-"""
+import sys
+
+if sys.version_info < (3, 9):
+    sys.exit(f"Python 3.9 or later is needed, and this is {sys.version.split()[0]}")

@@ -10,8 +10,8 @@ import sys
 import time
 from typing import Dict, List, Optional, Sequence
 
-HERE = pathlib.Path(__file__).resolve().parent
-TOP = HERE.parent.parent
+TOP = pathlib.Path(__file__).resolve().parents[2]
+RELAY = TOP / "broker/trials/relay.py"
 HOST = "127.0.0.1"
 START_SECONDS = 180
 END_SECONDS = 5
@@ -98,7 +98,7 @@ class Programs:
     def relay(self, control: int, sides: Sequence[str], *options: str) -> None:
         """Starts a relay that records frames.log in the folder."""
         record = ["--record", str(self.folder / "frames.log"), "--control", str(control)]
-        self.start("relay", "listening", [sys.executable, "-B", str(HERE / "relay.py"), *record, *options, *sides])
+        self.start("relay", "listening", [sys.executable, "-B", str(RELAY), *record, *options, *sides])
 
     def end(self) -> List[str]:
         """Ends all programs. Names those that had ended before."""

@@ -108,8 +108,10 @@ class Kept:
 
     FOLDER = os.path.join(os.environ.get("XDG_CACHE_HOME") or os.path.expanduser("~/.cache"), "migwelun-refused")
 
-    def __init__(self, tree: Tree, *words: object, parts: Iterable[str] = PARTS) -> None:
+    def __init__(self, tree: Tree, *words: object, parts: Iterable[str] = PARTS, below: Optional[Iterable[str]] = None) -> None:
         self.tree, self.parts, self.words = tree, (*parts,), [*words, content(f"{tree.kit}/KIT-ID")]
+        # Of the crates below, where it rests on less of them.
+        self.below = Kept(tree, parts=below) if below else self
         self.sums: Dict[str, str] = {}
 
     def place(self, names: Iterable[str], *words: object) -> str:
@@ -121,7 +123,7 @@ class Kept:
         if name not in self.sums:
             files = [it for it in self.tree.sources(name) if it.startswith(self.parts)]
             texts = [(it, content(f"{self.tree.folder(name)}/{it}")) for it in files]
-            parts = [name, self.tree.uses[name], texts, [self.crate(it) for it in self.tree.own(name)]]
+            parts = [name, self.tree.uses[name], texts, [self.below.crate(it) for it in self.tree.own(name)]]
             self.sums[name] = hashlib.sha256(repr(parts).encode()).hexdigest()
         return self.sums[name]
 

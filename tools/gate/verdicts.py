@@ -55,8 +55,16 @@ class Verdict:
         return (errors or self.said[-1:] or [""])[0][:200]
 
     def failing(self) -> Set[str]:
-        """The functions that fail of their own. (Closures and inner functions have names that go on behind their function's.)"""
+        """The functions that fail of their own. (Closures and inner functions have names that continue their function's.)"""
         return {name for name, said in self.lines.items() if fails(said)}
+
+    def error_outside_proofs(self) -> Optional[str]:
+        return next((f"an error in {it[1]}" for it in map(MESSAGE.match, self.said) if it and not it[1].startswith("proofs/")), None)
+
+    def robbed(self, says: "re.Pattern[str]" = NAMES_WHAT_IS_GONE) -> Set[str]:
+        """The functions whose proof files use names that are gone (by the folders that these files stand in)."""
+        found = [it for it in map(MESSAGE.match, self.said) if it and it[1].startswith("proofs/") and says.search(it[0])]
+        return {part for it in found for part in it[1].split("/")}
 
     def is_all_by_name(self) -> bool:
         """Whether nothing is said to be wrong but that proof files use names that are gone."""
@@ -65,7 +73,7 @@ class Verdict:
 
 
 def fails(said: str) -> bool:
-    """Whether the text behind `fn NAME: ` says that the function's own proof fails, and not just that of one that it calls."""
+    """Whether the text after `fn NAME: ` says that the function's own proof fails, and not just that of one that it calls."""
     rest = re.sub(r"[;\s]+$", "", CALLS.sub("", said))
     rests = rest != said and rest == "no proof:"
     return not (IS_PROVED.fullmatch(said) or WAITS_FOR.search(said) or rests)

@@ -1,7 +1,7 @@
 """Wrong code that must be refused: reading it, and applying it to the texts of a crate.
 
-    crates/NAME/must-fail/*.edit   wrong bodies that the prover must refuse, at most 12: `rt ci` tries them
-    crates/NAME/wrong.txt          all others of the crate
+    crates/NAME/must-fail/*.edit   the few wrong bodies that `rt ci` tries, each in a check of its own
+    crates/NAME/wrong.txt          all others of the crate, which `tools/edits` tries, many in a check
 
 A file of must-fail has a line `file: src/x.rt` and then pairs of lines `old: TEXT` and `new: TEXT`. Each TEXT is a part of one line and stands
 once in that file; a later pair applies to what the earlier ones made. So no line moves. In wrong.txt an empty line stands before each, and then
@@ -112,6 +112,15 @@ def change_of(it: Wrong, read: Callable[[str], str]) -> Change:
     return Change(texts, {(path, at) for path, lines in pairs.items() for at, (old, new) in enumerate(lines) if old != new})
 
 
+def merged(changes: Iterable[Change], read: Callable[[str], str]) -> Dict[str, str]:
+    """The texts that several changes leave together. No two of them turn one line."""
+    texts: Dict[str, List[str]] = {}
+    for change in changes:
+        for path, at in change.lines:
+            texts.setdefault(path, read(path).split("\n"))[at] = change.texts[path].split("\n")[at]
+    return {path: "\n".join(lines) for path, lines in texts.items()}
+
+
 def functions_in(text: str) -> List[Tuple[str, int, int]]:
     """The functions of a file that stand in no other one: name, first line and last line, from 0.
 
@@ -146,3 +155,12 @@ def functions_of(change: Change, read: Callable[[str], str]) -> Set[str]:
     for path in (it for it in change.texts if it.startswith("src/")):
         found |= {name for name, first, last in functions_in(read(path)) if any((path, at) in change.lines for at in range(first, last + 1))}
     return found
+
+
+def is_in_functions(change: Change, read: Callable[[str], str]) -> bool:
+    """Whether a change turns nothing but lines of functions and of their own proof files."""
+    spans = {path: functions_in(read(path)) for path in change.texts if path.startswith("src/")}
+    return all(
+        any(first <= at <= last for _, first, last in spans[path]) if path in spans else path.startswith("proofs/") and path.count("/") > 1
+        for path, at in change.lines
+    )

@@ -5,37 +5,60 @@ import pathlib
 import shutil
 import signal
 import sys
-from typing import List
+from typing import List, Optional
 
 sys.path[0] = os.path.dirname(os.path.dirname(os.path.realpath(__file__)))
 
 from gate import commands, crates  # noqa: E402
 from launch import answers, build, sources, unproved  # noqa: E402
 
-UNPROVED, VERSION = "--unproved", ("--version",)
+UNPROVED = "--unproved"
+# What the launcher's own help is, below the program's.
+OWN_HELP = f"""
+Before these words, ./coord takes:
+  {UNPROVED}  Compiles the program without proofs, in minutes, and runs that"""
 
 
 def main(words: List[str]) -> int:
     tree = crates.Tree(crates.repository(), "")
     is_proved = words[:1] != [UNPROVED]
     words = words if is_proved else words[1:]
-    kept = sources.program(tree) if is_proved else sources.Kept(tree, unproved.NAME)
+    name = sources.BROKER if words[:1] == ["broker"] else sources.COORD
+    words = words[1:] if name == sources.BROKER else words
+    kept = sources.program(tree, name, is_proved)
     is_there, state = kept.is_current(), "proved" if is_proved else unproved.STATE
-    asked = answers.canonical(words)
-    text = answers.of(tree.root).get(asked)
-    if text is not None and (asked == VERSION or not is_there):
-        signal.signal(signal.SIGPIPE, signal.SIG_DFL)
-        print(f"{text}, {state if is_there else 'not built'}" if asked == VERSION else text, file=sys.stdout if asked == VERSION else sys.stderr)
-        return 0 if asked == VERSION else 2
+    told = answered(tree, words, is_there, state) if name == sources.COORD else None
+    if told is not None:
+        return told
     if not is_there:
+        for why in kept.what_is_missing():
+            build.say(why)
         make = build.build if is_proved else unproved.compile_program
+        if kept.crate not in tree.uses:
+            build.say(f"this tree has no such program: crates.txt names no crate {kept.crate}")
+            return 1
         if not has_toolchain(tree) or not make(tree, kept):
             return 1
     if not is_proved:
         build.say(state)
     # Python ignores this signal, and the program would inherit that.
     signal.signal(signal.SIGPIPE, signal.SIG_DFL)
-    return os.execv(kept.file, ["coord", *words])
+    return os.execv(kept.file, [name, *words])
+
+
+def answered(tree: crates.Tree, words: List[str], is_there: bool, state: str) -> Optional[int]:
+    """Answers words that run nothing, and gives the status; None where the program has to be asked."""
+    signal.signal(signal.SIGPIPE, signal.SIG_DFL)
+    helps = answers.of_help(tree.root)
+    if words[:1] and words[0] in answers.VERSION:
+        print(f"{helps['--version',]}, {state if is_there else 'not built'}")
+        return 0
+    text = answers.of(helps, words)
+    is_help = text == helps["--help",]
+    if text is None or is_there and not is_help:
+        return None
+    print(text, *[OWN_HELP] * is_help, sep="\n", file=sys.stderr)
+    return 2
 
 
 def has_toolchain(tree: crates.Tree) -> bool:
@@ -51,4 +74,7 @@ def has_toolchain(tree: crates.Tree) -> bool:
 
 
 if __name__ == "__main__":
-    sys.exit(main(sys.argv[1:]))
+    try:
+        sys.exit(main(sys.argv[1:]))
+    except OSError as fault:
+        sys.exit(f"coord: {fault.filename or 'standard output'}: {fault.strerror}")

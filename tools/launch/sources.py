@@ -9,11 +9,14 @@ import hashlib
 import os
 import pathlib
 import subprocess
-from typing import Sequence
+from typing import Iterator, Sequence
 
 from gate import crates
 
 PROGRAM, LIBRARY = "scenario_cli", "coord_c"
+# The programs by the names of their files, and the crate of each.
+COORD, BROKER = "coord", "coord-broker"
+PROGRAMS = {COORD: PROGRAM, BROKER: "broker_cli"}
 # How long a change may hide behind one of the same moment, in seconds.
 TICK = 0.02
 
@@ -42,6 +45,13 @@ class Kept:
             self.write(self.list, listed)
         return True
 
+    def what_is_missing(self) -> Iterator[str]:
+        """Why a file that is there isn't taken for current, where what goes with it is missing."""
+        lost = [f"out/{it.name}" for it in (*self.beside, self.sum) if not it.exists()]
+        if self.file.exists() and lost:
+            are, say = ("is", "says") if len(lost) == 1 else ("are", "say")
+            yield f"out/{self.file.name} is there, and {' and '.join(lost)}, which {say} what it was made of, {are} not: it is built again"
+
     def sums(self, made_of: str) -> str:
         files = (hashlib.sha256(it.read_bytes()).hexdigest() for it in (self.file, *self.beside))
         return " ".join([made_of, *files]) + "\n"
@@ -69,9 +79,9 @@ class Kept:
         return subprocess.run(words, stdout=subprocess.PIPE).stdout
 
 
-def program(tree: crates.Tree) -> Kept:
-    """The proved program. The object that it is linked of is kept for packages."""
-    return Kept(tree, "coord", beside=["coord.o"])
+def program(tree: crates.Tree, name: str = COORD, is_proved: bool = True) -> Kept:
+    """A program. The object that a proved one is linked of is kept for packages."""
+    return Kept(tree, name if is_proved else f"{name}-unproved", PROGRAMS[name], [f"{name}.o"] * is_proved)
 
 
 def sum_of(tree: crates.Tree, name: str, kit: str = "") -> str:

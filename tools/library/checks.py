@@ -8,9 +8,13 @@ import subprocess
 import sys
 from typing import Iterator, List, NamedTuple, Optional, Sequence
 
-from clients import conversation, replay
 from gate import commands
 from gate.checks import TOP, Check, Failed, rebalances, why_fails
+
+sys.path.insert(0, str(TOP))
+
+# pylint: disable=wrong-import-position
+from broker.trials import conversation, replay
 
 AT_ONCE = 4
 SECONDS, BUILD_SECONDS = 300, 1_500

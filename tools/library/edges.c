@@ -1,7 +1,7 @@
 /*
  * Sees that the C library does what include/migwelun.h says at the edges: empty and full slots, bodies of every short length, short
  * buffers, names that are no text, each fault of topics, what may be read, and snapshots. Prints what it finds otherwise; the last line is
- * `N passed, M failed`, and the status is 0 where none failed.
+ * `N passed, M failed`, and the status is 0 if none failed.
  */
 #include <stdio.h>
 #include <stdlib.h>

@@ -39,7 +39,7 @@ def zipped(content: bytes) -> bytes:
 
 
 def deb(files: Files, control: Dict[str, str], scripts: Dict[str, str], seconds: int) -> bytes:
-    """A Debian package: the fields of its control file, and the scripts and lists beside it."""
+    """A Debian package: the fields of its control file, and the scripts and lists with it."""
     sums = "".join(f"{hashlib.md5(files[it].content).hexdigest()}  {it}\n" for it in sorted(files) if not files[it].link)
     sizes = sum(-(-len(it.content) // 1024) for it in files.values())
     fields = {"Package": control["Package"], "Installed-Size": str(sizes), **control}

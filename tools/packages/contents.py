@@ -15,7 +15,7 @@ from packages import manual, options
 from packages.archives import Entry, Files, zipped
 
 FILES = TOP / "tools/packages/files"
-ANSWERS = answers.of(str(TOP))
+ANSWERS = answers.of_help(str(TOP))
 VERSION = ANSWERS["--version",].split()[1]
 SUBCOMMANDS = ("reply", "frame", "run", "serve")
 # Programs in Python, with the document that their man pages have, and its sections where that isn't all. They are commands migwelun-NAME of the
@@ -29,7 +29,7 @@ PAGES = {
 }
 PROGRAMS = ("broker", "conformance")
 # The folders of theirs that only a repository needs.
-NOT_SHARED = {"tests", "trials", "failover"}
+NOT_SHARED = {"tests", "trials", "failover", "laws"}
 TOOLS = ("tell-run", "draw-run", "write-run", "tell-capture", "run-lines", "reply-lines")
 EXAMPLES = ("*.md", "*.py", "run/*", "reply/*", "frame/*", "capture/*", "embed/*.c", "embed/python/*.py", "embed/rust/*.*", "embed/rust/*/*.rs")
 # The newest C library that may be needed: Debian 11's.

@@ -7,7 +7,7 @@ ghost use Rattle.group_reconcile.specs.Holders.{pairs};
 
 use crate::members::id_of;
 use crate::parts::{part, set_of};
-use group_reconcile::{Grants, Verdict};
+use group_reconcile::{Grants, MemberTarget, Verdict};
 use group_types::{EpochNumber, MemberId, PartSet, Partition, Wanted};
 use std::alloc::{AllocError, Global};
 use std::test::Fail;
@@ -115,6 +115,9 @@ fn make_offer(
     let target = Wanted::new(Some(&offer.wanted), offer.epoch);
     let owned = offer.owned.as_ref();
     let shown = grants.shown_after(offer.member, &target, owned)?;
+    let Some(target) = MemberTarget::of(target) else {
+        return out.push_str("below zero");
+    };
     let verdict = grants.offer(&member, &target, owned)?;
     let is_shown = is_held(grants, offer, &shown);
     put_verdict(verdict, is_shown, out)

@@ -13,7 +13,7 @@ ghost use Rattle.coord_node.specs.Kept.{HasRightNumber, group_in, is_same, known
 ghost use Rattle.coord_node.specs.Answers.{IsSendable};
 
 use crate::success::is_success;
-use group_core::{Group, Outcome};
+use group_core::{Group, MemberHeartbeat, Outcome};
 use group_types::{Moment, Stamp};
 use kip_msgs::{CommitReply, CommitRequest, HeartbeatRequest};
 use std::alloc::{AllocError, Global};
@@ -69,9 +69,10 @@ impl Kept {
         ensures err { OnErr result (self.new ≡ self.old) }
     {
         let is_current = self.is_current(generation);
+        let heartbeat = MemberHeartbeat { request };
         let outcome = self
             .group
-            .heartbeat_over(request, stamp, now, image, is_current, out)?;
+            .heartbeat_over(&heartbeat, stamp, now, image, is_current, out)?;
         self.known = known_after(&outcome, self.known, generation);
         Ok(outcome)
     }

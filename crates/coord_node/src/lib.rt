@@ -21,7 +21,11 @@ mod success;
 mod tick;
 
 pub use event::{Answered, NodeEvent};
-pub use group_core::{Committed, Group, Image, Moment, Stamp};
+pub use group_core::{
+    AssignorName, Code, Committed, CommittedAt, Epoch, EpochNumber, Grants, Group, Image, MemberId,
+    Moment, NameSet, Offsets, PartSet, Partition, Record, Records, Stamp, Target, View, Wanted,
+};
+pub use kip_msgs::Request;
 pub use laws::{
     coordinators_serve, events_are_answered, groups_are_made_by_success, groups_are_sound,
     one_answer, path_is_answered, replies_fit, runs_are_answered, steps_are_sound,

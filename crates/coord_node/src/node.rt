@@ -1,17 +1,17 @@
 //! The node and its answers.
-ghost use Rattle.std.specs.Prelude.{◌≡◌, ◌↔◌, ◌+◌, ◌-◌, ◌≤◌, IfOk, OnOk, OnErr, IsTrue, None, length, map, vec_capacity};
+ghost use Rattle.std.specs.Prelude.{◌≡◌, ◌↔◌, ◌+◌, ◌-◌, ◌≤◌, IfOk, OnOk, OnErr, IsTrue, None, length, map, slice_get, vec_capacity};
 ghost use Rattle.std.specs.Option.{option_copied, option_map};
 ghost use Rattle.std.specs.FinMap as finite;
 ghost use Rattle.kip_msgs.specs.Values.{RequestValue};
-ghost use Rattle.kip_msgs.specs.Spelling.{commit_request_fields, request_body, FitsCommitRequest, FitsRequest, SpellsRequest};
+ghost use Rattle.kip_msgs.specs.Spelling.{commit_request_fields, request_body, FitsCommitRequest, FitsRequest};
 ghost use Rattle.kip_msgs.specs.Views.{commit_reply_value, commit_request_value, heartbeat_request_value, request_value};
-ghost use Rattle.group_types.specs.Limits.{SMALLEST_BODY as FEWEST_BYTES, LARGEST_BODY as MOST_BYTES, LONGEST_STRING};
+ghost use Rattle.group_types.specs.Limits.{LARGEST_BODY as MOST_BYTES, LONGEST_STRING};
 ghost use Rattle.group_types.specs.Images.{AreImageTopics};
 ghost use Rattle.group_epochs.specs.Request.{arrival_of};
 ghost use Rattle.group_core.specs.Outcome.{answer_of};
 ghost use Rattle.coord_node.specs.Coordinator.{Done, Frame, Tick, committed_at, is_remembered_at};
 ghost use Rattle.coord_node.specs.Nodes.{HasEachOnce, coordinator_of, held_of, node_opening};
-ghost use Rattle.coord_node.specs.Steps.{HeartbeatAt, Step};
+ghost use Rattle.coord_node.specs.Steps.{HeartbeatAt, IsRequest, Step};
 ghost use Rattle.coord_node.specs.Answers.{Answers, AnswersRequest, AnswersHeartbeat, ClosesAtOnce, CommitsIn, IsCommitted, IsSendable, IsSent};
 ghost use Rattle.coord_node.specs.Restored.{CanBeKept, listed_named, with_named_if};
 
@@ -20,12 +20,11 @@ use crate::admission::{admit, restore};
 use crate::event::Answered;
 use crate::kept::Kept;
 use crate::parsed::ParsedBody;
-use crate::restored::{NamedGroup, listed};
+use crate::restored::{NamedGroup, listed, named_at};
 use crate::tick::tick_all;
 use crate::{commit_frame, heartbeat_frame};
 use group_core::{Committed, Group, Outcome};
 use group_epochs::place_of;
-use group_types::limits::{LARGEST_BODY, SMALLEST_BODY};
 use group_types::{Moment, Stamp};
 use indexmap::IndexMap;
 use kip_msgs::{CommitReply, CommitRequest, HeartbeatRequest, Request};
@@ -138,6 +137,14 @@ impl Node {
         listed(self.alloc, &self.groups)
     }
 
+    /// The group at a place, with its name, in the order of their making; none past the last. So a caller goes over all groups without
+    /// taking memory.
+    pub fn group_at(&self, place: usize) -> Option<NamedGroup<'_>>
+        ensures { option_map listed_named result ≡ slice_get self.now.groups place }
+    {
+        named_at(&self.groups, place)
+    }
+
     /// Adds a group that was restored under a name, behind the others, and says whether it did: the name is one that a join may have,
     /// the node has no group of it, and has room for one more. If not, or where memory is short, nothing changes.
     pub fn restore_group(&mut self, name: &str, group: Group) -> Result<bool, AllocError>
@@ -202,11 +209,8 @@ impl Node {
         // A body that closes at once takes no memory.
         ensures at_once { ClosesAtOnce body.now → result ≡ Ok Answered.Closes }
     {
-        if !has_length_of_a_frame(body) {
-            return Ok(Answered::Closes);
-        }
         let parsed = ParsedBody::of(self.alloc, body)?;
-        self.answer_fitting(&parsed, stamp, now, out)
+        self.answer_parsed(&parsed, stamp, now, out)
     }
 
     /// Answers a body that was read before, as [`Node::answer`] does: its bytes aren't read once more.
@@ -220,28 +224,8 @@ impl Node {
         ensures step { IfOk result (λ answered.
             Answers (coordinator_of self.old) (Frame parsed.now stamp now) answered (coordinator_of self.new) out.old.items out.new.items) }
         ensures err { OnErr result ((self.new ≡ self.old) × (out.new.items ≡ out.old.items)) }
-        // A body that is no request takes no memory.
-        ensures no_request { ((v : RequestValue) → ¬ SpellsRequest v parsed.now) → result ≡ Ok Answered.Closes }
-    {
-        if !has_length_of_a_frame(parsed.bytes()) {
-            return Ok(Answered::Closes);
-        }
-        self.answer_fitting(parsed, stamp, now, out)
-    }
-
-    /// Answers a body that was read, and whose length is that of a frame.
-    fn answer_fitting(
-        &mut self,
-        parsed: &ParsedBody<'_>,
-        stamp: Stamp,
-        now: Moment,
-        out: &mut Vec<u8>,
-    ) -> Result<Answered, AllocError>
-        requires length { (FEWEST_BYTES ≤ length parsed.now) × (length parsed.now ≤ MOST_BYTES) }
-        ensures step { IfOk result (λ answered.
-            Answers (coordinator_of self.old) (Frame parsed.now stamp now) answered (coordinator_of self.new) out.old.items out.new.items) }
-        ensures err { OnErr result ((self.new ≡ self.old) × (out.new.items ≡ out.old.items)) }
-        ensures no_request { ((v : RequestValue) → ¬ SpellsRequest v parsed.now) → result ≡ Ok Answered.Closes }
+        // A body that is no request, one of a refused length among them, takes no memory.
+        ensures no_request { ((v : RequestValue) → ¬ IsRequest v parsed.now) → result ≡ Ok Answered.Closes }
     {
         let size = parsed.bytes().len();
         match parsed.request() {
@@ -394,13 +378,6 @@ impl Node {
             }
         }
     }
-}
-
-/// Whether the body of a frame may have this length.
-fn has_length_of_a_frame(body: &[u8]) -> bool
-    ensures { IsTrue result ↔ ((FEWEST_BYTES ≤ length body.now) × (length body.now ≤ MOST_BYTES)) }
-{
-    SMALLEST_BODY <= body.len() && body.len() <= LARGEST_BODY
 }
 
 /// Sends what a group answered, in the room that is there. Takes no memory.

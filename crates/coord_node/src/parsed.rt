@@ -1,11 +1,13 @@
 //! A frame's body that has been read.
-ghost use Rattle.std.specs.Prelude.{◌≡◌, ◌⊎◌, IfOk, IsOk};
+ghost use Rattle.std.specs.Prelude.{◌≡◌, ◌↔◌, IfOk, IsOk, IsTrue};
 ghost use Rattle.std.specs.Option.{option_copied};
 ghost use Rattle.kip_msgs.specs.Values.{RequestValue};
-ghost use Rattle.kip_msgs.specs.Spelling.{SpellsRequest};
-ghost use Rattle.kip_msgs.specs.Heads.{HasUnknownKey, HasUnknownVersion};
+ghost use Rattle.group_types.specs.Frames.{IsBody};
+ghost use Rattle.coord_node.specs.Answers.{ClosesAtOnce};
 ghost use Rattle.coord_node.specs.Parsed.{IsGroupOf};
+ghost use Rattle.coord_node.specs.Steps.{IsRequest};
 
+use group_types::limits::{LARGEST_BODY, SMALLEST_BODY};
 use kip_msgs::{MsgFault, Request, read_request};
 use std::alloc::{AllocError, Global};
 use std::marker::Model;
@@ -16,7 +18,7 @@ use std::marker::Model;
 #[derive(Drop)]
 pub struct ParsedBody<'a> {
     bytes: &'a [u8],
-    /// None where the bytes are no request.
+    /// None if the bytes are no request, or have no length of a frame's body.
     request: Option<Request<'a>>,
 }
 
@@ -38,14 +40,20 @@ impl<'a> ParsedBody<'a> {
     ghost use Rattle.kip_msgs.specs.Views.{request_value};
     ghost use Rattle.coord_node.specs.Parsed.{IsRequestOf};
 
-    /// Reads a body. Its texts are lent and not copied. Fails where memory is too short to read it.
+    /// Reads a body, unless it is too long or empty: then it is no request. Its texts are borrowed and not copied. Fails if memory is
+    /// too short to read it.
     #[inline(always)]
     pub fn of(alloc: Global, body: &'a [u8]) -> Result<ParsedBody<'a>, AllocError>
         ensures bytes { IfOk result (λ parsed. parsed ≡ body.now) }
-        // A body of another API or version takes no memory, and is no request.
-        ensures at_once { HasUnknownKey body.now ⊎ HasUnknownVersion body.now →
-            IsOk result × ((v : RequestValue) → ¬ SpellsRequest v body.now) }
+        // A body of a refused length, of another API or of another version takes no memory, and is no request.
+        ensures at_once { ClosesAtOnce body.now → IsOk result × ((v : RequestValue) → ¬ IsRequest v body.now) }
     {
+        if !has_length_of_a_body(body) {
+            return Ok(ParsedBody {
+                bytes: body,
+                request: None,
+            });
+        }
         match read_request(alloc, body) {
             Ok(request) => Ok(ParsedBody {
                 bytes: body,
@@ -83,4 +91,11 @@ impl<'a> ParsedBody<'a> {
             None => None,
         }
     }
+}
+
+/// Whether the body of a frame may have this length.
+fn has_length_of_a_body(body: &[u8]) -> bool
+    ensures { IsTrue result ↔ IsBody body.now }
+{
+    SMALLEST_BODY <= body.len() && body.len() <= LARGEST_BODY
 }

@@ -6,7 +6,7 @@ use Rattle.kip_msgs.specs.Heads.{HasFieldFault, HasLeftOver}
 use Rattle.kip_msgs.specs.Spelling.{SpellsRequest}
 use Rattle.kip_msgs.specs.Values.{RequestValue}
 use Rattle.coord_server.specs.declared.reason.Reason.{Reason}
-use Rattle.coord_server.specs.declared.reason.Reason.TheVariants.{Api, Version, Field, LeftOver, Overtaken, Size, Silent, Unread}
+use Rattle.coord_server.specs.declared.reason.Reason.TheVariants.{Api, Version, Field, LeftOver, Overtaken, Request, Size, Silent, Unread}
 
 -- It begins with the key of no API, or with that of an API and a version that isn't the API's; it is no request, for this fault of a field
 -- or for the bytes behind it; or it is a request. The others aren't reasons of a body.
@@ -16,6 +16,7 @@ IsReason body (Version api version) = (rest : List ℕ) × (version ≢ version_
 IsReason body (Field fault) = HasFieldFault fault body
 IsReason body LeftOver = HasLeftOver body
 IsReason body Overtaken = (v : RequestValue) × SpellsRequest v body
+IsReason body (Request key) = ⊥
 IsReason body Size = ⊥
 IsReason body (Silent seconds) = ⊥
 IsReason body (Unread seconds) = ⊥

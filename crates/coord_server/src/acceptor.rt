@@ -10,10 +10,10 @@ use std::sync::Wait;
 
 /// Numbers the connections from 1, and sends connection `k`, of `n` workers, to the worker with number `k` modulo `n`.
 #[derive(Drop)]
-pub struct Acceptor<'a, L, K: Drop> {
+pub struct Acceptor<'a, L: Listener> {
     poller: Poller,
     listener: L,
-    senders: Vec<WorkerSender<K>>,
+    senders: Vec<WorkerSender<L::Connection>>,
     /// How many connections have come.
     accepted: u64,
     /// How many may come.
@@ -24,15 +24,15 @@ pub struct Acceptor<'a, L, K: Drop> {
     ghost placed: { AreSenders (vec_len senders) senders.items },
 }
 
-impl<'a, L: Listener<K>, K: Drop> Acceptor<'a, L, K> {
+impl<'a, L: Listener> Acceptor<'a, L> {
     /// An acceptor before the first connection, whose waker is that of its poller.
     pub fn new(
         poller: Poller,
         listener: L,
-        senders: Vec<WorkerSender<K>>,
+        senders: Vec<WorkerSender<L::Connection>>,
         most: u64,
         waker: &'a AcceptorWaker,
-    ) -> Acceptor<'a, L, K>
+    ) -> Acceptor<'a, L>
         requires some { 0 < vec_len senders }
         requires placed { AreSenders (vec_len senders) senders.items }
         ensures { (result.senders ≡ senders) × (result.accepted ≡ 0) × (result.most ≡ most) }
@@ -92,7 +92,7 @@ impl<'a, L: Listener<K>, K: Drop> Acceptor<'a, L, K> {
     }
 
     /// Sends the next connection, whose number is one above the last, to its worker.
-    fn hand_out(&mut self, connection: K)
+    fn hand_out(&mut self, connection: L::Connection)
         requires { self.old.accepted < self.old.most }
         ensures counted { self.new.accepted ≡ self.old.accepted + 1 }
         ensures others { (self.new.senders ≡ self.old.senders) × (self.new.most ≡ self.old.most) }

@@ -122,7 +122,10 @@ impl<'a, A: Ledger, C: Ledger, G: Gate, M: Moments, R: Wait> Desk
             stamp,
             moment,
             out,
-        )?;
+        );
+        let Ok(answered) = answered else {
+            return Err(AllocError);
+        };
         if answered == Answered::Closes {
             self.log
                 .note_body(self.rt, self.alloc, stamp.connection, body);

@@ -96,19 +96,18 @@ struct RunningLoops<B: Future<Output = Ended>, E: Future<Output = Ended>> {
 /// calling thread. Once it has ended all threads are stopped.
 ///
 /// Gives how many connections came.
-pub fn run_beside<'a, R, B, E, L, K, N>(
+pub fn run_beside<'a, R, B, E, L, N>(
     rt: &R,
     plan: Plan,
     loops: EventLoops<'a, B, E>,
-    acceptor: Acceptor<'a, L, K>,
+    acceptor: Acceptor<'a, L>,
     announce: N,
 ) -> Result<u64, ServerFault>
 where
     R: LoopRuntime + Threads + Sync,
     B: Resumable<Output = Ended> + Send,
     E: Resumable<Output = Ended> + Send,
-    L: Listener<K>,
-    K: Drop,
+    L: Listener,
     N: Announce,
     requires { IsPlanned plan (vec_len loops.workers) (vec_len loops.expiry) }
     ensures { IfOk result (λ accepted. accepted ≡ acceptor.entry.most) }
@@ -124,20 +123,19 @@ where
 }
 
 /// The same, on threads of a scope.
-fn run_in<'s, 'a: 's, V, R, B, E, L, K, N>(
+fn run_in<'s, 'a: 's, V, R, B, E, L, N>(
     rt: &'s R,
     scope: &Scope<'s, V>,
     plan: Plan,
     loops: EventLoops<'a, B, E>,
-    acceptor: Acceptor<'a, L, K>,
+    acceptor: Acceptor<'a, L>,
     announce: N,
 ) -> Result<u64, ServerFault>
 where
     R: LoopRuntime + Threads + Sync,
     B: Resumable<Output = Ended> + Send + 's,
     E: Resumable<Output = Ended> + Send + 's,
-    L: Listener<K>,
-    K: Drop,
+    L: Listener,
     N: Announce,
     requires { IsPlanned plan (vec_len loops.workers) (vec_len loops.expiry) }
     ensures { IfOk result (λ accepted. accepted ≡ acceptor.entry.most) }

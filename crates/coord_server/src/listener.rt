@@ -3,24 +3,28 @@ ghost use Rattle.std.specs.Prelude.{◌≡◌, ◌*◌, IfOk, IsSomeAnd};
 ghost use Rattle.std.specs.Duration.{as_nanos};
 
 use crate::log::EndLog;
-use crate::socket::Socket;
+use crate::socket::{Connection, Socket};
 use mio::net::TcpListener;
 use mio::{Interest, Registry, Token};
 use std::io;
-use std::net::TcpStream;
+use std::net::{Net, SocketAddr, SocketAddrV4, TcpStream};
 use std::os::fd::OwnedFd;
-use std::time::Duration;
+use std::sync::Wait;
+use std::time::{Clock, Duration};
 
 /// After how many milliseconds the acceptor looks again after a refused accept, as where the process has no descriptor left.
 const PAUSE: u64 = 50;
 
 /// Where connections come from, none of which is at an event loop yet.
-pub trait Listener<K>: Drop {
+pub trait Listener: Drop {
+    /// A connection that came.
+    type Connection: Connection;
+
     /// Has the registry tell when a connection comes.
     fn register(&mut self, registry: &Registry, token: Token) -> io::Result<()>;
 
     /// The next connection. `WouldBlock` where none waits.
-    fn accept(&mut self) -> io::Result<K>;
+    fn accept(&mut self) -> io::Result<Self::Connection>;
 }
 
 /// What an accept came to.
@@ -60,6 +64,12 @@ impl<K> Accepted<K> {
     }
 }
 
+/// Listens on an address. As many connections may wait to be accepted as the system allows, which a bind of `std` doesn't ask for.
+pub fn listen<R: Net>(rt: &R, address: SocketAddrV4) -> io::Result<std::net::TcpListener> {
+    let socket = TcpListener::bind(rt, SocketAddr::V4(address))?;
+    Ok(std::net::TcpListener::from(socket))
+}
+
 /// A listening socket. What it accepts is at no event loop, so that it may be handed to any thread.
 #[derive(Drop)]
 pub struct SocketListener<'a, R> {
@@ -88,7 +98,9 @@ impl<'a, R> SocketListener<'a, R> {
     }
 }
 
-impl<'a, R> Listener<Socket<'a, R>> for SocketListener<'a, R> {
+impl<'a, R: Clock + Wait> Listener for SocketListener<'a, R> {
+    type Connection = Socket<'a, R>;
+
     fn register(&mut self, registry: &Registry, token: Token) -> io::Result<()> {
         registry.register(&mut self.listener, token, Interest::READABLE)
     }

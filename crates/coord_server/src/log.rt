@@ -48,6 +48,19 @@ impl EndLog {
         }
     }
 
+    /// A log that goes to this writer, if one is wanted.
+    pub fn start_if<R, W>(is_wanted: bool, rt: &R, writer: W) -> Result<EndLog, ServerFault>
+    where
+        R: Wait + Threads + AllocGlobal + Copy + Send + 'static,
+        W: Write + Drop + Send + 'static,
+    {
+        if is_wanted {
+            EndLog::start(rt, writer)
+        } else {
+            Ok(EndLog::none())
+        }
+    }
+
     /// Notes why the server closes the connection with this number, before it ends.
     pub fn note_reason<R: Wait>(&self, rt: &R, connection: u64, reason: Reason) {
         if let Some(queue) = &self.queue {

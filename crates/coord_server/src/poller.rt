@@ -26,9 +26,9 @@ pub struct Poller {
 
 impl Poller {
     /// A poller for the connections of a listener.
-    pub fn new<L, K, R>(rt: &R, listener: &mut L) -> Result<Poller, ServerFault>
+    pub fn new<L, R>(rt: &R, listener: &mut L) -> Result<Poller, ServerFault>
     where
-        L: Listener<K>,
+        L: Listener,
         R: Net + AllocGlobal,
     {
         let poll = Poll::new(rt)?;

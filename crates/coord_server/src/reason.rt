@@ -24,6 +24,8 @@ pub enum Reason {
     LeftOver,
     /// The request is a heartbeat, and a later one of its member was answered before it came.
     Overtaken,
+    /// The request, of the API with this key, isn't answered: it can't be read, or its version isn't served, or its reply would be too long.
+    Request(i16),
     /// A frame says a size that no frame has.
     Size,
     /// No byte came for so many seconds.
@@ -38,7 +40,7 @@ impl Reason {
         match self {
             Reason::Size | Reason::Silent(_) | Reason::Unread(_) => false,
             Reason::Api(_) | Reason::Version(_, _) | Reason::Field(_) => true,
-            Reason::LeftOver | Reason::Overtaken => true,
+            Reason::LeftOver | Reason::Overtaken | Reason::Request(_) => true,
         }
     }
 }
@@ -129,6 +131,10 @@ impl Display for Reason {
             Reason::Field(fault) => write!(f, "no request: {fault}"),
             Reason::LeftOver => write!(f, "no request: bytes are left behind it"),
             Reason::Overtaken => write!(f, "a heartbeat that a later one of its member overtook"),
+            Reason::Request(key) => match name_of(*key) {
+                Some(name) => write!(f, "no request of {name} ({key}) that is answered here"),
+                None => write!(f, "no request of the API {key} that is answered here"),
+            },
             Reason::Size => write!(f, "a frame's size is below 1 or above 8388608"),
             Reason::Silent(seconds) => write!(f, "no byte for {seconds} s"),
             Reason::Unread(seconds) => write!(f, "no reply read for {seconds} s"),
@@ -155,8 +161,10 @@ fn name_of(key: i16) -> Option<&'static str> {
         18 => "ApiVersions",
         19 => "CreateTopics",
         22 => "InitProducerId",
+        23 => "OffsetForLeaderEpoch",
         42 => "DeleteGroups",
         60 => "DescribeCluster",
+        68 => "ConsumerGroupHeartbeat",
         69 => "ConsumerGroupDescribe",
         _ => return None,
     })

@@ -5,7 +5,7 @@ ghost use Rattle.coord_server.specs.Senders.{AreSenders};
 
 use crate::acceptor::Acceptor;
 use crate::channel::WorkerSender;
-use crate::desk::ShardsDesk;
+use crate::desks::Desks;
 use crate::event_loop::EventLoop;
 use crate::event_loops::{Announce, EventLoops, run_beside};
 use crate::expiry::{Expiry, ticks_of};
@@ -17,48 +17,26 @@ use crate::poller::{AcceptorWaker, Poller};
 use crate::runtime::Runtime;
 use crate::socket::Connection;
 use crate::worker_task::{IncomingLines, WorkerTask};
-use coord_shards::{Gate, Shards};
-use link_futures::{Moments, ReadPart, WriteParts};
 use std::net::TcpListener;
-use std::sync::ledger::Ledger;
 use tokio::runtime::LocalRuntime;
 
-/// A server over shards.
+/// A server whose workers have these desks.
 #[derive(Drop)]
-pub struct Server<'a, A: Ledger, C: Ledger, G, M, R> {
+pub struct Server<'a, D, R> {
     pub rt: &'a R,
-    pub shards: &'a Shards<A, C, G>,
-    /// Those of each worker go on from these.
-    pub moments: &'a M,
+    pub desks: &'a D,
     pub plan: Plan,
-    /// Where each end of a connection is noted.
+    /// Where it is noted that a socket is closed for its silence.
     pub log: &'a EndLog,
 }
 
-/// The event loop of a worker.
-type WorkerLoop<'w, 'a, A, C, G, M, R, K, I, O> = EventLoop<
-    'w,
-    WorkerTask<K, I, O, ShardsDesk<'a, A, C, G, M, R>>,
->;
+/// The event loop of a worker over the connections `K`, with the desk `D`.
+type WorkerLoop<'w, K, D> = EventLoop<'w, WorkerTask<K, D>>;
 
-/// The event loop of an expiry worker.
-type ExpiryLoop<'w, 'a, A, C, G, M, R> = EventLoop<'w, Expiry<ShardsDesk<'a, A, C, G, M, R>>>;
+/// Those of the workers, and those of the expiry workers, with the desk `E`.
+type Loops<'w, K, D, E> = EventLoops<'w, WorkerTask<K, D>, Expiry<E>>;
 
-/// Those of a server.
-type Loops<'w, 'a, A, C, G, M, R, K, I, O> = EventLoops<
-    'w,
-    WorkerTask<K, I, O, ShardsDesk<'a, A, C, G, M, R>>,
-    Expiry<ShardsDesk<'a, A, C, G, M, R>>,
->;
-
-impl<'a, A, C, G, M, R> Server<'a, A, C, G, M, R>
-where
-    A: Ledger + Send + Sync,
-    C: Ledger + Send + Sync,
-    G: Gate + Sync,
-    M: Moments + Clone + Send,
-    R: Runtime + Sync,
-{
+impl<'a, D: Desks, R: Runtime + Sync> Server<'a, D, R> {
     /// Serves the connections of a listening socket, as [`Server::run`] does.
     pub fn serve_sockets<N: Announce>(
         &self,
@@ -74,32 +52,34 @@ where
     /// Serves the connections of a listener until as many have ended as the plan says. Gives their number.
     ///
     /// It announces that it serves once all its threads are there.
-    pub fn run<L, K, I, O, N>(&self, listener: L, announce: N) -> Result<u64, ServerFault>
+    pub fn run<L, N>(&self, listener: L, announce: N) -> Result<u64, ServerFault>
     where
-        L: Listener<K>,
-        K: Connection<I, O> + Send,
-        I: ReadPart + Send,
-        O: WriteParts + Send,
+        L: Listener,
         N: Announce,
+        L::Connection: Send,
+        <L::Connection as Connection>::Reader: Send,
+        <L::Connection as Connection>::Writer: Send,
         ensures { IfOk result (λ served. served ≡ self.now.plan.connections) }
     {
         let mut listener = listener;
         let poller = Poller::new(self.rt, &mut listener)?;
         let waker = poller.waker()?;
-        let (senders, loops) = self.event_loops::<K, I, O>(&waker)?;
+        let (senders, loops) = self.event_loops::<L::Connection>(&waker)?;
         let acceptor = Acceptor::new(poller, listener, senders, self.plan.connections, &waker);
         run_beside(self.rt, self.plan, loops, acceptor, announce)
     }
 
     /// The senders to the workers, and the event loops of the workers and of the expiry workers.
-    fn event_loops<'w, K, I, O>(
+    fn event_loops<'w, K: Connection>(
         &self,
         waker: &'w AcceptorWaker,
-    ) -> Result<(Vec<WorkerSender<K>>, Loops<'w, 'a, A, C, G, M, R, K, I, O>), ServerFault>
-    where
-        K: Connection<I, O>,
-        I: ReadPart,
-        O: WriteParts,
+    ) -> Result<
+        (
+            Vec<WorkerSender<K>>,
+            Loops<'w, K, D::WorkerDesk, D::ExpiryDesk>,
+        ),
+        ServerFault,
+    >
         ensures senders { IfOk result (λ made. vec_len made.0 ≡ self.now.plan.workers) }
         ensures placed { IfOk result (λ made. AreSenders self.now.plan.workers made.0.items) }
         ensures all { IfOk result (λ made. IsPlanned self.now.plan (vec_len made.1.workers) (vec_len made.1.expiry)) }
@@ -111,15 +91,11 @@ where
     }
 
     /// The event loops of the workers. The senders to them are put where there is none yet.
-    fn worker_loops<'w, K, I, O>(
+    fn worker_loops<'w, K: Connection>(
         &self,
         senders: &mut Vec<WorkerSender<K>>,
         waker: &'w AcceptorWaker,
-    ) -> Result<Vec<WorkerLoop<'w, 'a, A, C, G, M, R, K, I, O>>, ServerFault>
-    where
-        K: Connection<I, O>,
-        I: ReadPart,
-        O: WriteParts,
+    ) -> Result<Vec<WorkerLoop<'w, K, D::WorkerDesk>>, ServerFault>
         requires { senders.old.items ≡ [] }
         ensures senders { OnOk result (vec_len senders.new ≡ self.now.plan.workers) }
         ensures placed { OnOk result (AreSenders self.now.plan.workers senders.new.items) }
@@ -134,19 +110,15 @@ where
     }
 
     /// The event loop of the worker that follows those that `senders` send to. The sender to it is put behind theirs.
-    fn worker_loop<'w, K, I, O>(
+    fn worker_loop<'w, K: Connection>(
         &self,
         senders: &mut Vec<WorkerSender<K>>,
         waker: &'w AcceptorWaker,
-    ) -> Result<WorkerLoop<'w, 'a, A, C, G, M, R, K, I, O>, ServerFault>
-    where
-        K: Connection<I, O>,
-        I: ReadPart,
-        O: WriteParts,
+    ) -> Result<WorkerLoop<'w, K, D::WorkerDesk>, ServerFault>
         ensures more { OnOk result (vec_len senders.new ≡ vec_len senders.old + 1) }
         ensures placed { AreSenders self.now.plan.workers senders.old.items → OnOk result (AreSenders self.now.plan.workers senders.new.items) }
     {
-        let desk = self.desk()?;
+        let desk = self.desks.desk_of(senders.len())?;
         let runtime = LocalRuntime::new(self.rt)?;
         match IncomingLines::new(self.rt, runtime.handle(), senders, self.plan.workers) {
             Ok(lines) => Ok(EventLoop {
@@ -165,7 +137,7 @@ where
     fn expiry_loops<'w>(
         &self,
         waker: &'w AcceptorWaker,
-    ) -> Result<Vec<ExpiryLoop<'w, 'a, A, C, G, M, R>>, ServerFault>
+    ) -> Result<Vec<EventLoop<'w, Expiry<D::ExpiryDesk>>>, ServerFault>
         ensures { IfOk result (λ expiry. vec_len expiry ≡ expiry_worker_count self.now.plan.expires) }
     {
         let mut expiry = Vec::new(self.rt.alloc());
@@ -180,8 +152,8 @@ where
     fn expiry_loop<'w>(
         &self,
         waker: &'w AcceptorWaker,
-    ) -> Result<ExpiryLoop<'w, 'a, A, C, G, M, R>, ServerFault> {
-        let desk = self.desk()?;
+    ) -> Result<EventLoop<'w, Expiry<D::ExpiryDesk>>, ServerFault> {
+        let desk = self.desks.expiry()?;
         let runtime = LocalRuntime::new(self.rt)?;
         match ticks_of(self.rt, runtime.handle().time()) {
             Ok(ticks) => Ok(EventLoop {
@@ -194,11 +166,5 @@ where
                 Err(error.into())
             }
         }
-    }
-
-    /// A desk over the shards, with a seat of its own.
-    fn desk(&self) -> Result<ShardsDesk<'a, A, C, G, M, R>, ServerFault> {
-        let moments = self.moments.clone()?;
-        Ok(ShardsDesk::new(self.rt, self.rt.alloc(), self.shards, moments, self.log)?)
     }
 }

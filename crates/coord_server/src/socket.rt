@@ -25,9 +25,15 @@ use tokio::net::{OwnedReadHalf, OwnedWriteHalf};
 use tokio::runtime::Handle;
 
 /// A connection that is at no event loop yet.
-pub trait Connection<I, O>: Drop {
+pub trait Connection: Drop {
+    /// What is read of it.
+    type Reader: ReadPart;
+
+    /// What is written.
+    type Writer: WriteParts;
+
     /// What is read and what is written of the connection with this number, at the event loop of this handle.
-    fn open(self, number: u64, handle: &Handle) -> io::Result<(I, O)>;
+    fn open(self, number: u64, handle: &Handle) -> io::Result<(Self::Reader, Self::Writer)>;
 }
 
 /// What is read of a socket, and what is written.
@@ -83,7 +89,11 @@ fn halves_of(stream: TcpStream, handle: &Handle) -> io::Result<(OwnedReadHalf, O
     Ok(stream.into_split()?)
 }
 
-impl<'a, R: Clock + Wait> Connection<SocketReader<'a, R>, SocketWriter<'a, R>> for Socket<'a, R> {
+impl<'a, R: Clock + Wait> Connection for Socket<'a, R> {
+    type Reader = SocketReader<'a, R>;
+
+    type Writer = SocketWriter<'a, R>;
+
     fn open(
         self,
         number: u64,
@@ -99,7 +109,11 @@ impl<'a, R: Clock + Wait> Connection<SocketReader<'a, R>, SocketWriter<'a, R>> f
 }
 
 /// A reader and a writer that need no event loop, as those over memory.
-impl<I: ReadPart, O: WriteParts> Connection<I, O> for (I, O) {
+impl<I: ReadPart, O: WriteParts> Connection for (I, O) {
+    type Reader = I;
+
+    type Writer = O;
+
     fn open(self, _number: u64, _handle: &Handle) -> io::Result<(I, O)>
         ensures { result ≡ Ok self }
     {

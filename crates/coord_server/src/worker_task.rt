@@ -13,10 +13,9 @@ use crate::socket::Connection;
 use futures::channel::mpsc::{UnboundedReceiver, unbounded};
 use futures::task::{Context, Poll};
 use futures::{Future, Stream};
-use link_futures::{Desk, Line, ReadPart, Worker, WriteParts};
+use link_futures::{Desk, Line, Worker};
 use std::alloc::{AllocGlobal, Global};
 use std::io;
-use std::marker::PhantomData;
 use std::time::Clock;
 use tokio::runtime::Handle;
 use tokio::time::Interval;
@@ -26,17 +25,16 @@ use tokio::time::Interval;
 ///
 /// Twice a second they are looked for unasked, since the system may interrupt the call that wakes the worker, and then it is lost.
 #[derive(Drop)]
-pub struct IncomingLines<K: Drop, I: Drop, O: Drop> {
+pub struct IncomingLines<K: Drop> {
     assigned: UnboundedReceiver<AssignedConnection<K>>,
     looks: Interval,
     handle: Handle,
     worker: usize,
     workers: usize,
     alloc: Global,
-    opens: PhantomData<(I, O)>,
 }
 
-impl<K: Drop, I: Drop, O: Drop> IncomingLines<K, I, O> {
+impl<K: Drop> IncomingLines<K> {
     /// The lines at an event loop of the worker, of `workers`, that follows those that `senders` send to. The sender to it is put
     /// behind theirs.
     pub fn new<R: Clock + AllocGlobal>(
@@ -44,7 +42,7 @@ impl<K: Drop, I: Drop, O: Drop> IncomingLines<K, I, O> {
         handle: &Handle,
         senders: &mut Vec<WorkerSender<K>>,
         workers: usize,
-    ) -> Result<IncomingLines<K, I, O>, ServerFault>
+    ) -> Result<IncomingLines<K>, ServerFault>
         ensures more { OnOk result (vec_len senders.new ≡ vec_len senders.old + 1) }
         ensures placed { AreSenders workers senders.old.items → OnOk result (AreSenders workers senders.new.items) }
         ensures lines { IfOk result (λ lines. (lines.worker ≡ vec_len senders.old) × (lines.workers ≡ workers)) }
@@ -66,14 +64,13 @@ impl<K: Drop, I: Drop, O: Drop> IncomingLines<K, I, O> {
             worker,
             workers,
             alloc,
-            opens: PhantomData,
         })
     }
 }
 
-impl<K: Connection<I, O>, I: ReadPart, O: WriteParts> IncomingLines<K, I, O> {
+impl<K: Connection> IncomingLines<K> {
     /// The line of a connection that was sent.
-    fn line_of(&self, assigned: AssignedConnection<K>) -> io::Result<Line<I, O>>
+    fn line_of(&self, assigned: AssignedConnection<K>) -> io::Result<Line<K::Reader, K::Writer>>
         ensures { IfOk result (λ line. (place_of line).connection ≡ assigned.number) }
     {
         let (reader, writer) = assigned.connection.open(assigned.number, &self.handle)?;
@@ -81,8 +78,8 @@ impl<K: Connection<I, O>, I: ReadPart, O: WriteParts> IncomingLines<K, I, O> {
     }
 }
 
-impl<K: Connection<I, O>, I: ReadPart, O: WriteParts> Stream for IncomingLines<K, I, O> {
-    type Item = Line<I, O>;
+impl<K: Connection> Stream for IncomingLines<K> {
+    type Item = Line<K::Reader, K::Writer>;
 
     ghost needs = { λ a source. (source ≡ unbounded_readable_source a.assigned) ⊎ (source ≡ sleep_source (interval_delay a.looks)) };
 
@@ -111,13 +108,13 @@ impl<K: Connection<I, O>, I: ReadPart, O: WriteParts> Stream for IncomingLines<K
 
 /// A worker over the lines that come in, and its desk. It has no faults: its lines end with theirs.
 #[derive(Drop)]
-pub struct WorkerTask<K: Connection<I, O>, I: ReadPart, O: WriteParts, D> {
-    worker: Worker<IncomingLines<K, I, O>, D>,
+pub struct WorkerTask<K: Connection, D> {
+    worker: Worker<IncomingLines<K>, D>,
 }
 
-impl<K: Connection<I, O>, I: ReadPart, O: WriteParts, D: Desk> WorkerTask<K, I, O, D> {
+impl<K: Connection, D: Desk> WorkerTask<K, D> {
     /// A worker with no lines.
-    pub fn new(alloc: Global, lines: IncomingLines<K, I, O>, desk: D) -> WorkerTask<K, I, O, D>
+    pub fn new(alloc: Global, lines: IncomingLines<K>, desk: D) -> WorkerTask<K, D>
         ensures { (result.worker.arrivals ≡ lines) × (result.worker.desk ≡ desk) }
     {
         WorkerTask {
@@ -126,7 +123,7 @@ impl<K: Connection<I, O>, I: ReadPart, O: WriteParts, D: Desk> WorkerTask<K, I, 
     }
 }
 
-impl<K: Connection<I, O>, I: ReadPart, O: WriteParts, D: Desk> Future for WorkerTask<K, I, O, D> {
+impl<K: Connection, D: Desk> Future for WorkerTask<K, D> {
     type Output = Result<u64, ServerFault>;
 
     ghost gives = { λ _ r. IsOk r };
@@ -139,8 +136,7 @@ impl<K: Connection<I, O>, I: ReadPart, O: WriteParts, D: Desk> Future for Worker
     }
 }
 
-impl<K: Connection<I, O>, I: ReadPart, O: WriteParts, D: Desk> Resumable
-    for WorkerTask<K, I, O, D> {
+impl<K: Connection, D: Desk> Resumable for WorkerTask<K, D> {
     ghost can_go_on = { λ _. tt };
 
     ghost gives_the_same = { λ _ _ _ given. given };

@@ -1,9 +1,9 @@
 -- What a call comes to, by what its shard did.
 use Rattle.std.proofs.Common.{◌≡◌, ℕ, List, Result, Ok, Err, IfOk, OnOk, subst}
-use Rattle.std.specs.declared.alloc.AllocError.{AllocError}
+use Rattle.coord_shards.specs.declared.fault.CallFault.{CallFault}
 use Rattle.coord_node.specs.Coordinator as node
-use Rattle.coord_shards.specs.declared.shard.Entry.{Entry}
-use Rattle.coord_shards.specs.declared.incoming.Outcome.{Outcome}
+use Rattle.coord_shards.specs.declared.shard.JournalEntry.{JournalEntry}
+use Rattle.coord_shards.specs.declared.incoming.Effect.{Effect}
 use Rattle.coord_shards.specs.Home.{IsHome}
 use Rattle.coord_shards.specs.declared.event.Event.{Event}
 use Rattle.coord_shards.specs.Events.{Gives}
@@ -13,7 +13,7 @@ use Rattle.coord_shards.specs.Calls.{Shape, IsAnsweredInARun, IsTaken, Rises}
 use Rattle.coord_shards.specs.Seat.{SeatState}
 
 -- a shard that is its entries' replay answers in a run as it goes on
-pub InARun-GoesOn : (shape : Shape) (home : ℕ) (s : ShardState) (e : Entry) (given : node.Answer) (new : ShardState)
+pub InARun-GoesOn : (shape : Shape) (home : ℕ) (s : ShardState) (e : JournalEntry) (given : node.Answer) (new : ShardState)
     → (s.number ≡ home) × (s.shards ≡ shape.shards) × (s.salt ≡ shape.salt) → Replay s → GoesOn s e given new
     → IsAnsweredInARun shape home e.event given
 InARun-GoesOn shape home s e given new itself is goes =
@@ -22,7 +22,7 @@ InARun-GoesOn shape home s e given new itself is goes =
     record { entries = is.entries; before = s.present; after = new.present; run = run; step = goes.step }
 
 -- what a shard took, and what was noted of it before, is a call that was taken
-pub IsTaken-rises : (shape : Shape) (old noted new : SeatState) (event : Event) (home : ℕ) (before after : List ℕ) (result : Result Outcome AllocError)
+pub IsTaken-rises : (shape : Shape) (old noted new : SeatState) (event : Event) (home : ℕ) (before after : List ℕ) (result : Result Effect CallFault)
     → noted ≡ record old { sent = kept_with shape.cap old.sent (record { shard = home; event = event }) } → IsHome shape.shards event home
     → IfOk result (λ outcome. Gives outcome before after (λ given. IsAnsweredInARun shape home event given)) → OnOk result (Rises noted home new)
     → IfOk result (λ outcome. Gives outcome before after (λ given. IsTaken shape old event given new))

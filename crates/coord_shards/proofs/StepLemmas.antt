@@ -8,7 +8,7 @@ use Rattle.std.proofs.lemmas.List.Sums.{sum_by-append, sum_by-set}
 use Rattle.std.proofs.lemmas.Bool.Decides.{Decides-eqb, nat_tests}
 use Rattle.coord_node.specs.Coordinator.{Coordinator, Event, Answer}
 use Rattle.coord_node.specs.Steps.{EventRelation, RunBy, Step}
-use Rattle.coord_shards.specs.declared.shard.Entry.{Entry}
+use Rattle.coord_shards.specs.declared.shard.JournalEntry.{JournalEntry}
 use Rattle.coord_shards.specs.Limits.{MOST_SEATS}
 use Rattle.coord_shards.specs.Events.{node_event}
 use Rattle.coord_shards.specs.Home.{IsHome}
@@ -26,14 +26,14 @@ RunBy-push Steps (e ∷ es) [] c d n event answer run step = absurd run
 RunBy-push Steps (e ∷ es) (a ∷ answers) c d n event answer run step =
     (run.0, run.1, RunBy-push Steps es answers run.0 d n event answer run.2 step)
 
-pub RunsTo-push : (shards salt home : ℕ) (entries : List Entry) (e : Entry) (given : Answer) (d n : Coordinator)
+pub RunsTo-push : (shards salt home : ℕ) (entries : List JournalEntry) (e : JournalEntry) (given : Answer) (d n : Coordinator)
     → IsHome shards e.event home → RunsTo shards salt home entries d → Step d (node_event e.event) given n
     → RunsTo shards salt home (entries ++ e ∷ []) n
 RunsTo-push shards salt home entries e given d n is_home runs step =
-    let ev : Entry → Event = λ (x : Entry). node_event x.event in
+    let ev : JournalEntry → Event = λ (x : JournalEntry). node_event x.event in
     let (answers, run) = runs.run in
     record {
-      at_home = All-push (λ (x : Entry). IsHome shards x.event home) entries e runs.at_home is_home;
+      at_home = All-push (λ (x : JournalEntry). IsHome shards x.event home) entries e runs.at_home is_home;
       run = (
         answers ++ given ∷ [],
         rw (map-append ev entries (e ∷ [])) (RunBy-push Step (map ev entries) answers _ d n (node_event e.event) given run step),
@@ -43,10 +43,10 @@ RunsTo-push shards salt home entries e given d n is_home runs step =
 -- ---- the counts
 
 -- how many of a seat's entries there are once an entry comes behind them
-count-push : (entries : List Entry) (e : Entry) (seat : ℕ)
-    → count_by (λ (x : Entry). x.seat == seat) (entries ++ e ∷ []) ≡ count_by (λ (x : Entry). x.seat == seat) entries + cond (e.seat == seat) 1 0
+count-push : (entries : List JournalEntry) (e : JournalEntry) (seat : ℕ)
+    → count_by (λ (x : JournalEntry). x.seat == seat) (entries ++ e ∷ []) ≡ count_by (λ (x : JournalEntry). x.seat == seat) entries + cond (e.seat == seat) 1 0
 count-push entries e seat =
-    let one = sum_by-append (λ (x : Entry). cond (x.seat == seat) 1 0) entries (e ∷ []) in omega (arith, one)
+    let one = sum_by-append (λ (x : JournalEntry). cond (x.seat == seat) 1 0) entries (e ∷ []) in omega (arith, one)
 
 at_other : (counts : List ℕ) (k seat : ℕ) → (b : Bool) → (k == seat) ≡ b → k < length counts
     → slice_index (one_more counts k) seat ≡ slice_index counts seat + cond b 1 0
@@ -58,9 +58,9 @@ at_other counts k seat false is lt =
     let kept = get_or-set_other counts k seat (get_or counts k 0 + 1) 0 ne in
     omega (arith, kept)
 
-counted-push : (counts : List ℕ) (entries : List Entry) (e : Entry) → e.seat < length counts
-    → ((seat : ℕ) → slice_index counts seat ≡ count_by (λ (x : Entry). x.seat == seat) entries)
-    → (seat : ℕ) → slice_index (one_more counts e.seat) seat ≡ count_by (λ (x : Entry). x.seat == seat) (entries ++ e ∷ [])
+counted-push : (counts : List ℕ) (entries : List JournalEntry) (e : JournalEntry) → e.seat < length counts
+    → ((seat : ℕ) → slice_index counts seat ≡ count_by (λ (x : JournalEntry). x.seat == seat) entries)
+    → (seat : ℕ) → slice_index (one_more counts e.seat) seat ≡ count_by (λ (x : JournalEntry). x.seat == seat) (entries ++ e ∷ [])
 counted-push counts entries e lt counted seat =
     at_other counts e.seat seat (e.seat == seat) refl lt
     ∙ ap (λ n. n + cond (e.seat == seat) 1 0) (counted seat)
@@ -68,7 +68,7 @@ counted-push counts entries e lt counted seat =
 
 -- ---- the journal
 
-kept-push : (b : Bool) (entries : List Entry) (e : Entry) → cond b (cond b [] entries) (cond b [] entries ++ e ∷ []) ≡ cond b [] (entries ++ e ∷ [])
+kept-push : (b : Bool) (entries : List JournalEntry) (e : JournalEntry) → cond b (cond b [] entries) (cond b [] entries ++ e ∷ []) ≡ cond b [] (entries ++ e ∷ [])
 kept-push true entries e = refl
 kept-push false entries e = refl
 
@@ -76,7 +76,7 @@ kept-push false entries e = refl
 pub kept-none : {X : Type 0} (cap : ℕ) (kept : List X) (x : X) → cap ≡ 0 → kept ≡ kept_with cap kept x
 kept-none cap kept x none = rw none refl
 
-few-push : (cap : ℕ) (kept : List Entry) (e : Entry) (b : Bool) → (cap == 0) ≡ b → length kept ≤ cap → (0 < cap → length kept < cap)
+few-push : (cap : ℕ) (kept : List JournalEntry) (e : JournalEntry) (b : Bool) → (cap == 0) ≡ b → length kept ≤ cap → (0 < cap → length kept < cap)
     → length (cond b kept (kept ++ e ∷ [])) ≤ cap
 few-push cap kept e true is few room = few
 few-push cap kept e false is few room =
@@ -84,7 +84,7 @@ few-push cap kept e false is few room =
     let lt = room some in
     omega (arith, length-append kept (e ∷ []))
 
-pub Replay-push : (s : ShardState) (e : Entry) (given : Answer) (after : Coordinator)
+pub Replay-push : (s : ShardState) (e : JournalEntry) (given : Answer) (after : Coordinator)
     → e.seat < length s.counts → IsHome s.shards e.event s.number → Step s.present (node_event e.event) given after → Replay s
     → Replay (record s { present = after; kept = kept_with s.cap s.kept e; counts = one_more s.counts e.seat })
 Replay-push s e given after seat home step is =
@@ -96,7 +96,7 @@ Replay-push s e given after seat home step is =
     }
 
 -- a shard that has room and goes on is a shard
-pub IsShard-push : (s : ShardState) (e : Entry) (given : Answer) (after : Coordinator)
+pub IsShard-push : (s : ShardState) (e : JournalEntry) (given : Answer) (after : Coordinator)
     → e.seat < MOST_SEATS → IsHome s.shards e.event s.number → (0 < s.cap → length s.kept < s.cap)
     → Step s.present (node_event e.event) given after → IsShard s
     → IsShard (record s { present = after; kept = kept_with s.cap s.kept e; counts = one_more s.counts e.seat })
@@ -121,13 +121,13 @@ room-is cap len not_full some =
     omega arith
 
 -- a step of a node with an entry's event, an entry behind the others, and one more of its seat's
-pub goes-is : (old : ShardState) (e : Entry) (given : Answer) (after : Coordinator) (kept : List Entry)
+pub goes-is : (old : ShardState) (e : JournalEntry) (given : Answer) (after : Coordinator) (kept : List JournalEntry)
     → e.seat < MOST_SEATS → IsHome old.shards e.event old.number → (0 < old.cap → length old.kept < old.cap)
     → Step old.present (node_event e.event) given after → kept ≡ kept_with old.cap old.kept e → IsShard old
     → IsShard (record old { present = after; kept = kept; counts = one_more old.counts e.seat })
     × GoesOn old e given (record old { present = after; kept = kept; counts = one_more old.counts e.seat })
 goes-is old e given after kept seat home room step is shard = (
-  subst (λ (k : List Entry). IsShard (record old { present = after; kept = k; counts = one_more old.counts e.seat })) (sym is) (IsShard-push old e given after seat home room step shard),
+  subst (λ (k : List JournalEntry). IsShard (record old { present = after; kept = k; counts = one_more old.counts e.seat })) (sym is) (IsShard-push old e given after seat home room step shard),
   record {
     step = step;
     leaves = λ i. record old { present = after; kept = is i; counts = one_more old.counts e.seat };
@@ -136,7 +136,7 @@ goes-is old e given after kept seat home room step is shard = (
 )
 
 -- the same of a node's answer of which more is known
-pub taken-is : (Says : Answer → Type 0) (old : ShardState) (e : Entry) (after : Coordinator) (kept : List Entry)
+pub taken-is : (Says : Answer → Type 0) (old : ShardState) (e : JournalEntry) (after : Coordinator) (kept : List JournalEntry)
     → e.seat < MOST_SEATS → IsHome old.shards e.event old.number → (0 < old.cap → length old.kept < old.cap)
     → (given : Answer) × Says given × Step old.present (node_event e.event) given after → kept ≡ kept_with old.cap old.kept e → IsShard old
     → IsShard (record old { present = after; kept = kept; counts = one_more old.counts e.seat })

@@ -2,7 +2,7 @@
 use Rattle.std.specs.Prelude.{◌≡◌, ◌+◌, ℕ, List}
 use Rattle.coord_node.specs.Coordinator as node
 use Rattle.coord_node.specs.Steps.{Step}
-use Rattle.coord_shards.specs.declared.shard.Entry.{Entry}
+use Rattle.coord_shards.specs.declared.shard.JournalEntry.{JournalEntry}
 use Rattle.coord_shards.specs.declared.event.Event.{Event}
 use Rattle.coord_shards.specs.declared.event.Answer.{Answer}
 use Rattle.coord_shards.specs.Events.{node_event, UnlessRefused}
@@ -20,7 +20,7 @@ pub record Shape : Type 0 where
 -- The answer to an event is the machine's in a state that some run from the opening state reaches, over entries of one
 -- home.
 pub record IsAnsweredInARun (shape : Shape) (home : ℕ) (event : Event) (given : node.Answer) : Type 0 where
-  pub entries : List Entry
+  pub entries : List JournalEntry
   pub before : node.Coordinator
   pub after : node.Coordinator
   pub run : RunsTo shape.shards shape.salt home entries before

@@ -8,8 +8,8 @@ use Rattle.coord_shards.specs.declared.event.Answer.{Answer}
 use Rattle.coord_shards.specs.declared.event.Answer.TheVariants as answers
 use Rattle.coord_shards.specs.declared.incoming.Incoming.{Incoming}
 use Rattle.coord_shards.specs.declared.incoming.Incoming.TheVariants as lent
-use Rattle.coord_shards.specs.declared.incoming.Outcome.{Outcome}
-use Rattle.coord_shards.specs.declared.incoming.Outcome.TheVariants as outcomes
+use Rattle.coord_shards.specs.declared.incoming.Effect.{Effect}
+use Rattle.coord_shards.specs.declared.incoming.Effect.TheVariants as effects
 
 -- what comes to the node of the shard that an event is for
 abbrev pub node_event : Event → node.Event
@@ -35,10 +35,10 @@ event_of (lent.Tick shard moment) = events.Tick shard moment
 event_of (lent.Image shard image) = events.Image shard image.now
 
 -- what became of an event, with the bytes that were appended, is the node's answer
-abbrev pub IsGiven : Outcome → List ℕ → List ℕ → node.Answer → Type 0
-IsGiven (outcomes.Answered kind) before after given = IsAnswered kind given × (after ≡ before ++ node.bytes_of given)
-IsGiven (outcomes.Done removed) before after given = (given ≡ node.Done removed) × (after ≡ before)
+abbrev pub IsGiven : Effect → List ℕ → List ℕ → node.Answer → Type 0
+IsGiven (effects.Answered kind) before after given = IsAnswered kind given × (after ≡ before ++ node.bytes_of given)
+IsGiven (effects.Done removed) before after given = (given ≡ node.Done removed) × (after ≡ before)
 
 -- what became of an event, with the bytes that were appended, is a node's answer of which this holds
-abbrev pub Gives : Outcome → List ℕ → List ℕ → (node.Answer → Type 0) → Type 0
+abbrev pub Gives : Effect → List ℕ → List ℕ → (node.Answer → Type 0) → Type 0
 Gives outcome before after Holds = (given : node.Answer) × IsGiven outcome before after given × Holds given

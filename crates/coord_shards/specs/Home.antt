@@ -1,7 +1,7 @@
 -- The home of an event: the number of the one shard that it is for (ours).
 use Rattle.std.specs.Prelude.{◌≡◌, ◌⊎◌, ◌%◌, ℕ, List, sum, nat_lt, if◌then◌else◌}
 use Rattle.kip_msgs.specs.Values.{RequestValue}
-use Rattle.kip_msgs.specs.Spelling.{SpellsRequest}
+use Rattle.coord_node.specs.Steps.{IsRequest}
 use Rattle.coord_node.specs.Parsed.{group_named}
 use Rattle.coord_shards.specs.declared.event.Event.{Event}
 use Rattle.coord_shards.specs.declared.event.Event.TheVariants.{Frame, Tick, Image}
@@ -14,11 +14,12 @@ shard_of_group shards group = sum group % shards
 abbrev pub shard_numbered : ℕ → ℕ → ℕ
 shard_numbered shards number = if nat_lt number shards then number else 0
 
--- Of `shards` shards, the event's is the one with this number. A frame's is that of its group, and where it can't be read, shard 0.
+-- Of `shards` shards, the event's is the one with this number. A frame's is that of its group; shard 0 is that of a body that is no
+-- request, one of a refused length among them.
 abbrev pub IsHome : ℕ → Event → ℕ → Type 0
 IsHome shards (Frame body stamp moment) number =
-    ((v : RequestValue) × SpellsRequest v body × (number ≡ shard_of_group shards (group_named v)))
-    ⊎ (((v : RequestValue) → ¬ SpellsRequest v body) × (number ≡ 0))
+    ((v : RequestValue) × IsRequest v body × (number ≡ shard_of_group shards (group_named v)))
+    ⊎ (((v : RequestValue) → ¬ IsRequest v body) × (number ≡ 0))
 IsHome shards (Tick shard moment) number = number ≡ shard_numbered shards shard
 IsHome shards (Image shard image) number = number ≡ shard_numbered shards shard
 

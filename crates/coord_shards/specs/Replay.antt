@@ -3,7 +3,7 @@ use Rattle.std.specs.Prelude.{◌≡◌, ℕ, ◌+◌, ◌<◌, ◌≤◌, ◌==
 use Rattle.coord_node.specs.Coordinator.{Coordinator, Answer, opening}
 use Rattle.coord_node.specs.Nodes.{coordinator_of}
 use Rattle.coord_node.specs.Steps.{Run, Step}
-use Rattle.coord_shards.specs.declared.shard.Entry.{Entry}
+use Rattle.coord_shards.specs.declared.shard.JournalEntry.{JournalEntry}
 use Rattle.coord_shards.specs.declared.shard.Shard.TheInside.{Inside}
 use Rattle.coord_shards.specs.Limits.{MOST_SEATS}
 use Rattle.coord_shards.specs.Events.{node_event}
@@ -12,7 +12,7 @@ use Rattle.coord_shards.specs.Shard.{ShardState, kept_with, one_more}
 
 -- The node goes on by one step of the machine, which gives the answer; the entry is the last; and the count of its seat
 -- rises by one, and so does that of all entries.
-pub record GoesOn (old : ShardState) (entry : Entry) (given : Answer) (new : ShardState) : Type 0 where
+pub record GoesOn (old : ShardState) (entry : JournalEntry) (given : Answer) (new : ShardState) : Type 0 where
   pub step : Step old.present (node_event entry.event) given new.present
   pub leaves : new ≡ record old { present = new.present; kept = kept_with old.cap old.kept entry; counts = one_more old.counts entry.seat }
   pub total : sum new.counts ≡ sum old.counts + 1
@@ -22,13 +22,21 @@ abbrev pub IsFull : ShardState → Type 0
 IsFull s = (0 < s.cap) × (s.cap ≤ length s.kept)
 
 -- From the opening state the events of these entries, all of one home, lead to a state, one after the other.
-pub record RunsTo (shards salt home : ℕ) (entries : List Entry) (state : Coordinator) : Type 0 where
+pub record RunsTo (shards salt home : ℕ) (entries : List JournalEntry) (state : Coordinator) : Type 0 where
   pub at_home : All (λ e. IsHome shards e.event home) entries
   pub run : (answers : List Answer) × Run (opening salt) (map (λ e. node_event e.event) entries) answers state
 
+-- Some run from the opening state, over entries of one home, reaches this state.
+pub record IsReached (state : Coordinator) : Type 0 where
+  pub shards : ℕ
+  pub salt : ℕ
+  pub home : ℕ
+  pub entries : List JournalEntry
+  pub run : RunsTo shards salt home entries state
+
 -- All entries that were made in a shard: they lead to its present state, its counts are theirs, and above cap 0 it keeps them.
 pub record Replay (s : ShardState) : Type 0 where
-  pub entries : List Entry
+  pub entries : List JournalEntry
   pub run : RunsTo s.shards s.salt s.number entries s.present
   pub counted : (seat : ℕ) → slice_index s.counts seat ≡ count_by (λ e. e.seat == seat) entries
   pub kept : s.kept ≡ (if s.cap == 0 then [] else entries)
@@ -43,4 +51,4 @@ pub record IsShard (s : ShardState) : Type 0 where
 -- a shard's fields as what contracts see of it
 abbrev pub shard_view : Inside → ShardState
 shard_view s =
-    record { number = s.number; shards = s.shards; salt = s.plan.salt; cap = s.plan.cap; present = coordinator_of s.node; kept = s.journal.items; counts = s.counts }
+    record { number = s.number; shards = s.shards; salt = s.settings.salt; cap = s.settings.cap; present = coordinator_of s.node; kept = s.journal.items; counts = s.counts }

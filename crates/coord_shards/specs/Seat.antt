@@ -1,13 +1,13 @@
 -- What contracts see of a seat.
 use Rattle.std.specs.Prelude.{◌≡◌, ℕ, ◌*◌, ◌-◌, ◌^◌, List, [], sum, slice_index}
-use Rattle.coord_shards.specs.declared.seat.Sent.{Sent}
+use Rattle.coord_shards.specs.declared.seat.SentEvent.{SentEvent}
 use Rattle.coord_shards.specs.Limits.{MOST_SEATS}
 
 -- its number, how many of its calls each shard took, and what was sent by these calls, where journals keep entries
 pub record SeatState : Type 0 where
   pub number : ℕ
   pub by_shard : List ℕ
-  pub sent : List Sent
+  pub sent : List SentEvent
 
 -- the most calls of a seat (ours)
 abbrev pub most_calls : ℕ

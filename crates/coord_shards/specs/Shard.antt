@@ -1,7 +1,7 @@
 -- What contracts see of a shard.
 use Rattle.std.specs.Prelude.{ℕ, List, ◌==◌, ◌+◌, [], ◌∷◌, ◌++◌, if◌then◌else◌, slice_index, slice_set}
 use Rattle.coord_node.specs.Coordinator.{Coordinator}
-use Rattle.coord_shards.specs.declared.shard.Entry.{Entry}
+use Rattle.coord_shards.specs.declared.shard.JournalEntry.{JournalEntry}
 
 -- its number, the number of shards, the salt of its ids, how many entries its journal may keep, the present state of its node,
 -- the entries that are kept, and how many entries each seat made
@@ -11,7 +11,7 @@ pub record ShardState : Type 0 where
   pub salt : ℕ
   pub cap : ℕ
   pub present : Coordinator
-  pub kept : List Entry
+  pub kept : List JournalEntry
   pub counts : List ℕ
 
 -- what is kept once one more comes behind what is kept

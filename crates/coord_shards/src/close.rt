@@ -1,11 +1,11 @@
 //! The end of shards.
-ghost use Rattle.std.specs.Prelude.{◌≡◌, ◌⊎◌, ◌≤◌, All, IfOk, IfErr, IsErrOf, OnOk, sum_by, length, vec_len, vec_capacity};
+ghost use Rattle.std.specs.Prelude.{◌≡◌, ◌≢◌, ◌⊎◌, ◌≤◌, All, IfOk, IfErr, IsErrOf, OnOk, sum_by, length, vec_len, vec_capacity};
 ghost use Rattle.coord_shards.specs.Seat.{calls_of};
 ghost use Rattle.coord_shards.specs.Close.{Agrees, entries_of};
 
 use crate::compare::all_agree;
 use crate::fault::ShardFault;
-use crate::held::Held;
+use crate::locked_shard::LockedShard;
 use crate::seat::Seat;
 use crate::settle::settle;
 use crate::shard::Shard;
@@ -51,7 +51,7 @@ impl<A: Ledger, C: Ledger, G> Shards<A, C, G> {
         let mut locks = self.shards;
         let registry = self.registry.into_inner();
         pour(&mut locks, &mut held, |lock| lock.into_inner());
-        match room_for(alloc, registry.given, self.plan.cap, &held, &seats) {
+        match room_for(alloc, registry.given, self.settings.cap, &held, &seats) {
             Ok(closed) => Ok(settle(registry, &self.entries, &self.calls, held, seats, closed)),
             Err(fault) => {
                 pour(&mut held, &mut locks, |held| Mutex::new(held));
@@ -76,13 +76,14 @@ fn room_for<A: Ledger, C: Ledger>(
     alloc: Global,
     given: usize,
     cap: usize,
-    held: &[Held<A, C>],
+    held: &[LockedShard<A, C>],
     seats: &[Seat<C>],
 ) -> Result<Vec<Shard>, ShardFault>
     ensures empty { IfOk result (λ closed. (vec_len closed ≡ 0) × (length held.now ≤ vec_capacity closed)) }
     ensures agree { OnOk result ((given ≡ length seats.now) × All (λ h. All (Agrees cap h.shard) seats.now) held.now) }
     ensures faults { IfErr result (λ fault. (fault ≡ ShardFault.NoSeat)
         ⊎ ((fault ≡ ShardFault.NoMemory) ⊎ (fault ≡ ShardFault.Unequal))) }
+    ensures missing { IsErrOf result ShardFault.NoSeat → given ≢ length seats.now }
     ensures unequal { IsErrOf result ShardFault.Unequal → ¬ (All (λ h. All (Agrees cap h.shard) seats.now) held.now) }
 {
     let Ok(closed) = Vec::with_capacity(alloc, held.len()) else {

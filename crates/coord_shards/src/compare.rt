@@ -3,15 +3,15 @@ ghost use Rattle.std.specs.Prelude.{◌≡◌, ◌↔◌, ◌<◌, [], ◌∷◌
 ghost use Rattle.coord_shards.specs.Close.{events_from, events_to, Agrees};
 
 use crate::event::Event;
-use crate::held::Held;
-use crate::seat::{Seat, Sent};
-use crate::shard::{Entry, Shard};
+use crate::locked_shard::LockedShard;
+use crate::seat::{Seat, SentEvent};
+use crate::shard::{JournalEntry, Shard};
 use std::sync::ledger::Ledger;
 
 /// Whether all seats agree with all shards.
 pub(crate) fn all_agree<A: Ledger, C: Ledger>(
     cap: usize,
-    held: &[Held<A, C>],
+    held: &[LockedShard<A, C>],
     seats: &[Seat<C>],
 ) -> bool
     ensures { IsTrue result ↔ (All (λ h. All (Agrees cap h.shard) seats.now) held.now) }
@@ -37,7 +37,7 @@ fn agrees<C: Ledger>(cap: usize, shard: &Shard, seat: &Seat<C>) -> bool
 }
 
 /// Whether the events that came from a seat are those that went to a shard.
-fn are_the_same(entries: &[Entry], seat: usize, sent: &[Sent], shard: usize) -> bool
+fn are_the_same(entries: &[JournalEntry], seat: usize, sent: &[SentEvent], shard: usize) -> bool
     ensures { IsTrue result ↔ (events_from seat entries.now ≡ events_to shard sent.now) }
 {
     let (mut entries, mut sent) = (entries, sent);
@@ -54,7 +54,7 @@ fn are_the_same(entries: &[Entry], seat: usize, sent: &[Sent], shard: usize) -> 
 }
 
 /// The first event that went to a shard, and what was sent behind it.
-fn next_to(sent: &[Sent], shard: usize) -> Option<(&Event, &[Sent])>
+fn next_to(sent: &[SentEvent], shard: usize) -> Option<(&Event, &[SentEvent])>
     ensures none { IfNone result (events_to shard sent.now ≡ []) }
     ensures first { IfSome result (λ next. events_to shard sent.now ≡ next.0.now ∷ events_to shard next.1.now) }
 {

@@ -1,7 +1,8 @@
 //! What comes to shards, and what becomes of it.
 ghost use Rattle.std.specs.Prelude.{◌≡◌, ◌↔◌, IfOk, IsTrue};
 
-use crate::incoming::{Incoming, Outcome};
+use crate::fault::CallFault;
+use crate::incoming::{Effect, Incoming};
 use crate::octets::Octets;
 use coord_node::Answered;
 use group_types::{Moment, Stamp};
@@ -38,7 +39,7 @@ pub enum Answer {
     Closes,
     /// How many members a tick removed; 0 for an image.
     Done(usize),
-    /// The event was dropped, and nothing has changed: memory was short, a count was at its greatest, or the journal was full.
+    /// The event was dropped, and nothing has changed: [`CallFault`] has the reasons.
     Refused,
 }
 
@@ -47,15 +48,15 @@ impl Answer {
     ghost use Rattle.coord_node.specs.Coordinator.{Answer as GivenAnswer};
     ghost use Rattle.coord_shards.specs.Events.{node_answer, IsGiven};
 
-    /// The answer by what became of the event, with the bytes of its reply; refused where memory was short.
-    pub(crate) fn of(taken: Result<Outcome, AllocError>, bytes: Vec<u8>) -> Answer
+    /// The answer by what became of the event, with the bytes of its reply.
+    pub(crate) fn of(taken: Result<Effect, CallFault>, bytes: Vec<u8>) -> Answer
         ensures given { IfOk taken (λ outcome. (given : GivenAnswer) → IsGiven outcome [] bytes.items given → node_answer result ≡ Some given) }
         ensures refused { OnErr taken (result ≡ Answer.Refused) }
     {
         match taken {
-            Ok(Outcome::Answered(Answered::Replied)) => Answer::Replied(Octets::of(bytes)),
-            Ok(Outcome::Answered(Answered::Closes)) => Answer::Closes,
-            Ok(Outcome::Done(removed)) => Answer::Done(removed),
+            Ok(Effect::Answered(Answered::Replied)) => Answer::Replied(Octets::of(bytes)),
+            Ok(Effect::Answered(Answered::Closes)) => Answer::Closes,
+            Ok(Effect::Done(removed)) => Answer::Done(removed),
             Err(_) => Answer::Refused,
         }
     }

@@ -1,6 +1,7 @@
-//! What is wrong with shards or seats that are asked for.
+//! What is wrong with shards or seats that are asked for, and why a call is refused.
 ghost use Rattle.std.specs.Prelude.{◌≡◌};
 
+use std::alloc::{AllocError, AllocFailed};
 use thiserror::Error;
 
 /// What is wrong with shards or seats that are asked for.
@@ -33,5 +34,42 @@ impl ShardFault {
             Self::NoMemory => 3,
             Self::Unequal => 4,
         }
+    }
+}
+
+/// Why a shard refuses a call. Nothing has changed then.
+#[derive(Clone, Copy, Debug, PartialEq, Eq, Error)]
+pub enum CallFault {
+    /// An allocation was refused.
+    #[error("out of memory")]
+    NoMemory,
+    /// The shard's journal has as many entries as it may keep.
+    #[error("the journal is full")]
+    JournalFull,
+    /// The seat has made as many calls as it can.
+    #[error("the seat has no call left")]
+    CallsSpent,
+    /// The shard has another number, is one of another number of shards, or has another salt than the one that was looked for.
+    #[error("another shard was found")]
+    OtherShard,
+}
+
+impl From<AllocError> for CallFault {
+    ghost use Rattle.coord_shards.specs.declared.fault.CallFault.TheVariants.{NoMemory};
+
+    ghost from_gives = { λ _ e. e ≡ NoMemory };
+
+    fn from(_error: AllocError) -> CallFault {
+        CallFault::NoMemory
+    }
+}
+
+impl<T: Drop> From<AllocFailed<T>> for CallFault {
+    ghost use Rattle.coord_shards.specs.declared.fault.CallFault.TheVariants.{NoMemory};
+
+    ghost from_gives = { λ _ e. e ≡ NoMemory };
+
+    fn from(_error: AllocFailed<T>) -> CallFault {
+        CallFault::NoMemory
     }
 }

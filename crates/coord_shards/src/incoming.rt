@@ -22,7 +22,7 @@ pub(crate) enum Incoming<'a> {
 
 /// What became of an event. The bytes of a reply were appended.
 #[derive(Clone, Copy)]
-pub(crate) enum Outcome {
+pub(crate) enum Effect {
     /// What became of a frame.
     Answered(Answered),
     /// How many members a tick removed; 0 for an image.
@@ -88,7 +88,7 @@ impl<'a> Incoming<'a> {
 
     /// Does at a node what the machine does at the event, and appends the bytes of the answer. Where memory is short nothing has
     /// changed.
-    pub(crate) fn act(&self, node: &mut Node, out: &mut Vec<u8>) -> Result<Outcome, AllocError>
+    pub(crate) fn act(&self, node: &mut Node, out: &mut Vec<u8>) -> Result<Effect, AllocError>
         ensures acts { IfOk result (λ outcome. Gives outcome out.old.items out.new.items
             (λ given. Step (coordinator_of node.old) (node_event (event_of self.now)) given (coordinator_of node.new))) }
         ensures err { OnErr result ((node.new ≡ node.old) × (out.new.items ≡ out.old.items)) }
@@ -96,12 +96,12 @@ impl<'a> Incoming<'a> {
         match self {
             Incoming::Frame(body, stamp, moment) => {
                 let answered = node.answer_parsed(body, *stamp, *moment, out)?;
-                Ok(Outcome::Answered(answered))
+                Ok(Effect::Answered(answered))
             }
-            Incoming::Tick(_, moment) => Ok(Outcome::Done(node.tick(*moment))),
+            Incoming::Tick(_, moment) => Ok(Effect::Done(node.tick(*moment))),
             Incoming::Image(_, image) => {
                 node.set_image(image.copy()?);
-                Ok(Outcome::Done(0))
+                Ok(Effect::Done(0))
             }
         }
     }

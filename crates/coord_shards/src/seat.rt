@@ -1,20 +1,21 @@
 //! Who calls shards.
-ghost use Rattle.std.specs.Prelude.{◌≡◌, ◌+◌, ◌<◌, ◌^◌, OnOk, OnErr, take, slice_index};
+ghost use Rattle.std.specs.Prelude.{◌≡◌, ◌+◌, ◌<◌, ◌^◌, IsErrOf, OnOk, OnErr, take, slice_index};
 ghost use Rattle.coord_shards.specs.Events.{event_of};
 ghost use Rattle.coord_shards.specs.Shard.{kept_with, one_more};
 ghost use Rattle.coord_shards.specs.Seat.{IsNewSeat, calls_of, most_calls};
 
 use crate::counts::no_counts;
 use crate::event::Event;
+use crate::fault::CallFault;
 use crate::incoming::Incoming;
 use crate::limits::{MOST_SEATS, MOST_SHARDS};
-use std::alloc::{AllocError, Global};
+use std::alloc::Global;
 use std::marker::Model;
 use std::sync::ledger::{Ledger, Share};
 
 /// An event, and the number of the shard that took it: what a seat keeps.
 #[derive(Drop)]
-pub struct Sent {
+pub struct SentEvent {
     pub shard: usize,
     pub event: Event,
 }
@@ -25,7 +26,7 @@ pub struct Seat<C: Ledger> {
     number: usize,
     calls: u64,
     by_shard: [u64; MOST_SHARDS],
-    sent: Vec<Sent>,
+    sent: Vec<SentEvent>,
     share: Share<C>,
 }
 
@@ -90,32 +91,33 @@ impl<C: Ledger> Seat<C> {
     }
 
     /// The events of the calls that were taken, each with its shard, in their order; none where journals keep no entries.
-    pub fn sent(&self) -> &[Sent]
+    pub fn sent(&self) -> &[SentEvent]
         ensures { result.now ≡ self.now.sent }
     {
         self.sent.as_slice()
     }
 
-    /// Notes a copy of an event that a shard is to take, where journals keep entries. Fails where memory is short, and where the
-    /// seat's calls are at their greatest number; then nothing has changed.
+    /// Notes a copy of an event that a shard is to take, if journals keep entries. Fails if memory is short, and if the seat's calls are
+    /// at their greatest number; then nothing has changed.
     pub(crate) fn note(
         &mut self,
         alloc: Global,
         cap: usize,
         shard: usize,
         event: &Incoming<'_>,
-    ) -> Result<(), AllocError>
+    ) -> Result<(), CallFault>
         ensures noted { OnOk result (self.new
             ≡ record self.old { sent = kept_with cap self.old.sent (record { shard = shard; event = event_of event.now }) }) }
         ensures fits { OnOk result (calls_of self.old + 1 < 2 ^ 64) }
         ensures err { OnErr result (self.new ≡ self.old) }
+        ensures of_spent { IsErrOf result CallFault.CallsSpent → calls_of self.old ≡ most_calls }
     {
         if self.calls == u64::MAX {
-            return Err(AllocError);
+            return Err(CallFault::CallsSpent);
         }
         if cap > 0 {
             let event = event.copy(alloc)?;
-            self.sent.push(Sent { shard, event })?;
+            self.sent.push(SentEvent { shard, event })?;
         }
         Ok(())
     }

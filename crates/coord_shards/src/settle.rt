@@ -4,7 +4,7 @@ ghost use Rattle.coord_shards.specs.declared.limits.TheConstants.{MOST_SEATS};
 ghost use Rattle.coord_shards.specs.Seat.{calls_of, most_calls, most_entries};
 ghost use Rattle.coord_shards.specs.Close.{entries_of};
 
-use crate::held::Held;
+use crate::locked_shard::LockedShard;
 use crate::registry::Registry;
 use crate::seat::Seat;
 use crate::shard::Shard;
@@ -18,7 +18,7 @@ pub(crate) fn settle<A: Ledger, C: Ledger>(
     registry: Registry<A, C>,
     entries: &Total<A>,
     calls: &Total<C>,
-    held: Vec<Held<A, C>>,
+    held: Vec<LockedShard<A, C>>,
     seats: Vec<Seat<C>>,
     mut closed: Vec<Shard>,
 ) -> Vec<Shard>
@@ -40,7 +40,7 @@ pub(crate) fn settle<A: Ledger, C: Ledger>(
 
 /// Moves the shards, last ones first, to a list that has room for them, and their shares to one share of each ledger.
 fn take_shards<A: Ledger, C: Ledger>(
-    mut held: Vec<Held<A, C>>,
+    mut held: Vec<LockedShard<A, C>>,
     closed: &mut Vec<Shard>,
     entries: &mut Share<A>,
     calls: &mut Share<C>,

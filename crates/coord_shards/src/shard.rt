@@ -1,5 +1,5 @@
 //! A node with its journal.
-ghost use Rattle.std.specs.Prelude.{◌≡◌, ◌↔◌, ◌<◌, ◌-◌, ◌^◌, IfOk, OnOk, OnErr, IsErr, IsTrue, slice_index, sum};
+ghost use Rattle.std.specs.Prelude.{◌≡◌, ◌↔◌, ◌<◌, ◌-◌, ◌^◌, IfErr, IfOk, OnOk, OnErr, IsErr, IsErrOf, IsTrue, slice_index, sum};
 ghost use Rattle.coord_node.specs.Nodes.{coordinator_of};
 ghost use Rattle.coord_shards.specs.Events.{event_of, Gives, UnlessRefused};
 ghost use Rattle.coord_shards.specs.Home.{IsHome};
@@ -8,16 +8,17 @@ ghost use Rattle.coord_shards.specs.Replay.{Replay, IsFull, GoesOn};
 
 use crate::counts::no_counts;
 use crate::event::{Answer, Event};
-use crate::incoming::{Incoming, Outcome};
+use crate::fault::CallFault;
+use crate::incoming::{Effect, Incoming};
 use crate::limits::MOST_SEATS;
 use coord_node::Node;
-use std::alloc::{AllocError, Global};
+use std::alloc::Global;
 use std::collections::hash_map::RandomState;
 use std::marker::Model;
 
 /// An event, and the number of the seat that it came from: what a journal keeps.
 #[derive(Drop)]
-pub struct Entry {
+pub struct JournalEntry {
     pub seat: usize,
     pub event: Event,
 }
@@ -25,7 +26,7 @@ pub struct Entry {
 /// What all shards have in common: the salt of the ids that they make, how many entries their journals keep, and how their
 /// nodes look groups up.
 #[derive(Clone, Copy)]
-pub(crate) struct Plan {
+pub(crate) struct ShardSettings {
     pub(crate) salt: u64,
     pub(crate) cap: usize,
     pub(crate) hasher: RandomState,
@@ -40,9 +41,9 @@ pub struct Shard {
     alloc: Global,
     number: usize,
     shards: usize,
-    plan: Plan,
+    settings: ShardSettings,
     node: Node,
-    journal: Vec<Entry>,
+    journal: Vec<JournalEntry>,
     counts: [u64; MOST_SEATS],
 }
 
@@ -65,20 +66,20 @@ impl Model for Shard {
 
 impl Shard {
     /// The shard with a number, of `shards` shards, before anything came to it. Takes no memory.
-    pub(crate) fn new(alloc: Global, number: usize, shards: usize, plan: Plan) -> Shard
+    pub(crate) fn new(alloc: Global, number: usize, shards: usize, settings: ShardSettings) -> Shard
         requires { number < shards }
         ensures number { result.number ≡ number }
         ensures shards { result.shards ≡ shards }
-        ensures salt { result.salt ≡ plan.salt }
-        ensures cap { result.cap ≡ plan.cap }
+        ensures salt { result.salt ≡ settings.salt }
+        ensures cap { result.cap ≡ settings.cap }
         ensures none { sum result.counts ≡ 0 }
     {
         Shard {
             alloc,
             number,
             shards,
-            plan,
-            node: Node::new(alloc, plan.salt, plan.hasher),
+            settings,
+            node: Node::new(alloc, settings.salt, settings.hasher),
             journal: Vec::new(alloc),
             counts: no_counts(),
         }
@@ -101,7 +102,7 @@ impl Shard {
     }
 
     /// The entries that were made, in their order; at cap 0 none.
-    pub fn entries(&self) -> &[Entry]
+    pub fn entries(&self) -> &[JournalEntry]
         ensures { result.now ≡ self.now.kept }
     {
         self.journal.as_slice()
@@ -123,7 +124,7 @@ impl Shard {
         ensures itself { IsTrue result ↔ ((self.now.number ≡ number) × (self.now.shards ≡ shards) × (self.now.salt ≡ salt)) }
         ensures replay { Replay self.now }
     {
-        self.shards == shards && self.number == number && self.plan.salt == salt
+        self.shards == shards && self.number == number && self.settings.salt == salt
     }
 
     /// Takes an event of this shard from a seat: the node does what the machine does, the event comes last into the journal,
@@ -149,34 +150,46 @@ impl Shard {
     }
 
     /// Takes an event of this shard from a seat, as [`Shard::step`], and appends the bytes of the answer. The event is copied only
-    /// where the journal keeps entries, and before the node's step. Fails where [`Shard::step`] refuses.
+    /// if the journal keeps entries, and before the node's step. Fails if [`Shard::step`] refuses.
     pub(crate) fn take(
         &mut self,
         seat: usize,
         event: &Incoming<'_>,
         out: &mut Vec<u8>,
-    ) -> Result<Outcome, AllocError>
+    ) -> Result<Effect, CallFault>
         requires seat { seat < MOST_SEATS }
         requires home { IsHome self.old.shards (event_of event.now) self.old.number }
         ensures step { IfOk result (λ outcome. Gives outcome out.old.items out.new.items
             (λ given. GoesOn self.old (record { seat = seat; event = event_of event.now }) given self.new)) }
         ensures err { OnErr result ((self.new ≡ self.old) × (out.new.items ≡ out.old.items)) }
         ensures full { IsFull self.old → IsErr result }
+        ensures is_full { IsFull self.old → IsErrOf result CallFault.JournalFull }
+        ensures of_full { IsErrOf result CallFault.JournalFull → IsFull self.old }
         ensures spent { slice_index self.old.counts seat ≡ 2 ^ 64 - 1 → IsErr result }
+        ensures of_spent { IsErrOf result CallFault.CallsSpent → slice_index self.old.counts seat ≡ 2 ^ 64 - 1 }
     {
-        if self.is_full() || self.counts[seat] == u64::MAX {
-            return Err(AllocError);
+        if self.is_full() {
+            return Err(CallFault::JournalFull);
+        }
+        if self.counts[seat] == u64::MAX {
+            return Err(CallFault::CallsSpent);
         }
         let kept = self.journal.len();
-        keep(self.alloc, &mut self.journal, self.plan.cap, seat, event)?;
+        keep(
+            self.alloc,
+            &mut self.journal,
+            self.settings.cap,
+            seat,
+            event,
+        )?;
         match event.act(&mut self.node, out) {
             Ok(outcome) => {
                 self.counts[seat] += 1;
                 Ok(outcome)
             }
-            Err(error) => {
+            Err(_) => {
                 self.journal.truncate(kept);
-                Err(error)
+                Err(CallFault::NoMemory)
             }
         }
     }
@@ -185,26 +198,27 @@ impl Shard {
     fn is_full(&self) -> bool
         ensures { IsTrue result ↔ IsFull self.now }
     {
-        0 < self.plan.cap && self.plan.cap <= self.journal.len()
+        0 < self.settings.cap && self.settings.cap <= self.journal.len()
     }
 }
 
-/// Puts the entry of an event last into a journal that keeps entries, with a copy of the event. Where memory is short nothing has
+/// Puts the entry of an event last into a journal that keeps entries, with a copy of the event. If memory is short nothing has
 /// changed.
 fn keep(
     alloc: Global,
-    journal: &mut Vec<Entry>,
+    journal: &mut Vec<JournalEntry>,
     cap: usize,
     seat: usize,
     event: &Incoming<'_>,
-) -> Result<(), AllocError>
+) -> Result<(), CallFault>
     ensures kept { OnOk result (journal.new.items
         ≡ kept_with cap journal.old.items (record { seat = seat; event = event_of event.now })) }
     ensures err { OnErr result (journal.new.items ≡ journal.old.items) }
+    ensures fault { IfErr result (λ fault. fault ≡ CallFault.NoMemory) }
 {
     if cap > 0 {
         let event = event.copy(alloc)?;
-        journal.push(Entry { seat, event })?;
+        journal.push(JournalEntry { seat, event })?;
     }
     Ok(())
 }

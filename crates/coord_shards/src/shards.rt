@@ -1,19 +1,21 @@
 //! Shards behind locks.
 ghost use Rattle.std.specs.Prelude.{◌≡◌, ◌⊎◌, ◌↔◌, ◌+◌, ◌*◌, ◌<◌, ◌≤◌, ◌^◌, ℕ, IfOk, IfErr, OnOk, OnErr, IsErrOf, vec_len};
-ghost use Rattle.coord_shards.specs.Home.{IsHome};
+ghost use Rattle.coord_shards.specs.Home.{IsHome, shard_of_group};
 ghost use Rattle.coord_shards.specs.Seat.{IsNewSeat, calls_of, most_entries};
 ghost use Rattle.coord_shards.specs.Calls.{SeatCalls, IsTaken, IsAnsweredInARun, Rises};
 ghost use Rattle.coord_shards.specs.Events.{event_of, Gives};
 
 use crate::event::{Answer, Event};
-use crate::fault::ShardFault;
+use crate::fault::{CallFault, ShardFault};
 use crate::gate::Gate;
-use crate::held::Held;
-use crate::incoming::{Incoming, Outcome};
+use crate::homes::{shard_numbered, shard_of_group};
+use crate::incoming::{Effect, Incoming};
 use crate::limits::{MOST_KEPT, MOST_SEATS, MOST_SHARDS};
+use crate::locked_shard::LockedShard;
+use crate::reader::NodeReader;
 use crate::registry::{Registry, fill};
 use crate::seat::Seat;
-use crate::shard::{Plan, Shard};
+use crate::shard::{Shard, ShardSettings};
 use coord_node::{Answered, Moment, ParsedBody, Stamp};
 use std::alloc::{AllocError, Global};
 use std::collections::hash_map::RandomState;
@@ -32,11 +34,11 @@ use std::sync::{Mutex, Wait};
 /// others, so that no seat of others fits.
 #[derive(Drop)]
 pub struct Shards<A: Ledger, C: Ledger, G> {
-    pub(crate) shards: Vec<Mutex<Held<A, C>>>,
+    pub(crate) shards: Vec<Mutex<LockedShard<A, C>>>,
     pub(crate) registry: Mutex<Registry<A, C>>,
     pub(crate) entries: Total<A>,
     pub(crate) calls: Total<C>,
-    pub(crate) plan: Plan,
+    pub(crate) settings: ShardSettings,
     pub(crate) gate: G,
 }
 
@@ -48,7 +50,7 @@ impl<A: Ledger, C: Ledger, G> Model for Shards<A, C, G> {
 
     ghost Value = { Shape };
 
-    ghost view = { λ s. record { shards = vec_len s.shards; salt = s.plan.salt; cap = s.plan.cap } };
+    ghost view = { λ s. record { shards = vec_len s.shards; salt = s.settings.salt; cap = s.settings.cap } };
 
     ghost invariant = { λ s. (0 < vec_len s.shards) × (vec_len s.shards ≤ MOST_SHARDS)
         × (s.entries.parts ≡ 2 * vec_len s.shards) × (s.entries.amount ≡ vec_len s.shards * most_entries)
@@ -82,11 +84,11 @@ impl<A: Ledger, C: Ledger, G> Shards<A, C, G> {
         if shards == 0 || MOST_SHARDS < shards || MOST_KEPT < cap {
             return Err(ShardFault::BadNumber);
         }
-        let plan = Plan { salt, cap, hasher };
+        let settings = ShardSettings { salt, cap, hasher };
         let (mut entries, mut rest) = entries.open::<A>();
         let (mut calls, mut seats) = calls.open::<C>();
         fill(&mut calls, &mut seats);
-        let made = locked(alloc, shards, plan, &mut entries, &mut rest, &mut seats);
+        let made = locked(alloc, shards, settings, &mut entries, &mut rest, &mut seats);
         let Ok(made) = made else {
             return Err(ShardFault::NoMemory);
         };
@@ -100,7 +102,7 @@ impl<A: Ledger, C: Ledger, G> Shards<A, C, G> {
             registry: Mutex::new(registry),
             entries: entries.close(),
             calls: calls.close(),
-            plan,
+            settings,
             gate,
         })
     }
@@ -133,8 +135,7 @@ impl<A: Ledger, C: Ledger, G> Shards<A, C, G> {
 
     /// Sends an event from a seat to the shard that is its home, and gives the shard's answer.
     ///
-    /// Refused where memory is short, where the shard's journal is full, and where a count is at its greatest. Then nothing has
-    /// changed.
+    /// If it is refused, nothing has changed: [`CallFault`] has the reasons.
     pub fn call<R: Wait>(&self, rt: &R, alloc: Global, seat: &mut Seat<C>, event: Event) -> Answer
     where
         G: Gate,
@@ -144,15 +145,13 @@ impl<A: Ledger, C: Ledger, G> Shards<A, C, G> {
         let Ok(event) = Incoming::of(alloc, &event) else {
             return Answer::Refused;
         };
-        let taken = self.take(rt, alloc, seat, event, &mut out);
+        let taken = self.take(rt, alloc, seat, &event, &mut out);
+        drop(event);
         Answer::of(taken, out)
     }
 
     /// Answers the body of a frame from a seat, as [`Shards::call`] answers the event that it is: appends the one frame of the reply,
-    /// or closes. The body is read once, and is copied only where journals keep entries.
-    ///
-    /// Fails where memory is short, where the shard's journal is full, and where a count is at its greatest. Then nothing has
-    /// changed.
+    /// or closes. The body is read once, and is copied only if journals keep entries. If it fails, nothing has changed.
     pub fn answer<R: Wait>(
         &self,
         rt: &R,
@@ -162,52 +161,57 @@ impl<A: Ledger, C: Ledger, G> Shards<A, C, G> {
         stamp: Stamp,
         moment: Moment,
         out: &mut Vec<u8>,
-    ) -> Result<Answered, AllocError>
+    ) -> Result<Answered, CallFault>
     where
         G: Gate,
         // The frame is taken as `call` takes the event that it is, and the bytes of the answer are appended.
-        ensures taken { IfOk result (λ kind. Gives (Outcome.Answered kind) out.old.items out.new.items
+        ensures taken { IfOk result (λ kind. Gives (Effect.Answered kind) out.old.items out.new.items
             (λ given. IsTaken self.now seat.old (Event.Frame body.now stamp moment) given seat.new)) }
         ensures err { OnErr result ((seat.new ≡ seat.old) × (out.new.items ≡ out.old.items)) }
     {
         let body = ParsedBody::of(alloc, body)?;
         let event = Incoming::Frame(body, stamp, moment);
-        match self.take(rt, alloc, seat, event, out)? {
-            Outcome::Answered(answered) => Ok(answered),
-            Outcome::Done(_) => unreachable!(),
+        let taken = self.take(rt, alloc, seat, &event, out);
+        drop(event);
+        match taken? {
+            Effect::Answered(answered) => Ok(answered),
+            Effect::Done(_) => unreachable!(),
         }
     }
 
-    /// The shard that is an event's home takes it from a seat, and appends the bytes of the answer. Where that fails nothing has
-    /// changed.
-    fn take<R: Wait>(
-        &self,
-        rt: &R,
-        alloc: Global,
-        seat: &mut Seat<C>,
-        event: Incoming<'_>,
-        out: &mut Vec<u8>,
-    ) -> Result<Outcome, AllocError>
-    where
-        G: Gate,
-        ensures taken { IfOk result (λ outcome. Gives outcome out.old.items out.new.items
-            (λ given. IsTaken self.now seat.old (event_of event.entry) given seat.new)) }
-        ensures err { OnErr result ((seat.new ≡ seat.old) × (out.new.items ≡ out.old.items)) }
+    /// The number of the shard of a group: a group's frames and no others go there, besides those that are no request, which go to
+    /// shard 0.
+    pub fn shard_of(&self, group: &str) -> usize
+        ensures home { result ≡ shard_of_group self.now.shards group.now }
+        ensures there { result < self.now.shards }
     {
-        let taken = self.send(rt, alloc, seat, &event, out);
-        drop(event);
-        taken
+        shard_of_group(group, self.shards.len())
     }
 
-    /// Sends an event that is lent: its seat notes it, and the shard that is its home takes it, as [`Shards::take`] says.
-    fn send<R: Wait>(
+    /// Has a reader look at the node of the shard with a number, under its lock. A shard that isn't there counts as shard 0. Nothing
+    /// changes, and no entry is made. Fails if the reader does.
+    pub fn read<R: Wait, V: NodeReader>(
+        &self,
+        rt: &R,
+        number: usize,
+        reader: &mut V,
+    ) -> Result<(), AllocError> {
+        let number = shard_numbered(number, self.shards.len());
+        let mut guard = self.shards[number].lock(rt);
+        let held = &mut *guard;
+        reader.read(held.shard.present())
+    }
+
+    /// An event's seat notes it, and the shard that is its home takes it and appends the bytes of the answer. If that fails, nothing
+    /// has changed.
+    fn take<R: Wait>(
         &self,
         rt: &R,
         alloc: Global,
         seat: &mut Seat<C>,
         event: &Incoming<'_>,
         out: &mut Vec<u8>,
-    ) -> Result<Outcome, AllocError>
+    ) -> Result<Effect, CallFault>
     where
         G: Gate,
         ensures taken { IfOk result (λ outcome. Gives outcome out.old.items out.new.items
@@ -216,7 +220,7 @@ impl<A: Ledger, C: Ledger, G> Shards<A, C, G> {
     {
         let number = event.home(self.shards.len());
         let sent = seat.sent().len();
-        seat.note(alloc, self.plan.cap, number, event)?;
+        seat.note(alloc, self.settings.cap, number, event)?;
         let taken = self.take_at(rt, number, seat, event, out);
         if taken.is_err() {
             seat.forget(sent);
@@ -232,7 +236,7 @@ impl<A: Ledger, C: Ledger, G> Shards<A, C, G> {
         seat: &mut Seat<C>,
         event: &Incoming<'_>,
         out: &mut Vec<u8>,
-    ) -> Result<Outcome, AllocError>
+    ) -> Result<Effect, CallFault>
     where
         G: Gate,
         requires home { IsHome self.now.shards (event_of event.now) number }
@@ -247,9 +251,9 @@ impl<A: Ledger, C: Ledger, G> Shards<A, C, G> {
         let held = &mut *locked;
         if !held
             .shard
-            .is_itself(number, self.shards.len(), self.plan.salt)
+            .is_itself(number, self.shards.len(), self.settings.salt)
         {
-            return Err(AllocError);
+            return Err(CallFault::OtherShard);
         }
         self.gate.inside(number);
         held.take(seat, event, &self.calls, out)
@@ -261,11 +265,11 @@ impl<A: Ledger, C: Ledger, G> Shards<A, C, G> {
 fn locked<A: Ledger, C: Ledger>(
     alloc: Global,
     shards: usize,
-    plan: Plan,
+    settings: ShardSettings,
     book: &mut Book<A>,
     entries: &mut Share<A>,
     calls: &mut Share<C>,
-) -> Result<Vec<Mutex<Held<A, C>>>, AllocError>
+) -> Result<Vec<Mutex<LockedShard<A, C>>>, AllocError>
     requires entries { (entries.old.parts ≡ 2 * shards) × (entries.old.amount ≡ 0) }
     requires calls { calls.old.parts ≡ MOST_SEATS + shards }
     ensures number { IfOk result (λ made. vec_len made ≡ shards) }
@@ -275,10 +279,10 @@ fn locked<A: Ledger, C: Ledger>(
 {
     let mut made = Vec::with_capacity(alloc, shards)?;
     for number in 0..shards {
-        let shard = Shard::new(alloc, number, shards, plan);
+        let shard = Shard::new(alloc, number, shards, settings);
         let mut left = entries.split_off(1, 0);
         fill(book, &mut left);
-        made.push(Mutex::new(Held {
+        made.push(Mutex::new(LockedShard {
             shard,
             left,
             entered: entries.split_off(1, 0),

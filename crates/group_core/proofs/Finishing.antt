@@ -31,48 +31,11 @@ use Rattle.range_assign.proofs.Spreads.{Contains-cases, Contains-cons, Contains-
 use Rattle.group_epochs.specs.Table.{member_at}
 use Rattle.group_epochs.proofs.Ranked.{entry_there, row_there}
 use Rattle.group_reconcile.specs.Holders.{Holders, pairs}
+use Rattle.group_reconcile.proofs.AllOfSets.{all_of_set, both, both_true}
+use Rattle.group_reconcile.proofs.Bools.{or_second}
 use Rattle.group_core.specs.declared.restoring.GroupNumbers.{GroupNumbers}
 use Rattle.group_core.specs.Restoring.{AreCountsOf, CanBeFinished, Counts, IsRestoring, MemberFits, MembersFit, OwnersFit, count_behind, finished, is_counted, share_fits}
 use Rattle.group_core.proofs.Begun.{one_holder_of_pairs}
-
--- ---- tests
-
-pub both : (a b : Bool) → (a && b) ≡ true → (a ≡ true) × (b ≡ true)
-both true b is = (refl, is)
-both false b is = absurd (true≢false (sym is))
-
-pub both_true : (a b : Bool) → a ≡ true → b ≡ true → (a && b) ≡ true
-both_true true b one other = other
-both_true false b one other = absurd (true≢false (sym one))
-
-or_true : (a b : Bool) → b ≡ true → (a || b) ≡ true
-or_true true b is = refl
-or_true false b is = is
-
--- ---- all of a set
-
-holds_for : (f : Partition → Bool) (ps : List Partition) → list_all f ps ≡ true → (p : Partition) → list_any (eq_by_cmp partition_cmp p) ps ≡ true → f p ≡ true
-holds_for f [] all p there = absurd (true≢false (sym there))
-holds_for f (q ∷ qs) all p there =
-    let parts = both (f q) (list_all f qs) all in
-    elim (eq_by_cmp partition_cmp p q) as (λ b. eq_by_cmp partition_cmp p q ≡ b → (b || list_any (eq_by_cmp partition_cmp p) qs) ≡ true → f p ≡ true) [
-      | true ↦ λ same _. ap f (partition_cmp-IsAntisymmetric p q ((Equal-is (partition_cmp p q)).0 same)) ∙ parts.0
-      | false ↦ λ _ later. holds_for f qs parts.1 p later
-    ] refl there
-
-all_hold : (f : Partition → Bool) (ps : List Partition) → ((p : Partition) → list_any (eq_by_cmp partition_cmp p) ps ≡ true → f p ≡ true) → list_all f ps ≡ true
-all_hold f [] each = refl
-all_hold f (q ∷ qs) each =
-    both_true (f q) (list_all f qs)
-    (each q (ap (λ o. is_eq o || list_any (eq_by_cmp partition_cmp q) qs) (partition_cmp-itself q)))
-    (all_hold f qs (λ p there. each p (or_true (eq_by_cmp partition_cmp p q) _ there)))
-
--- a test holds for the list of a set where it does for each partition that the set has
-pub all_of_set : (f : Partition → Bool) (s : Partitions) → IsTrue (list_all f (in_order s)) ↔ ((p : Partition) → IsTrue (has s p) → f p ≡ true)
-all_of_set f s = (
-  λ all p there. holds_for f (in_order s) all p (sym (has-in_order s p) ∙ there),
-  λ each. all_hold f (in_order s) (λ p there. each p (has-in_order s p ∙ there)),
-)
 
 -- ---- the counts of a view's topics
 
@@ -177,7 +140,7 @@ module _ (records : Records) (view : Topics) (counts : Counts) (are : AreImageTo
       ap (λ b. b || (finite.contains_key records s.0 && list_all (is_counted counts) (in_order s.1))) empty
   fits_back s fits (q ∷ qs) some =
       let there : has s.1 q ≡ true = has-in_order s.1 q ∙ ap (list_any (eq_by_cmp partition_cmp q)) some ∙ ap (λ o. is_eq o || list_any (eq_by_cmp partition_cmp q) qs) (partition_cmp-itself q) in
-      or_true (is_nothing s.1) _
+      or_second (is_nothing s.1) _
       (both_true _ _ (fits.owner q there) ((all_of_set (is_counted counts) s.1).1 (λ p inside. (counted_of_view view counts are counted p).1 (fits.owned p inside))))
 
   tail_fits : (s : Text × Partitions) (ss : List (Text × Partitions)) → OwnersFit records view (s ∷ ss) → OwnersFit records view ss

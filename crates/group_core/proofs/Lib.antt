@@ -30,3 +30,4 @@ pub mod Sinces
 pub mod Begun
 pub mod RestoringSteps
 pub mod Finishing
+pub mod OwnedIndexes

@@ -8,6 +8,7 @@ ghost use Rattle.group_types.specs.Fencing.{last_stamp};
 ghost use Rattle.group_types.specs.Members.{is_remembered, members_of};
 ghost use Rattle.group_reconcile.specs.Holders.{pairs};
 
+use crate::member_heartbeat::MemberHeartbeat;
 use crate::outcome::Outcome;
 use crate::state::State;
 use crate::{heartbeat, tick};
@@ -15,7 +16,7 @@ use group_epochs::Records;
 use group_reconcile::Grants;
 use group_target::Target;
 use group_types::{Epoch, EpochNumber, Moment, PartSet, Stamp};
-use kip_msgs::{CommitReply, CommitRequest, HeartbeatRequest};
+use kip_msgs::{CommitReply, CommitRequest};
 use offset_guard::{Committed, Offsets};
 use std::alloc::{AllocError, Global};
 use std::collections::hash_map::RandomState;
@@ -207,14 +208,14 @@ impl Group {
     /// where memory is short, and then nothing has changed.
     pub fn heartbeat(
         &mut self,
-        request: &HeartbeatRequest<'_>,
+        request: &MemberHeartbeat<'_, '_>,
         stamp: Stamp,
         now: Moment,
         image: &Image,
         out: &mut Vec<u8>,
     ) -> Result<Outcome, AllocError>
         ensures step { IfOk result (λ outcome. HeartbeatStep self.old.state
-            (arrival_of (heartbeat_request_value request.now) stamp now image.now) (answer_of outcome) self.new.state) }
+            (arrival_of (heartbeat_request_value request.now.request.now) stamp now image.now) (answer_of outcome) self.new.state) }
         ensures response { IfOk result (λ outcome. IsResponse (answer_of outcome) self.new.state image.now (vec_capacity out.new - length out.new.items)) }
         ensures since { KeepsSinceOr self.old.holders self.new.holders self.new.state.target_epoch }
         ensures out { out.new.items ≡ out.old.items }
@@ -227,7 +228,7 @@ impl Group {
     /// no look at a topic or at another member, and no memory beside the reply's id and the room in `out`.
     pub fn heartbeat_over(
         &mut self,
-        request: &HeartbeatRequest<'_>,
+        request: &MemberHeartbeat<'_, '_>,
         stamp: Stamp,
         now: Moment,
         image: &Image,
@@ -236,7 +237,7 @@ impl Group {
     ) -> Result<Outcome, AllocError>
         requires current { is_current ≡ true → IsCurrent self.old.state image.now }
         ensures step { IfOk result (λ outcome. HeartbeatStep self.old.state
-            (arrival_of (heartbeat_request_value request.now) stamp now image.now) (answer_of outcome) self.new.state) }
+            (arrival_of (heartbeat_request_value request.now.request.now) stamp now image.now) (answer_of outcome) self.new.state) }
         ensures response { IfOk result (λ outcome. IsResponse (answer_of outcome) self.new.state image.now (vec_capacity out.new - length out.new.items)) }
         ensures since { KeepsSinceOr self.old.holders self.new.holders self.new.state.target_epoch }
         ensures out { out.new.items ≡ out.old.items }
@@ -244,7 +245,15 @@ impl Group {
     {
         // so that its topics are known to be an image's
         let _ = image.len();
-        heartbeat::respond(&mut self.state, request, stamp, now, image, is_current, out)
+        heartbeat::respond(
+            &mut self.state,
+            request.request,
+            stamp,
+            now,
+            image,
+            is_current,
+            out,
+        )
     }
 
     /// Answers a commit of offsets (KIP-848, "OffsetCommit") over the node's image: it is refused as a whole, or taken and answered

@@ -1,5 +1,6 @@
 //! One heartbeat at a group (KIP-848, "Consumer Group Heartbeat").
-ghost use Rattle.std.specs.Prelude.{◌≡◌, ◌-◌, IfOk, OnErr, true, length, vec_capacity};
+ghost use Rattle.std.specs.Prelude.{◌≡◌, ◌≤◌, ◌-◌, IfOk, OnErr, true, length, vec_capacity};
+ghost use Rattle.group_types.specs.Limits.{LONGEST_STRING};
 ghost use Rattle.group_types.specs.Sound.{IsSound};
 ghost use Rattle.group_types.specs.Request.{kind_of};
 ghost use Rattle.group_types.specs.Checks.{Accepted, sender_of, verdict_on};
@@ -35,6 +36,7 @@ pub fn respond(
     out: &mut Vec<u8>,
 ) -> Result<Outcome, AllocError>
     requires group { IsGroup state.old }
+    requires id { length request.now.member_id.now ≤ LONGEST_STRING }
     requires current { is_current ≡ true → IsCurrent (group_of state.old) image.now }
     ensures step { IfOk result (λ outcome. HeartbeatStep (group_of state.old)
         (arrival_of (heartbeat_request_value request.now) stamp moment image.now) (answer_of outcome) (group_of state.new)) }
@@ -62,6 +64,7 @@ fn answer(
     out: &mut Vec<u8>,
 ) -> Result<Outcome, AllocError>
     requires group { IsGroup state.old }
+    requires id { length request.now.member_id.now ≤ LONGEST_STRING }
     ensures step { IfOk result (λ outcome. HeartbeatStep (group_of state.old)
         (arrival_of (heartbeat_request_value request.now) stamp moment image.now) (answer_of outcome) (group_of state.new)) }
     ensures response { IfOk result (λ outcome. IsResponse (answer_of outcome) (group_of state.new) image.now (vec_capacity out.new - length out.new.items)) }
@@ -85,6 +88,7 @@ fn accept(
     out: &mut Vec<u8>,
 ) -> Result<Outcome, AllocError>
     requires group { IsGroup state.old }
+    requires id { length request.now.member_id.now ≤ LONGEST_STRING }
     requires accepted { let q = heartbeat_of (heartbeat_request_value request.now) in
         verdict_on (kind_of q.epoch) (sender_of state.old.records.records q) (group_of state.old) q stamp ≡ Accepted }
     ensures step { let a = arrival_of (heartbeat_request_value request.now) stamp moment image.now in

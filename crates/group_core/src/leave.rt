@@ -1,9 +1,10 @@
 //! A member leaves for good (KIP-848, "Consumer Group Heartbeat", member epoch -1), or a static one goes away for a while ("Static
 //! Membership", member epoch -2).
-ghost use Rattle.std.specs.Prelude.{◌≡◌, ◌-◌, IfOk, OnOk, Some, length, vec_capacity};
+ghost use Rattle.std.specs.Prelude.{◌≡◌, ◌≤◌, ◌-◌, IfOk, OnOk, Some, length, vec_capacity};
 ghost use Rattle.std.specs.FinMap as finite;
 ghost use Rattle.group_types.specs.Group.{Record};
 ghost use Rattle.group_types.specs.Leave.{gone_away, left, risen};
+ghost use Rattle.group_types.specs.Limits.{LONGEST_STRING};
 ghost use Rattle.group_types.specs.Request.{GOES_AWAY_AT, LEAVES_AT};
 ghost use Rattle.group_types.specs.HeartbeatStep.{Replied, farewell};
 ghost use Rattle.group_types.specs.Topics.{Topics};
@@ -29,6 +30,7 @@ pub fn leave(
 ) -> Result<Outcome, AllocError>
     requires marks { AreMarked (group_of state.old) state.old.records.marks }
     requires there { IsMember state.old.records member.now }
+    requires id { length member.now ≤ LONGEST_STRING }
     ensures answer { IfOk result (λ outcome. answer_of outcome ≡ Replied (farewell member.now LEAVES_AT)) }
     ensures group { OnOk result (group_of state.new ≡ left (group_of state.old) member.now stamp moment) }
     ensures response { (image : Topics) → IfOk result (λ outcome. IsResponse (answer_of outcome) (group_of state.new) image (vec_capacity out.new - length out.new.items)) }
@@ -55,6 +57,7 @@ pub fn go_away(
 ) -> Result<Outcome, AllocError>
     requires marks { AreMarked (group_of state.old) state.old.records.marks }
     requires there { IsMember state.old.records member.now }
+    requires id { length member.now ≤ LONGEST_STRING }
     ensures answer { IfOk result (λ outcome. answer_of outcome ≡ Replied (farewell member.now GOES_AWAY_AT)) }
     ensures group { OnOk result ((r : Record) × (finite.get state.old.records.records member.now ≡ Some r)
         × (group_of state.new ≡ gone_away (group_of state.old) member.now r stamp moment)) }

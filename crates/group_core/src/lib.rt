@@ -22,6 +22,7 @@ mod laws;
 mod leave;
 mod listing;
 mod mark;
+mod member_heartbeat;
 mod naming;
 mod outcome;
 mod owners;
@@ -40,13 +41,17 @@ pub use group::Group;
 pub use group_epochs::{Record, RecordFields, Records};
 pub use group_reconcile::Grants;
 pub use group_target::Target;
-pub use group_types::{Code, Epoch, EpochNumber, MemberId, Moment, PartSet, Partition, Stamp};
+pub use group_types::{
+    AssignorName, Code, Epoch, EpochNumber, MemberId, Moment, NameSet, PartSet, Partition, Stamp,
+    Wanted,
+};
 pub use kip_msgs::{Array, CommitReply, CommitRequest, HeartbeatRequest, TopicPartitions};
 pub use laws::{
     assignors_are_lawful, first_joins_are_answered, heartbeats_have_an_answer,
     heartbeats_have_one_answer, targets_exist, targets_follow_members,
 };
-pub use offset_guard::{Committed, Offsets};
+pub use member_heartbeat::MemberHeartbeat;
+pub use offset_guard::{Committed, CommittedAt, Offsets};
 pub use outcome::{Outcome, Reply};
 pub use range_assign::Share;
 pub use restoring::{GroupNumbers, Restoring};

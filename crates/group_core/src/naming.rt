@@ -1,7 +1,8 @@
 //! The id under which a member joins, and its draft.
-ghost use Rattle.std.specs.Prelude.{◌≡◌, IfOk, IfSome, MatchOption, Some, None, []};
+ghost use Rattle.std.specs.Prelude.{◌≡◌, ◌≤◌, IfOk, IfSome, MatchOption, Some, None, [], length};
 ghost use Rattle.group_types.specs.Sound.{IsSound};
 ghost use Rattle.group_types.specs.Join.{IsNamed};
+ghost use Rattle.group_types.specs.Limits.{LONGEST_STRING};
 ghost use Rattle.kip_msgs.specs.Views.{heartbeat_request_value};
 ghost use Rattle.group_epochs.specs.Drafts.{CanStore};
 ghost use Rattle.group_epochs.specs.Request.{heartbeat_of};
@@ -10,10 +11,9 @@ ghost use Rattle.group_core.specs.Stages.{IsDraft, name_in};
 
 use crate::draft::Draft;
 use crate::state::State;
-use group_types::limits::LONGEST_STRING;
 use group_types::{MemberId, Moment, Stamp};
 use kip_msgs::HeartbeatRequest;
-use std::alloc::{AllocError, Global};
+use std::alloc::AllocError;
 
 /// An id, and the serial of the last id that was made.
 #[derive(Drop)]
@@ -31,6 +31,7 @@ pub fn draft_of(
     now: Moment,
 ) -> Result<Option<Draft>, AllocError>
     requires sound { IsSound (group_of state.old) }
+    requires id { length request.now.member_id.now ≤ LONGEST_STRING }
     ensures draft { let q = heartbeat_of (heartbeat_request_value request.now) in
         IfOk result (λ draft. MatchOption draft (IsNamed (group_of state.old) q.member None) (IsDraft (group_of state.old) q stamp now)) }
     ensures room { IfOk result (λ draft. IfSome draft (λ d. CanStore state.new.records d.member.id d.member.record d.member.place)) }
@@ -49,26 +50,17 @@ pub fn draft_of(
 /// The id under which a member joins or beats: the one that it names, or one that is made where it names none; none where no serial is
 /// left. Fails where memory is short.
 fn name_for(state: &State, member: &str) -> Result<Option<Name>, AllocError>
+    requires { length member.now ≤ LONGEST_STRING }
     ensures { IfOk result (λ name. IsNamed (group_of state.now) member.now (name_in name)) }
 {
     if member.is_empty() {
         return made_name(state);
     }
-    let id = member_id(state.alloc, member)?;
+    let id = MemberId::of(state.alloc, member)?;
     Ok(Some(Name {
         id,
         ids_made: state.ids_made,
     }))
-}
-
-/// The id with a text. Fails where memory is short; no memory is enough for a text longer than any that the wire takes.
-pub fn member_id(alloc: Global, text: &str) -> Result<MemberId, AllocError>
-    ensures { IfOk result (λ id. id ≡ text.now) }
-{
-    if text.len() > LONGEST_STRING {
-        return Err(AllocError);
-    }
-    MemberId::of(alloc, text)
 }
 
 /// The id of the next serial whose id isn't remembered. Fails where memory is short.

@@ -12,7 +12,6 @@ ghost use Rattle.group_core.specs.Stages.{AreOfView, IsPlan, IsSuccessor, assign
 
 use crate::change::Renewal;
 use crate::draft::Draft;
-use crate::naming::member_id;
 use crate::place::Successor;
 use crate::shown::Shown;
 use crate::state::State;
@@ -93,12 +92,13 @@ pub fn id_with_room(
     assignment: &Option<Shown>,
     out: &mut Vec<u8>,
 ) -> Result<MemberId, AllocError>
+    requires id { length id.now ≤ limits.LONGEST_STRING }
     requires few { IfSome assignment.now (λ set. size set ≤ limits.MOST_PARTITIONS) }
     ensures id { IfOk result (λ r. r ≡ id.now) }
     ensures room { IfOk result (λ r. room_for (Some r) assignment.now ≤ vec_capacity out.new - length out.new.items) }
     ensures out { out.new.items ≡ out.old.items }
 {
-    let id = member_id(alloc, id)?;
+    let id = MemberId::of(alloc, id)?;
     make_room(out, id.as_str(), assignment)?;
     Ok(id)
 }

@@ -16,7 +16,7 @@ use crate::outcome::Outcome;
 use crate::plan::{Plan, plan_of, target_of};
 use crate::reported::reported;
 use crate::state::State;
-use group_reconcile::Verdict;
+use group_reconcile::{MemberTarget, Verdict};
 use group_types::{Moment, PartSet};
 use kip_msgs::HeartbeatRequest;
 use std::alloc::AllocError;
@@ -79,12 +79,15 @@ fn offered(
     renewal: &Renewal,
     owned: &Option<PartSet>,
 ) -> Result<bool, AllocError>
+    requires owned { AreOfView (target_then state.old renewal.now).owners renewal.now.view }
     ensures offer { IfOk result (λ moves. IsOffered state.old draft.now renewal.now owned.now moves state.new) }
     ensures err { OnErr result (state.new ≡ state.old) }
 {
     let id = &draft.member.id;
     let target = target_of(&renewal.target, &state.target);
-    let grants = &mut state.grants;
-    let verdict = grants.offer(id, &target.of(id.as_str()), owned.as_ref())?;
+    let target = MemberTarget {
+        wanted: target.of(id.as_str()),
+    };
+    let verdict = state.grants.offer(id, &target, owned.as_ref())?;
     Ok(matches!(verdict, Verdict::Moves))
 }

@@ -1,5 +1,6 @@
 //! A beat that gives nothing, of a member that has nothing to be told: no walk and no look at another member (ours).
-ghost use Rattle.std.specs.Prelude.{◌≡◌, ◌-◌, IfNone, IfOk, IfSome, IsSome, IsTrue, length, vec_capacity};
+ghost use Rattle.std.specs.Prelude.{◌≡◌, ◌≤◌, ◌-◌, IfNone, IfOk, IfSome, IsSome, IsTrue, length, vec_capacity};
+ghost use Rattle.group_types.specs.Limits.{LONGEST_STRING};
 ghost use Rattle.group_types.specs.Topics.{Topics};
 ghost use Rattle.group_types.specs.HeartbeatStep.{HeartbeatStep};
 ghost use Rattle.kip_msgs.specs.Views.{heartbeat_request_value};
@@ -52,6 +53,7 @@ pub fn beat_steadily(
     out: &mut Vec<u8>,
 ) -> Result<Option<Outcome>, AllocError>
     requires group { IsGroup state.old }
+    requires id { length request.now.member_id.now ≤ LONGEST_STRING }
     requires steady { IsSteadyBeat state.old (heartbeat_of (heartbeat_request_value request.now)) }
     ensures step { (image : Topics) → IsCurrent (group_of state.old) image → IfOk result (λ answer. IfSome answer (λ outcome. HeartbeatStep (group_of state.old)
         (arrival_of (heartbeat_request_value request.now) stamp moment image) (answer_of outcome) (group_of state.new))) }

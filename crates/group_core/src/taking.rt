@@ -1,6 +1,7 @@
 //! A join or a beat (KIP-848, "Consumer Group Heartbeat", member epochs from 0 on): its draft, its change, its renewal, its settling and
 //! its reply.
-ghost use Rattle.std.specs.Prelude.{◌≡◌, ◌≢◌, ◌≤ℤ◌, ◌-◌, IfOk, length, pos, vec_capacity};
+ghost use Rattle.std.specs.Prelude.{◌≡◌, ◌≢◌, ◌≤◌, ◌≤ℤ◌, ◌-◌, IfOk, length, pos, vec_capacity};
+ghost use Rattle.group_types.specs.Limits.{LONGEST_STRING};
 ghost use Rattle.group_types.specs.Request.{kind_of};
 ghost use Rattle.group_types.specs.Checks.{Accepted, sender_of, verdict_on};
 ghost use Rattle.group_types.specs.Topics.{Topics};
@@ -35,6 +36,7 @@ pub fn enter(
     out: &mut Vec<u8>,
 ) -> Result<Outcome, AllocError>
     requires group { IsGroup state.old }
+    requires id { length request.now.member_id.now ≤ LONGEST_STRING }
     requires epoch { pos 0 ≤ℤ request.now.member_epoch }
     requires accepted { let q = heartbeat_of (heartbeat_request_value request.now) in
         verdict_on (kind_of q.epoch) (sender_of state.old.records.records q) (group_of state.old) q stamp ≡ Accepted }

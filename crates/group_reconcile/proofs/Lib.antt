@@ -1,4 +1,6 @@
 pub mod Bools
+pub mod AllOfSets
+pub mod FromZero
 pub mod Tests
 pub mod Pairs
 pub mod Lookups

@@ -1,12 +1,13 @@
 -- KIP-848, "Current Assignment": who holds which partition, as a map from partitions to their holders and as pairs.
-use Rattle.std.specs.Prelude.{◌≡◌, ℕ, ℤ, pos, negsuc, Bool, true, false, ◌&&◌, [], map, Option, Some, None, is_none, if◌then◌else◌, refl}
+use Rattle.std.specs.Prelude.{◌≡◌, ℕ, ℤ, pos, negsuc, Bool, true, false, ◌&&◌, [], map, Option, Some, None, is_none, IsTrue, if◌then◌else◌, refl}
 use Rattle.std.specs.Coded.{Coded, code_by, coded×, coded_ℕ, coded_list}
+use Rattle.std.specs.List.{list_all}
 use Rattle.std.specs.Option.{option_map, option_map_or}
 use Rattle.std.specs.Ordering.{eq_by_cmp}
 use Rattle.std.specs.FinMap as finite
 use Rattle.group_types.specs.declared.partition.Partition.{Partition}
 use Rattle.group_types.specs.Text.{Text, text_cmp}
-use Rattle.group_types.specs.Sets.{has, of_list}
+use Rattle.group_types.specs.Sets.{has, in_order, of_list}
 use Rattle.group_types.specs.Partition.{partition_cmp, partition_code, Partitions}
 use Rattle.group_types.specs.Group.{Grants}
 
@@ -71,6 +72,10 @@ LetsGo h m n = (p : Partition) → finite.get n p ≡ other_holder m (finite.get
 abbrev pub is_from_zero : ℤ → Bool
 is_from_zero (pos n) = true
 is_from_zero (negsuc n) = false
+
+-- no partition of the set has an index below 0
+abbrev pub AreFromZero : Partitions → Type 0
+AreFromZero set = IsTrue (list_all (λ p. is_from_zero p.index) (in_order set))
 
 -- whether the partition is free and may be held: no topic has an index below 0
 abbrev pub is_grantable : Holders → Partition → Bool

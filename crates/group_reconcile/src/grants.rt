@@ -1,16 +1,17 @@
 //! Who may read which partition.
 
-ghost use Rattle.std.specs.Prelude.{◌≡◌, IfOk, IsTrue, None, OnErr, OnOk, is_none, unwrap_or};
+ghost use Rattle.std.specs.Prelude.{◌≡◌, ◌≤ℤ◌, IfOk, IsTrue, None, OnErr, OnOk, is_none, pos, unwrap_or};
 ghost use Rattle.std.specs.Option.{option_copied, option_map};
 ghost use Rattle.std.specs.FinMap as finite;
 ghost use Rattle.group_types.specs.Sets.{common, in_order, nothing};
 ghost use Rattle.group_types.specs.Group.{held};
 ghost use Rattle.group_types.specs.Settle.{granting, grants_after, grants_of_others, may_settle};
 ghost use Rattle.group_reconcile.specs.Members.{parts_of};
-ghost use Rattle.group_reconcile.specs.Holders.{Settles, granted_at, holds, is_grantable, pairs, with_grant};
+ghost use Rattle.group_reconcile.specs.Holders.{AreFromZero, Settles, granted_at, holds, is_grantable, pairs, with_grant};
 ghost use Rattle.group_reconcile.specs.Offers.{IsSince, KeepsSince, handed_over, verdict_of};
 
 use crate::cell::Cell;
+use crate::member_target::MemberTarget;
 use crate::members::Members;
 use crate::settle::{clear_each, make_room_for, may_move, next_of, settle};
 use crate::table::Table;
@@ -108,28 +109,29 @@ impl Grants {
 
     /// Offers its target to a member that reports what it owns, or nothing (KIP-848, "Reconciliation of the group"): it
     /// moves once it has given up what isn't its target any more, and is then granted what nobody else holds of the target.
-    /// Where memory is short, nothing has changed; no memory is enough to grant an index below 0, which no topic has.
+    /// If memory is short, nothing has changed.
     pub fn offer(
         &mut self,
         member: &MemberId,
-        target: &Wanted<'_>,
+        target: &MemberTarget<'_>,
         owned: Option<&PartSet>,
     ) -> Result<Verdict, AllocError>
-        ensures verdict { let may = may_settle (pairs self.old) member.now target.now.partitions (option_copied owned.entry) in
+        ensures verdict { let may = may_settle (pairs self.old) member.now target.now.wanted.partitions (option_copied owned.entry) in
             IfOk result (λ v. v ≡ verdict_of may) }
-        ensures grants { let may = may_settle (pairs self.old) member.now target.now.partitions (option_copied owned.entry) in
-            OnOk result (pairs self.new ≡ grants_after may (pairs self.old) member.now target.now.partitions) }
-        ensures since { OnOk result (IsSince self.old self.new member.now target.now.epoch) }
+        ensures grants { let may = may_settle (pairs self.old) member.now target.now.wanted.partitions (option_copied owned.entry) in
+            OnOk result (pairs self.new ≡ grants_after may (pairs self.old) member.now target.now.wanted.partitions) }
+        ensures since { OnOk result (IsSince self.old self.new member.now target.now.wanted.epoch) }
         ensures err { OnErr result (self.new ≡ self.old) }
     {
         let id = member.as_str();
-        if self.is_settled(id, target) {
+        let wanted = &target.wanted;
+        if self.is_settled(id, wanted) {
             return Ok(Verdict::Moves);
         }
-        if !self.may_settle(id, target, owned) {
+        if !self.may_settle(id, wanted, owned) {
             return Ok(Verdict::StillHolds);
         }
-        self.settle_on(member, target)?;
+        self.settle_on(member, wanted)?;
         Ok(Verdict::Moves)
     }
 
@@ -158,6 +160,7 @@ impl Grants {
 
     /// Settles a member on its target: what can fail comes first. Where memory is short, nothing has changed.
     fn settle_on(&mut self, member: &MemberId, target: &Wanted<'_>) -> Result<(), AllocError>
+        requires { AreFromZero target.now.partitions }
         ensures settled { OnOk result (Settles self.old member.now target.now.partitions target.now.epoch self.new) }
         ensures err { OnErr result (self.new ≡ self.old) }
     {
@@ -230,7 +233,8 @@ impl Grants {
 
     /// Whether the partition is free and may be held.
     fn is_grantable(&self, p: &Partition) -> bool
-        ensures { result ≡ is_grantable self.now p.now }
+        ensures grantable { result ≡ is_grantable self.now p.now }
+        ensures index { IsTrue result → pos 0 ≤ℤ p.now.index }
     {
         p.index >= 0 && self.free(p)
     }
@@ -242,7 +246,8 @@ impl Grants {
         p: &Partition,
         since: EpochNumber,
     ) -> Result<(), AllocError>
-        requires { finite.get self.old p.now ≡ None }
+        requires free { finite.get self.old p.now ≡ None }
+        requires index { pos 0 ≤ℤ p.now.index }
         ensures holders { OnOk result (self.new ≡ finite.insert self.old p.now (record { member = member.now; since = since })) }
         ensures err { OnErr result (self.new ≡ self.old) }
     {

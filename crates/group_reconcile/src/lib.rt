@@ -6,6 +6,7 @@
 
 mod cell;
 mod grants;
+mod member_target;
 mod members;
 mod settle;
 mod table;
@@ -13,4 +14,5 @@ mod verdict;
 
 pub use grants::Grants;
 pub use group_types::{EpochNumber, MemberId, PartSet, Partition, Wanted};
+pub use member_target::MemberTarget;
 pub use verdict::Verdict;

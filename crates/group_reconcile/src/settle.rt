@@ -6,6 +6,7 @@ ghost use Rattle.std.specs.Option.{option_copied};
 ghost use Rattle.slab.specs.Slab.{get};
 ghost use Rattle.group_types.specs.Sets.{in_order, minus, nothing};
 ghost use Rattle.group_types.specs.Settle.{may_move};
+ghost use Rattle.group_reconcile.specs.Holders.{AreFromZero};
 ghost use Rattle.group_reconcile.specs.Members.{SetsParts, parts_of};
 ghost use Rattle.group_reconcile.specs.Tables.{HasRoom};
 ghost use Rattle.group_reconcile.specs.Settling.{IsNext, cells_cleared, cells_put, cells_without, is_kept, may_take, put_where_free, taken_of, with_if_free};
@@ -125,8 +126,9 @@ pub fn settle(
     members.set_parts(number, next);
 }
 
-/// Makes room for the cells of all these partitions. Where memory is short, no cell has changed.
+/// Makes room for the cells of all these partitions. If memory is short, no cell has changed.
 pub fn make_room_for(table: &mut Table, alloc: Global, next: &PartSet) -> Result<(), AllocError>
+    requires { AreFromZero next.now }
     ensures cells { table.new.cells ≡ table.old.cells }
     ensures room { OnOk result (AllByRecursion (HasRoom table.new.sizes) (in_order next.now)) }
 {

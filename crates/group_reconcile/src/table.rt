@@ -1,6 +1,6 @@
 //! The cells of all partitions.
 
-ghost use Rattle.std.specs.Prelude.{◌≡◌, length, OnOk, IsSome};
+ghost use Rattle.std.specs.Prelude.{◌≡◌, ◌≤ℤ◌, length, pos, OnOk, IsSome};
 ghost use Rattle.std.specs.FinMap as finite;
 ghost use Rattle.group_types.specs.Owners.{IsIndex};
 ghost use Rattle.group_reconcile.specs.Tables.{AddsBlanks, HasRoom, KeepsRoom, SetsCell, cell_at};
@@ -48,8 +48,9 @@ impl Table {
         }
     }
 
-    /// Makes room for a partition's cell. Where memory is short, no cell has changed.
+    /// Makes room for a partition's cell. If memory is short, no cell has changed.
     pub fn make_room(&mut self, alloc: Global, p: &Partition) -> Result<(), AllocError>
+        requires { pos 0 ≤ℤ p.now.index }
         ensures cells { self.new.cells ≡ self.old.cells }
         ensures kept { KeepsRoom self.old.sizes self.new.sizes }
         ensures room { OnOk result (HasRoom self.new.sizes p.now) }
@@ -72,7 +73,8 @@ impl Table {
 
     /// Makes room for a partition's cell, whose topic has a table. Where memory is short, no cell has changed.
     fn lengthen(&mut self, p: &Partition) -> Result<(), AllocError>
-        requires { IsSome (finite.get self.old.sizes p.now.topic) }
+        requires topic { IsSome (finite.get self.old.sizes p.now.topic) }
+        requires index { pos 0 ≤ℤ p.now.index }
         ensures cells { self.new.cells ≡ self.old.cells }
         ensures kept { KeepsRoom self.old.sizes self.new.sizes }
         ensures room { OnOk result (HasRoom self.new.sizes p.now) }
@@ -124,13 +126,14 @@ fn cell_at(cells: &Vec<Option<Cell>>, index: i32) -> Option<Cell>
     }
 }
 
-/// Makes the cells go as far as an index. Where memory is short, they stay as they were; no memory is enough for an index below 0.
+/// Makes the cells go as far as an index. If memory is short, they stay as they were.
 fn add_blanks(cells: &mut Vec<Option<Cell>>, index: i32) -> Result<(), AllocError>
+    requires { pos 0 ≤ℤ index }
     ensures blanks { AddsBlanks cells.old.items cells.new.items }
     ensures far { OnOk result (IsIndex index (length cells.new.items)) }
 {
     let Ok(index) = usize::try_from(index) else {
-        return Err(AllocError);
+        unreachable!()
     };
     if index < cells.len() {
         return Ok(());

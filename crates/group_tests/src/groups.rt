@@ -3,7 +3,8 @@
 use crate::commits;
 use flex_wire::TaggedFields;
 use group_core::{
-    Group, HeartbeatRequest, Image, Moment, Outcome, PartSet, Partition, Reply, Stamp,
+    Group, HeartbeatRequest, Image, MemberHeartbeat, Moment, Outcome, PartSet, Partition, Reply,
+    Stamp,
 };
 use group_types::EpochNumber;
 use kip_msgs::{Array, CommitRequest, TopicPartitions};
@@ -310,9 +311,12 @@ fn heartbeat(
     };
     let now = Moment::of_millis(7);
     let before = numbers_of(&told.group);
+    let Some(request) = MemberHeartbeat::of(request) else {
+        return Err(AllocError);
+    };
     if let Ok(outcome) = told
         .group
-        .heartbeat(request, stamp, now, &told.image, frame)
+        .heartbeat(&request, stamp, now, &told.image, frame)
     {
         return Ok(outcome);
     }
@@ -320,7 +324,7 @@ fn heartbeat(
         out.push_str("a refused growth has changed the group")?;
     }
     told.group
-        .heartbeat(request, stamp, now, &told.image, frame)
+        .heartbeat(&request, stamp, now, &told.image, frame)
 }
 
 fn numbers_of(group: &Group) -> (u32, u32, usize) {

@@ -4,6 +4,10 @@
 #[cfg(test)]
 mod beats;
 #[cfg(test)]
+mod held;
+#[cfg(test)]
+mod holding;
+#[cfg(test)]
 mod lines;
 #[cfg(test)]
 mod noting;

@@ -1,5 +1,6 @@
 //! A desk that notes whether a line has ended for want of memory.
 
+use futures::task::{Context, Poll};
 use link_futures::{Answered, Desk, End, Stamp};
 use std::alloc::AllocError;
 use std::sync::atomic::{AtomicBool, Ordering};
@@ -23,6 +24,8 @@ impl<'a, D: Desk> Desk for Noting<'a, D> {
 
     ghost lacks = { λ d e. D.lacks d.desk e.desk };
 
+    ghost wakes = { λ d source. D.wakes d.desk source };
+
     fn answer(
         &mut self,
         body: &[u8],
@@ -34,6 +37,10 @@ impl<'a, D: Desk> Desk for Noting<'a, D> {
 
     fn may_send(&self, stamp: Stamp) -> bool {
         self.desk.may_send(stamp)
+    }
+
+    fn poll_send(&self, cx: &mut Context<'_>, stamp: Stamp) -> Poll<()> {
+        self.desk.poll_send(cx, stamp)
     }
 
     fn hear_end(&self, _connection: u64, _answered: u64, end: End) {

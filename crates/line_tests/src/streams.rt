@@ -5,6 +5,7 @@
 //!
 //! What each poll does is said by words that are joined by `+`: `N` moves N bytes at most, `p` is pending, `f` fails, and `X*N` does
 //! X N times; `-` is no poll. Past them each poll moves all that it can.
+ghost use Rattle.std.specs.Prelude.{IfSome};
 
 use bytes::BytesMut;
 use futures::Future;
@@ -122,6 +123,29 @@ pub fn output_within<F: Future>(task: &MockTask, future: F, polls: usize) -> Opt
             Poll::Pending => {
                 if !task.is_woken() {
                     return None;
+                }
+            }
+        }
+    }
+    None
+}
+
+/// A future that waits to be woken within `polls` polls, or none if it is ready or asks for further polls.
+pub fn asleep_within<T: Drop, F: Future<Output = T> + Drop>(
+    task: &MockTask,
+    future: F,
+    polls: usize,
+) -> Option<F>
+    requires { F.can_poll future }
+    ensures { IfSome result F.can_poll }
+{
+    let mut future = future;
+    for _ in 0..polls {
+        match task.poll(&mut future) {
+            Poll::Ready(_) => return None,
+            Poll::Pending => {
+                if !task.is_woken() {
+                    return Some(future);
                 }
             }
         }

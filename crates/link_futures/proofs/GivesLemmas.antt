@@ -10,10 +10,10 @@ use Rattle.link_futures.specs.declared.line.Line.{Line}
 use Rattle.link_futures.specs.declared.quiet.Quiet.{Quiet}
 use Rattle.link_futures.specs.declared.session.Session.{Session}
 use Rattle.link_futures.specs.Desks.{Answering, Exchange, Place, place_after, Goes}
-use Rattle.link_futures.specs.Stream.{Talks, Turns, EndsAs, MetNoFault, place_of}
+use Rattle.link_futures.specs.Stream.{Talks, EndsAs, MetNoFault, place_of}
 use Rattle.link_futures.specs.Resting.{Wakes, MayWake}
 use Rattle.link_futures.specs.Workers.{at_any_time, LineMayEnd, AnyMayEnd, WorkerGives}
-use Rattle.link_futures.proofs.TurnLemmas.{Talks_trans, EndsAs_earlier, turn_stops}
+use Rattle.link_futures.proofs.TurnLemmas.{Talks_trans, EndsAs_earlier, talks_stops}
 
 abbrev shared : {R W : Type 0} → Line R W → Session R W (Unit {0})
 shared line = record { line = line; desk = tt }
@@ -85,25 +85,25 @@ module _ {R W D : Type 0} (reads : Passes R) (is_at_end : R → Type 0) (read_fa
 
   -- a line that has had a turn
   pub turned : PassesInOrder reads → PassesInOrder writes → (a b : Line R W) (d e : D)
-      → Turns reads is_at_end writes answers (record { line = a; desk = d }) (record { line = b; desk = e })
+      → Talks reads is_at_end writes answers (record { line = a; desk = d }) (record { line = b; desk = e })
       → MetNoFault read_faults write_faults stalls a b → (end : End) → MayEndSo b end → MayEndSo a end
-  turned read_order write_order a b d e turns none =
-      line_goes_on read_order write_order a b (Talks_any (record { line = a; desk = d }) (record { line = b; desk = e }) turns.talks) none
+  turned read_order write_order a b d e talks none =
+      line_goes_on read_order write_order a b (Talks_any (record { line = a; desk = d }) (record { line = b; desk = e }) talks) none
 
   -- a line that a turn has ended
-  pub turned_out : (a b : Line R W) (d e : D) (end : End) → Turns reads is_at_end writes answers (record { line = a; desk = d }) (record { line = b; desk = e })
+  pub turned_out : (a b : Line R W) (d e : D) (end : End) → Talks reads is_at_end writes answers (record { line = a; desk = d }) (record { line = b; desk = e })
       → EndsAs read_faults write_faults stalls end a b → MayEndSo a end
-  turned_out a b d e end turns ends =
-      (shared b, Talks_any (record { line = a; desk = d }) (record { line = b; desk = e }) turns.talks, ends)
+  turned_out a b d e end talks ends =
+      (shared b, Talks_any (record { line = a; desk = d }) (record { line = b; desk = e }) talks, ends)
 
   woken_on : PassesNothing writes → PassesInOrder reads → PassesInOrder writes → (a b : Line R W) → Wakes reads is_at_end read_faults write_faults stalls a (Ok b)
       → (end : End) → MayEndSo b end → MayEndSo a end
   woken_on nothing read_order write_order a b wakes =
-      line_goes_on read_order write_order a b (turn_stops reads is_at_end writes (at_any_time answers) nothing a b b tt wakes.0 refl).talks wakes.1
+      line_goes_on read_order write_order a b (talks_stops reads is_at_end writes (at_any_time answers) nothing a b tt wakes.0) wakes.1
 
   woken_out : PassesNothing writes → (a b : Line R W) (end : End) → Wakes reads is_at_end read_faults write_faults stalls a (Err (b, end)) → MayEndSo a end
   woken_out nothing a b end wakes =
-      (shared b, (turn_stops reads is_at_end writes (at_any_time answers) nothing a b b tt wakes.0 refl).talks, wakes.1)
+      (shared b, (talks_stops reads is_at_end writes (at_any_time answers) nothing a b tt wakes.0), wakes.1)
 
   abbrev Rest : Type 0
   Rest = Option (FuturesUnordered (Quiet (Line R W)))

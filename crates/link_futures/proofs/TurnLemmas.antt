@@ -20,9 +20,10 @@ use Rattle.link_futures.specs.declared.line.Line.{Line}
 use Rattle.link_futures.specs.declared.session.Session.{Session}
 use Rattle.group_types.specs.Frames.{frame_of, IsBody}
 use Rattle.link_futures.specs.Next.{IsFront}
+use Rattle.link_futures.specs.Parts.{AtMostOnce}
 use Rattle.link_futures.specs.Desks.{Answering, Exchange, Place, next_stamp, closes, closes_by, place_after, Goes}
 use Rattle.link_futures.specs.Buffers.{Waiting, bytes_of_all}
-use Rattle.link_futures.specs.Stream.{unanswered, unsent, HasRoom, WantsBytes, LineNeeds, place_of, frames_of, replies_of, Talks, Turns, EndsAs, MetNoFault, LeavesDesk}
+use Rattle.link_futures.specs.Stream.{unanswered, unsent, HasRoom, WantsBytes, SendNeeds, LineNeeds, place_of, frames_of, replies_of, Talks, Turns, EndsAs, MetNoFault, LeavesDesk}
 use Rattle.link_futures.specs.Steps.{ReadsOn, AnswersOn, WritesOn}
 use Rattle.link_futures.specs.declared.turned.Turned.{Turned}
 use Rattle.link_futures.specs.Turned.{polled_of}
@@ -72,6 +73,17 @@ module _ {R W : Type 0} where
   WritesOn_nothing writes nothing old =
       record { written = []; writing = nothing old.writer; taken = refl; others = refl }
 
+  -- nothing was written, and the line has asked whether it may
+  pub WritesOn_same : (writes : Passes W) → PassesNothing writes → (old : Line R W) (held : Bool) (writer : W) (outbox : List Waiting) → writer ≡ old.writer → outbox ≡ old.outbox
+      → WritesOn writes old (record old { writer = writer; outbox = outbox; is_held = held })
+  WritesOn_same writes nothing old held writer outbox same_writer same_outbox =
+      record {
+        written = [];
+        writing = subst (λ (w : W). writes old.writer [] w) (sym same_writer) (nothing old.writer);
+        taken = ap bytes_of_all (sym same_outbox);
+        others = refl;
+      }
+
   -- the frame at the front was answered
   pub AnswersOn_one : {D : Type 0} (answers : Answering D) (old : Line R W) (d e : D) (len : ℕ) (kind : Answered) (closed : Bool) (inbox body : List ℕ) (outbox : List Waiting)
       → IsFront old.inbox len → HasRoom old → old.is_closed ≡ false → body ≡ take len (drop 4 old.inbox)
@@ -106,17 +118,16 @@ module _ {R W : Type 0} where
       }
 
 module _ {R W D : Type 0} (reads : Passes R) (is_at_end : R → Type 0) (writes : Passes W) (answers : Answering D) where
-  -- a read, an answer and a write are a turn
-  pub turn_is : (a b c f : Line R W) (d e : D) → ReadsOn reads is_at_end a b → AnswersOn answers b d c e → WritesOn writes c f
-      → Turns reads is_at_end writes answers (record { line = a; desk = d }) (record { line = f; desk = e })
-  turn_is a b c f d e p q r =
+  talks_is : (a b c f : Line R W) (d e : D) → ReadsOn reads is_at_end a b → AnswersOn answers b d c e → WritesOn writes c f
+      → Talks reads is_at_end writes answers (record { line = a; desk = d }) (record { line = f; desk = e })
+  talks_is a b c f d e p q r =
       let reader : f.reader ≡ b.reader = ap (λ (l : Line R W). l.reader) r.others ∙ ap (λ (l : Line R W). l.reader) q.others in
       let over : f.is_over ≡ b.is_over = ap (λ (l : Line R W). l.is_over) r.others ∙ ap (λ (l : Line R W). l.is_over) q.others in
       let writer : c.writer ≡ a.writer = ap (λ (l : Line R W). l.writer) q.others ∙ ap (λ (l : Line R W). l.writer) p.others in
       let first : place_of b ≡ place_of a = ap place_of p.others in
       let last : place_of f ≡ place_of c = ap place_of r.others in
       let inbox : f.inbox ≡ c.inbox = ap (λ (l : Line R W). l.inbox) r.others in
-      let talks : Talks reads is_at_end writes answers (record { line = a; desk = d }) (record { line = f; desk = e }) = record {
+      record {
         read = p.read;
         exchanges = q.exchanges;
         written = r.written;
@@ -132,21 +143,40 @@ module _ {R W D : Type 0} (reads : Passes R) (is_at_end : R → Type 0) (writes 
         ends = λ ended.
             ⊎_elim (λ (h : a.is_over ≡ true). inl h) (λ (h : is_at_end b.reader). inr (subst is_at_end (sym reader) h)) (p.ends (sym over ∙ ended));
         stays = λ was. (over ∙ (p.stays was).0, reader ∙ (p.stays was).1);
-      } in
-      record {
-        talks = talks;
-        short = p.short;
-        wanted = p.wanted;
-        few = q.few;
-        room = λ some. subst (λ (o : List Waiting). (length o < MOST_REPLIES) × (length (bytes_of_all o) ≤ MOST_BYTES)) (ap (λ (l : Line R W). l.outbox) p.others) (q.room some);
       }
 
-  -- a turn that ends behind its read
-  pub turn_stops : PassesNothing writes → (a b c : Line R W) (d : D) → ReadsOn reads is_at_end a b → c ≡ b
-      → Turns reads is_at_end writes answers (record { line = a; desk = d }) (record { line = c; desk = d })
-  turn_stops nothing a b c d p same =
-      subst (λ (l : Line R W). Turns reads is_at_end writes answers (record { line = a; desk = d }) (record { line = l; desk = d })) (sym same)
-      (turn_is a b b b d d p (AnswersOn_nothing answers b d) (WritesOn_nothing writes nothing b))
+  -- what comes to pass if nothing comes after a read
+  pub talks_stops : PassesNothing writes → (a b : Line R W) (d : D) → ReadsOn reads is_at_end a b
+      → Talks reads is_at_end writes answers (record { line = a; desk = d }) (record { line = b; desk = d })
+  talks_stops nothing a b d p =
+      talks_is a b b b d d p (AnswersOn_nothing answers b d) (WritesOn_nothing writes nothing b)
+
+  module _ (read_polls : R → R → Type 0) (write_polls : W → W → Type 0) where
+    -- a read, an answer and a write are a turn
+    pub turn_is : (a b c f : Line R W) (d e : D) → ReadsOn reads is_at_end a b → AtMostOnce read_polls a.reader b.reader → AnswersOn answers b d c e
+        → WritesOn writes c f → AtMostOnce write_polls c.writer f.writer
+        → Turns reads is_at_end writes answers read_polls write_polls (record { line = a; desk = d }) (record { line = f; desk = e })
+    unfolding talks_is
+    turn_is a b c f d e p polled q r sent =
+        let reader : f.reader ≡ b.reader = ap (λ (l : Line R W). l.reader) r.others ∙ ap (λ (l : Line R W). l.reader) q.others in
+        let writer : c.writer ≡ a.writer = ap (λ (l : Line R W). l.writer) q.others ∙ ap (λ (l : Line R W). l.writer) p.others in
+        let outbox : b.outbox ≡ a.outbox = ap (λ (l : Line R W). l.outbox) p.others in
+        record {
+          talks = talks_is a b c f d e p q r;
+          reads_once = subst (λ (x : R). AtMostOnce read_polls a.reader x) (sym reader) polled;
+          writes_once = subst (λ (x : W). AtMostOnce write_polls x f.writer) writer sent;
+          short = p.short;
+          wanted = p.wanted;
+          few = q.few;
+          room = λ some. subst (λ (o : List Waiting). (length o < MOST_REPLIES) × (length (bytes_of_all o) ≤ MOST_BYTES)) outbox (q.room some);
+        }
+
+    -- a turn that ends after its read
+    pub turn_stops : PassesNothing writes → (a b c : Line R W) (d : D) → ReadsOn reads is_at_end a b → AtMostOnce read_polls a.reader b.reader → c ≡ b
+        → Turns reads is_at_end writes answers read_polls write_polls (record { line = a; desk = d }) (record { line = c; desk = d })
+    turn_stops nothing a b c d p polled same =
+        subst (λ (l : Line R W). Turns reads is_at_end writes answers read_polls write_polls (record { line = a; desk = d }) (record { line = l; desk = d })) (sym same)
+        (turn_is a b b b d d p polled (AnswersOn_nothing answers b d) (WritesOn_nothing writes nothing b) (inl refl))
 
   Goes_append : (xs ys : List Exchange) (p q r : Place) (d e f : D) → Goes answers p d xs q e → Goes answers q e ys r f → Goes answers p d (xs ++ ys) r f
   Goes_append [] ys p q r d e f one two =
@@ -212,16 +242,21 @@ pub Covers_kept : (a b : Context) (needs : ℕ → Type 0) → Covers a needs �
 Covers_kept a b needs covers keeps =
     (keeps Lasting.armed covers.0, λ s need. keeps (Lasting.hears s) (covers.1 s need))
 
--- a line that waits for its reader or its writer, and for each that it needs
-pub LineNeeds_covered : {R W : Type 0} (read : R → ℕ → Type 0) (write : W → ℕ → Type 0) (line : Line R W) (cx : Context) (reader_waits writer_waits : Bool)
-    → (reader_waits ≡ true → Covers cx (read line.reader)) → (writer_waits ≡ true → Covers cx (write line.writer))
-    → ((reader_waits ≡ true) ⊎ (¬ WantsBytes line)) → ((writer_waits ≡ true) ⊎ (length line.outbox ≡ 0))
-    → ((reader_waits ≡ true) ⊎ (writer_waits ≡ true)) → Covers cx (LineNeeds read write line)
-LineNeeds_covered {R} {W} read write line cx reader_waits writer_waits reader writer reads writes waits = (
-  ⊎_elim (λ (h : reader_waits ≡ true). (reader h).0) (λ (h : writer_waits ≡ true). (writer h).0) waits,
+-- the same for fewer sources
+pub Covers_fewer : (cx : Context) (needs fewer : ℕ → Type 0) → ((s : ℕ) → fewer s → needs s) → Covers cx needs → Covers cx fewer
+Covers_fewer cx needs fewer within covers =
+    (covers.0, λ s need. covers.1 s (within s need))
+
+-- a line that waits for its reader or to send, and for each that it needs
+pub LineNeeds_covered : {R W : Type 0} (read : R → ℕ → Type 0) (write : W → ℕ → Type 0) (desk : ℕ → Type 0) (line : Line R W) (cx : Context) (reader_waits send_waits : Bool)
+    → (reader_waits ≡ true → Covers cx (read line.reader)) → (send_waits ≡ true → Covers cx (SendNeeds write desk line))
+    → ((reader_waits ≡ true) ⊎ (¬ WantsBytes line)) → ((send_waits ≡ true) ⊎ (length line.outbox ≡ 0))
+    → ((reader_waits ≡ true) ⊎ (send_waits ≡ true)) → Covers cx (LineNeeds read write desk line)
+LineNeeds_covered {R} {W} read write desk line cx reader_waits send_waits reader send reads sends waits = (
+  ⊎_elim (λ (h : reader_waits ≡ true). (reader h).0) (λ (h : send_waits ≡ true). (send h).0) waits,
   λ source need.
       ⊎_elim
       (λ (h : WantsBytes line × read line.reader source). ⊎_elim (λ (w : reader_waits ≡ true). (reader w).1 source h.1) (λ (w : ¬ WantsBytes line). absurd (w h.0)) reads)
-      (λ (h : (0 < length line.outbox) × write line.writer source). ⊎_elim (λ (w : writer_waits ≡ true). (writer w).1 source h.1) (λ (w : length line.outbox ≡ 0). absurd (omega (arith, w, h.0))) writes)
+      (λ (h : (0 < length line.outbox) × SendNeeds write desk line source). ⊎_elim (λ (w : send_waits ≡ true). (send w).1 source h.1) (λ (w : length line.outbox ≡ 0). absurd (omega (arith, w, h.0))) sends)
       need,
 )

@@ -20,7 +20,7 @@ pub record IsRequestOf (c : Client) (frame : List ℕ) : Type 0 where
   pub ask : Ask
   pub sends : Sends before ask frame c
 
--- The member takes what stands behind the size of the reply; or it gives up, for this end.
+-- The member takes what stands after the size of the reply; or it gives up, for this end.
 abbrev pub Finishes : {S : Type 0} → Result (Unit {0}) End → Client → List ℕ → Result (Next S) (Member S × End) → Type 0
 Finishes (Ok done) c reply (Ok next) = IsNext c (drop 4 reply) next
 Finishes (Ok done) c reply (Err failed) = ⊥
@@ -96,7 +96,7 @@ module _ {R W S : Type 0} where
     EndsCall is_at_end (Ok done) old new = (unwritten new ≡ []) × ((body : List ℕ) × IsReplyOf body (heard new))
     EndsCall is_at_end (Err end) old new = FailsAs is_at_end end old new
 
-    -- What becomes of the member: what it takes from the body of the reply, which is the one that was read behind the whole
+    -- What becomes of the member: what it takes from the body of the reply, which is the one that was read after the whole
     -- request; or it has given up, and the end says why.
     abbrev pub Leaves : (R → Type 0) → Result (Next S) (Member S × End) → Call R W S → Call R W S → Type 0
     Leaves is_at_end (Ok next) old new =

@@ -13,11 +13,11 @@ abbrev pub waiting_code : Coded (List Waiting)
 waiting_code =
     coded_list (code_by (ℕ × List ℕ) (coded× coded_ℕ (coded_list coded_ℕ)) (λ w. (w.frame, w.bytes)) (λ p. record { frame = p.0; bytes = p.1 }) (λ _. refl))
 
--- the bytes of buffers, one behind the other
+-- the bytes of buffers, one after the other
 abbrev pub bytes_in : List (List ℕ) → List ℕ
 bytes_in = flat_map (λ b. b)
 
--- the same, and those of the tail behind them
+-- the same, and those of the tail after them
 abbrev pub joined : List (List ℕ) → List ℕ → List ℕ
 joined buffers tail = bytes_in buffers ++ tail
 
@@ -25,7 +25,7 @@ joined buffers tail = bytes_in buffers ++ tail
 abbrev pub unsent_of : List Reply → ℕ
 unsent_of replies = sum_by (λ r. r.unsent) replies
 
--- these replies, whose unwritten bytes stand one behind the other
+-- these replies, whose unwritten bytes stand one after the other
 abbrev pub waiting_in : List Reply → List ℕ → List Waiting
 waiting_in [] bytes = []
 waiting_in (r ∷ rs) bytes = record { frame = r.frame; bytes = take r.unsent bytes } ∷ waiting_in rs (drop r.unsent bytes)

@@ -1,5 +1,5 @@
 -- What one poll of a reader or a writer came to.
-use Rattle.std.specs.Prelude.{ℕ, zero, suc}
+use Rattle.std.specs.Prelude.{◌≡◌, ◌⊎◌, ℕ, zero, suc}
 use Rattle.link_futures.specs.declared.part.Part.{Part}
 use Rattle.link_futures.specs.declared.part.Part.TheVariants.{Waits, Fault, Moved}
 
@@ -27,3 +27,7 @@ abbrev pub OnWaits : Part → Type 0 → Type 0
 OnWaits Waits P = P
 OnWaits Fault P = Unit {0}
 OnWaits (Moved n) P = Unit {0}
+
+-- no poll of a reader or a writer, or one
+abbrev pub AtMostOnce : {T : Type 0} → (T → T → Type 0) → T → T → Type 0
+AtMostOnce polls old new = (new ≡ old) ⊎ polls old new

@@ -23,7 +23,7 @@ pub record BeginsWithRefusedReply (bytes : List ℕ) : Type 0 where
   pub refused : (size <ℤ pos 1) ⊎ (pos 16777216 <ℤ size)
   pub whole : bytes ≡ int32 size ++ rest
 
--- the bytes begin with a size, and of the body behind it at least `missing` bytes aren't there
+-- the bytes begin with a size, and of the body after it at least `missing` bytes aren't there
 pub record LacksOfBody (missing : ℕ) (bytes : List ℕ) : Type 0 where
   pub size : ℕ
   pub rest : List ℕ

@@ -14,7 +14,7 @@ abbrev pub RestingNeed : {F : Type 0} → Option (FuturesUnordered F) → ℕ �
 RestingNeed resting source = IsSomeAnd resting (λ set. source ≡ set.tasks.source.id)
 
 module _ {R W : Type 0} (reads : Passes R) (is_at_end : R → Type 0) (read_faults : R → ℕ) (write_faults : W → ℕ) (stalls : W → ℕ) where
-  -- A line is woken as the same line, with the same bytes and those that it read behind them; or its read was its end.
+  -- A line is woken as the same line, with the same bytes and those that it read after them; or its read was its end.
   abbrev pub Wakes : Line R W → Result (Line R W) (Line R W × End) → Type 0
   Wakes line (Ok woken) = ReadsOn reads is_at_end line woken × MetNoFault read_faults write_faults stalls line woken
   Wakes line (Err failed) = ReadsOn reads is_at_end line failed.0 × EndsAs read_faults write_faults stalls failed.1 line failed.0

@@ -55,7 +55,7 @@ module _ {R W : Type 0} where
     pub written : List ℕ
     pub writing : writes old.writer written new.writer
     pub taken : unsent old ≡ written ++ unsent new
-    pub others : new ≡ record old { writer = new.writer; outbox = new.outbox }
+    pub others : new ≡ record old { writer = new.writer; outbox = new.outbox; is_held = new.is_held }
 
   -- an end that no fault makes
   abbrev pub EndsQuietly : End → Line R W → Type 0

@@ -13,6 +13,7 @@ use Rattle.group_types.specs.Frames.{frame_of, IsBody}
 use Rattle.link_futures.specs.Framing.{BeginsWithRefusedSize, IsInsideFrame}
 use Rattle.link_futures.specs.declared.inbox.Next.TheVariants.{Partial}
 use Rattle.link_futures.specs.Next.{IsNext}
+use Rattle.link_futures.specs.Parts.{AtMostOnce}
 use Rattle.link_futures.specs.Desks.{Answering, Exchange, Place, Goes}
 use Rattle.link_futures.specs.Buffers.{bytes_of_all}
 use Rattle.link_futures.specs.declared.limits.TheConstants.{MOST_REPLIES, MOST_BYTES, LARGEST_READ}
@@ -36,10 +37,15 @@ module _ {R W : Type 0} where
     pub answers_on : (line.is_closed ≡ false) × (line.answered < 2 ^ 64 - 1)
     pub partial : IsNext Partial (unanswered line)
 
-  -- the sources that a line waits for: the reader's where it wants bytes, and the writer's where a reply is unsent
-  abbrev pub LineNeeds : (R → ℕ → Type 0) → (W → ℕ → Type 0) → Line R W → ℕ → Type 0
-  LineNeeds read write line source =
-      (WantsBytes line × read line.reader source) ⊎ ((0 < length line.outbox) × write line.writer source)
+  -- the sources that an unsent reply waits for: the desk's while it holds the reply, else the writer's
+  abbrev pub SendNeeds : (W → ℕ → Type 0) → (ℕ → Type 0) → Line R W → ℕ → Type 0
+  SendNeeds write desk line source =
+      ((line.is_held ≡ false) × write line.writer source) ⊎ ((line.is_held ≡ true) × desk source)
+
+  -- the sources that a line waits for: the reader's if it wants bytes, and those of the next reply if one is unsent
+  abbrev pub LineNeeds : (R → ℕ → Type 0) → (W → ℕ → Type 0) → (ℕ → Type 0) → Line R W → ℕ → Type 0
+  LineNeeds read write desk line source =
+      (WantsBytes line × read line.reader source) ⊎ ((0 < length line.outbox) × SendNeeds write desk line source)
 
   abbrev pub place_of : Line R W → Place
   place_of line =
@@ -68,14 +74,18 @@ module _ {R W D : Type 0} (reads : Passes R) (is_at_end : R → Type 0) (writes 
     pub ends : new.line.is_over ≡ true → (old.line.is_over ≡ true) ⊎ is_at_end new.line.reader
     pub stays : old.line.is_over ≡ true → (new.line.is_over ≡ true) × (new.line.reader ≡ old.line.reader)
 
-  -- The same of one turn: at most 65,536 bytes are read, and none behind a whole frame or a refused size. At most one frame
-  -- is answered, and none where 64 replies or more than 8,388,608 bytes are unsent when the turn begins.
-  pub record Turns (old new : Session R W D) : Type 0 where
-    pub talks : Talks old new
-    pub short : length talks.read ≤ LARGEST_READ
-    pub wanted : 0 < length talks.read → IsNext Partial (unanswered old.line)
-    pub few : length talks.exchanges ≤ 1
-    pub room : 0 < length talks.exchanges → HasRoom old.line
+  module _ (read_polls : R → R → Type 0) (write_polls : W → W → Type 0) where
+    -- The same of one turn: the reader is polled at most once, and so is the writer. At most 65,536 bytes are read, and none after a
+    -- whole frame or a refused size. At most one frame is answered, and none if 64 replies or more than 8,388,608 bytes are unsent
+    -- when the turn begins.
+    pub record Turns (old new : Session R W D) : Type 0 where
+      pub talks : Talks old new
+      pub reads_once : AtMostOnce read_polls old.line.reader new.line.reader
+      pub writes_once : AtMostOnce write_polls old.line.writer new.line.writer
+      pub short : length talks.read ≤ LARGEST_READ
+      pub wanted : 0 < length talks.read → IsNext Partial (unanswered old.line)
+      pub few : length talks.exchanges ≤ 1
+      pub room : 0 < length talks.exchanges → HasRoom old.line
 
 module _ {R W : Type 0} where
   -- at the reader's end between frames, with all replies written

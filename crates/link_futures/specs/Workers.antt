@@ -15,17 +15,17 @@ use Rattle.link_futures.specs.Sessions.{MayEnd}
 use Rattle.link_futures.specs.Resting.{RestingNeed, MayWake}
 
 -- the sources of its arrivals until these have ended, of each of its lines that have turns, and of those that rest
-abbrev pub WorkerNeeds : {A R W F : Type 0} → (A → ℕ → Type 0) → (R → ℕ → Type 0) → (W → ℕ → Type 0)
+abbrev pub WorkerNeeds : {A R W F : Type 0} → (A → ℕ → Type 0) → (R → ℕ → Type 0) → (W → ℕ → Type 0) → (ℕ → Type 0)
     → A → Bool → List (Line R W) → Option (FuturesUnordered F) → ℕ → ℕ → Type 0
-WorkerNeeds {A} {R} {W} arrive read write arrivals is_closed lines resting count source =
+WorkerNeeds {A} {R} {W} arrive read write desk arrivals is_closed lines resting count source =
     ((is_closed ≡ false) × arrive arrivals source)
-    ⊎ (((line : Line R W) × Contains lines line × LineNeeds read write line source)
+    ⊎ (((line : Line R W) × Contains lines line × LineNeeds read write desk line source)
     ⊎ ((0 < count) × RestingNeed resting source))
 
--- each line but those of a range is registered for what it needs
-abbrev pub AreArmedBut : {R W : Type 0} → (R → ℕ → Type 0) → (W → ℕ → Type 0) → Context → List (Line R W) → ℕ → ℕ → Type 0
-AreArmedBut {R} {W} read write cx lines start end =
-    (place : ℕ) (line : Line R W) → place < length lines → (place < start) ⊎ (end ≤ place) → Covers cx (LineNeeds read write (slice_index_or lines place line))
+-- each line but those of a range is registered for what it needs, at a desk with these sources
+abbrev pub AreArmedBut : {R W : Type 0} → (R → ℕ → Type 0) → (W → ℕ → Type 0) → (ℕ → Type 0) → Context → List (Line R W) → ℕ → ℕ → Type 0
+AreArmedBut {R} {W} read write desk cx lines start end =
+    (place : ℕ) (line : Line R W) → place < length lines → (place < start) ⊎ (end ≤ place) → Covers cx (LineNeeds read write desk (slice_index_or lines place line))
 
 -- some answer of a desk, whatever state it is in: it also answers other lines
 abbrev pub at_any_time : {D : Type 0} → Answering D → Answering (Unit {0})

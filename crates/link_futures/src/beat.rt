@@ -15,7 +15,7 @@ use member_core::{Idle, Member, Next, Sent};
 use std::alloc::Global;
 
 /// The future of one request of a member: it writes the request's frame, reads the frame of the reply, and the member takes
-/// the reply. A poll writes once or reads once. Of the reader it takes no byte behind the reply.
+/// the reply. A poll writes once or reads once. It takes no byte of the reader after the reply.
 #[derive(Drop)]
 pub struct Beat<R, W, S: Idle> {
     /// None once it has given its output.

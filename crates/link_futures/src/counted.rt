@@ -1,5 +1,5 @@
 //! A reader or a writer of `tokio` with counts of its failed polls.
-ghost use Rattle.std.specs.Prelude.{◌≡◌};
+ghost use Rattle.std.specs.Prelude.{◌≡◌, ℕ, List};
 
 use crate::part::Part;
 use crate::reader::ReadPart;
@@ -61,6 +61,8 @@ impl<R: AsyncRead> AsyncRead for Counted<R> {
 
 impl<R: AsyncRead> ReadPart for Counted<R> {
     ghost faults = { λ c. c.faults };
+
+    ghost polls = { λ a b. (xs : List ℕ) × R.reads a.inner xs b.inner };
 
     fn poll_read_part(&mut self, cx: &mut Context<'_>, buf: &mut [u8]) -> Part {
         if self.faults == u64::MAX {
@@ -124,6 +126,8 @@ impl<W: AsyncWrite> WriteParts for Counted<W> {
     ghost faults = { λ c. c.faults };
 
     ghost stalls = { λ c. c.stalls };
+
+    ghost polls = { λ a b. (xs : List ℕ) × W.writes a.inner xs b.inner };
 
     fn poll_write_parts(&mut self, cx: &mut Context<'_>, bufs: &[IoSlice<'_>]) -> Part {
         if self.faults == u64::MAX || self.stalls == u64::MAX {

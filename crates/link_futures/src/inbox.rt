@@ -127,6 +127,7 @@ impl Inbox {
         ensures bytes { IfOk result (λ part. AppendsRead R.reads reader.old reader.new self.old self.new (count_of part)) }
         ensures short { IfOk result (λ part. count_of part ≤ LARGEST_READ) }
         ensures end { result ≡ Ok (Moved 0) → R.is_at_end reader.new }
+        ensures once { IfOk result (λ _. R.polls reader.old reader.new) }
         ensures counted { IfOk result (λ part. R.faults reader.new ≡ R.faults reader.old + faults_of part) }
         ensures registered { IfOk result (λ part. OnWaits part (Covers cx.new (R.needs reader.new))) }
         ensures err { OnErr result ((self.new ≡ self.old) × (reader.new ≡ reader.old)) }
@@ -184,6 +185,7 @@ pub(crate) fn read_into<R: ReadPart>(
     ensures bytes { IfOk result (λ part. AppendsRead R.reads reader.old reader.new buffer.old.items buffer.new.items (count_of part)) }
     ensures short { IfOk result (λ part. count_of part ≤ room) }
     ensures end { result ≡ Ok (Moved 0) → R.is_at_end reader.new }
+    ensures once { IfOk result (λ _. R.polls reader.old reader.new) }
     ensures counted { IfOk result (λ part. R.faults reader.new ≡ R.faults reader.old + faults_of part) }
     ensures registered { IfOk result (λ part. OnWaits part (Covers cx.new (R.needs reader.new))) }
     ensures err { OnErr result ((buffer.new.items ≡ buffer.old.items) × (reader.new ≡ reader.old)) }
@@ -208,6 +210,7 @@ fn read_behind<R: ReadPart>(
     ensures bound { before + count_of result ≤ length bytes.new }
     ensures bytes { AppendsRead R.reads reader.old reader.new (take before bytes.old) (take (before + count_of result) bytes.new) (count_of result) }
     ensures end { result ≡ Moved 0 → before < length bytes.old → R.is_at_end reader.new }
+    ensures once { R.polls reader.old reader.new }
     ensures counted { R.faults reader.new ≡ R.faults reader.old + faults_of result }
     ensures registered { OnWaits result (Covers cx.new (R.needs reader.new)) }
     ensures kept { Keeps cx.old cx.new }

@@ -1,5 +1,5 @@
 //! One connection's line to a desk.
-ghost use Rattle.std.specs.Prelude.{◌≡◌, ◌⊎◌, ◌<◌, true, false, length, Ok, IfErr, IfSome, OnOk, OnErr};
+ghost use Rattle.std.specs.Prelude.{◌≡◌, ◌⊎◌, ℕ, ◌<◌, true, false, length, Ok, IfErr, IfSome, OnOk, OnErr};
 ghost use Rattle.futures.specs.Task.{Covers, Keeps};
 ghost use Rattle.futures.specs.Poll.{IfReady, OnPending};
 
@@ -30,12 +30,15 @@ pub struct Line<R, W> {
     is_over: bool,
     /// The desk has closed.
     is_closed: bool,
+    /// The desk held the next reply when the line asked for the last time.
+    is_held: bool,
 }
 
 impl<R: ReadPart, W: WriteParts> Line<R, W> {
-    ghost use Rattle.link_futures.specs.Stream.{Turns, WantsBytes, LineNeeds, EndsAs, MetNoFault, LeavesDesk};
+    ghost use Rattle.link_futures.specs.Stream.{Turns, WantsBytes, SendNeeds, LineNeeds, EndsAs, MetNoFault, LeavesDesk};
     ghost use Rattle.link_futures.specs.Steps.{IsNewLine, IsAnswerable, ReadsOn, AnswersOn, WritesOn, EndsQuietly};
     ghost use Rattle.link_futures.specs.Turned.{polled_of};
+    ghost use Rattle.link_futures.specs.Parts.{AtMostOnce};
 
     /// The line of the connection with this number. Takes no memory.
     pub fn new(alloc: Global, connection: u64, reader: R, writer: W) -> Line<R, W>
@@ -50,6 +53,7 @@ impl<R: ReadPart, W: WriteParts> Line<R, W> {
             answered: 0,
             is_over: false,
             is_closed: false,
+            is_held: false,
         }
     }
 
@@ -68,14 +72,15 @@ impl<R: ReadPart, W: WriteParts> Line<R, W> {
     }
 
     /// One turn: reads at most once, lets the desk answer at most one frame, and writes at most once. It is ready once the
-    /// line has ended; else it waits for the reader or the writer, or asks for another turn, as where a further frame is there.
+    /// line has ended; else it waits for the reader or the writer, or asks for another turn, as when a further frame is there.
     pub fn turn<D: Desk>(&mut self, cx: &mut Context<'_>, desk: &mut D) -> Poll<End>
-        ensures stream { (last : D) × Turns R.reads R.is_at_end W.writes D.answers
+        ensures stream { (last : D) × Turns R.reads R.is_at_end W.writes D.answers R.polls W.polls
             (record { line = self.old; desk = desk.old }) (record { line = self.new; desk = last })
             × LeavesDesk D.lacks result last desk.new }
         ensures ends { IfReady result (λ end. EndsAs R.faults W.faults W.stalls end self.old self.new) }
         ensures goes_on { OnPending result (MetNoFault R.faults W.faults W.stalls self.old self.new) }
-        ensures armed { OnPending result (Covers cx.new (LineNeeds R.needs W.needs self.new)) }
+        ensures armed { OnPending result (Covers cx.new (LineNeeds R.needs W.needs (D.wakes desk.new) self.new)) }
+        ensures same_sources { (source : ℕ) → D.wakes desk.new source → D.wakes desk.old source }
         ensures kept { Keeps cx.old cx.new }
     {
         match self.step(cx, desk) {
@@ -87,12 +92,13 @@ impl<R: ReadPart, W: WriteParts> Line<R, W> {
 
     /// One turn, without asking for another.
     pub(crate) fn step<D: Desk>(&mut self, cx: &mut Context<'_>, desk: &mut D) -> Turned
-        ensures stream { (last : D) × Turns R.reads R.is_at_end W.writes D.answers
+        ensures stream { (last : D) × Turns R.reads R.is_at_end W.writes D.answers R.polls W.polls
             (record { line = self.old; desk = desk.old }) (record { line = self.new; desk = last })
             × LeavesDesk D.lacks (polled_of result) last desk.new }
         ensures ends { IfReady (polled_of result) (λ end. EndsAs R.faults W.faults W.stalls end self.old self.new) }
         ensures goes_on { OnPending (polled_of result) (MetNoFault R.faults W.faults W.stalls self.old self.new) }
-        ensures armed { result ≡ Turned.Waits → Covers cx.new (LineNeeds R.needs W.needs self.new) }
+        ensures armed { result ≡ Turned.Waits → Covers cx.new (LineNeeds R.needs W.needs (D.wakes desk.new) self.new) }
+        ensures same_sources { (source : ℕ) → D.wakes desk.new source → D.wakes desk.old source }
         ensures kept { Keeps cx.old cx.new }
     {
         let reader_waits = match self.read(cx) {
@@ -105,13 +111,13 @@ impl<R: ReadPart, W: WriteParts> Line<R, W> {
         if self.gathers() {
             return Turned::GoesOn;
         }
-        let writer_waits = match self.write(cx, desk) {
+        let send_waits = match self.write(cx, desk) {
             Ok(waits) => waits,
             Err(end) => return Turned::Ends(end),
         };
         match self.end() {
             Some(end) => Turned::Ends(end),
-            None => self.rest(cx, reader_waits, writer_waits),
+            None => self.rest(cx, desk, reader_waits, send_waits),
         }
     }
 
@@ -135,13 +141,14 @@ impl<R: ReadPart, W: WriteParts> Line<R, W> {
         self.answerable().is_some()
     }
 
-    /// Reads once, where the desk may want more bytes. Says whether the reader waits.
+    /// Reads once, if the desk may want more bytes. Says whether the reader waits.
     pub(crate) fn read(&mut self, cx: &mut Context<'_>) -> Result<bool, End>
         ensures reads { ReadsOn R.reads R.is_at_end self.old self.new }
         ensures ends { IfErr result (λ end. EndsAs R.faults W.faults W.stalls end self.old self.new) }
         ensures goes_on { OnOk result (MetNoFault R.faults W.faults W.stalls self.old self.new) }
         ensures armed { result ≡ Ok true → Covers cx.new (R.needs self.new.reader) }
         ensures waits { result ≡ Ok true → self.new.inbox ≡ self.old.inbox }
+        ensures once { AtMostOnce R.polls self.old.reader self.new.reader }
         ensures kept { Keeps cx.old cx.new }
     {
         if !self.wants_bytes() {
@@ -160,10 +167,11 @@ impl<R: ReadPart, W: WriteParts> Line<R, W> {
         }
     }
 
-    /// Lets the desk answer the frame at the front, where it may be answered.
+    /// Lets the desk answer the frame at the front, if it may be answered.
     fn answer<D: Desk>(&mut self, desk: &mut D) -> Result<(), AllocError>
         ensures ok { OnOk result (AnswersOn D.answers self.old desk.old self.new desk.new) }
         ensures err { OnErr result ((self.new ≡ self.old) × ((desk.new ≡ desk.old) ⊎ D.lacks desk.old desk.new)) }
+        ensures same_sources { (source : ℕ) → D.wakes desk.new source → D.wakes desk.old source }
     {
         let Some(len) = self.answerable() else {
             return Ok(());
@@ -184,16 +192,26 @@ impl<R: ReadPart, W: WriteParts> Line<R, W> {
         self.has_frame() && self.outbox.has_room_in_a_write()
     }
 
-    /// Writes once, where a reply may be sent by now. Says whether the writer waits.
+    /// Writes once, if a reply may be sent by now. Says whether the line waits for the writer, or for the desk if it holds the next
+    /// reply.
     #[inline(never)]
     fn write<D: Desk>(&mut self, cx: &mut Context<'_>, desk: &D) -> Result<bool, End>
         ensures writes { WritesOn W.writes self.old self.new }
+        ensures once { AtMostOnce W.polls self.old.writer self.new.writer }
         ensures ends { IfErr result (λ end. EndsAs R.faults W.faults W.stalls end self.old self.new) }
         ensures goes_on { OnOk result (MetNoFault R.faults W.faults W.stalls self.old self.new) }
-        ensures armed { result ≡ Ok true → Covers cx.new (W.needs self.new.writer) }
+        ensures armed { result ≡ Ok true → Covers cx.new (SendNeeds W.needs (D.wakes desk.now) self.new) }
         ensures kept { Keeps cx.old cx.new }
     {
-        let most = self.outbox.sendable(desk, self.connection);
+        let Some(frame) = self.outbox.first() else {
+            return Ok(false);
+        };
+        let connection = self.connection;
+        self.is_held = desk.poll_send(cx, Stamp { connection, frame }).is_pending();
+        if self.is_held {
+            return Ok(true);
+        }
+        let most = self.outbox.sendable(desk, connection);
         if most == 0 {
             return Ok(false);
         }
@@ -207,7 +225,7 @@ impl<R: ReadPart, W: WriteParts> Line<R, W> {
         }
     }
 
-    /// How the line ends, where it does once all replies are written.
+    /// How the line ends, if it does once all replies are written.
     fn end(&self) -> Option<End>
         ensures { IfSome result (λ end. EndsQuietly end self.now) }
     {
@@ -226,18 +244,24 @@ impl<R: ReadPart, W: WriteParts> Line<R, W> {
         }
     }
 
-    /// The line waits for its reader and its writer, with which `_cx` is registered then, unless there is more to do than they would
-    /// wake for.
-    fn rest(&self, _cx: &Context<'_>, reader_waits: bool, writer_waits: bool) -> Turned
+    /// The line waits for its reader, and for its writer or the desk, with which `_cx` is registered then, unless there is more to do than
+    /// they would wake for.
+    fn rest<D: Desk>(
+        &self,
+        _cx: &Context<'_>,
+        _desk: &D,
+        reader_waits: bool,
+        send_waits: bool,
+    ) -> Turned
         requires reader { reader_waits ≡ true → Covers _cx.now (R.needs self.now.reader) }
-        requires writer { writer_waits ≡ true → Covers _cx.now (W.needs self.now.writer) }
+        requires send { send_waits ≡ true → Covers _cx.now (SendNeeds W.needs (D.wakes _desk.now) self.now) }
         ensures pending { polled_of result ≡ Poll.Pending }
-        ensures armed { result ≡ Turned.Waits → Covers _cx.now (LineNeeds R.needs W.needs self.now) }
+        ensures armed { result ≡ Turned.Waits → Covers _cx.now (LineNeeds R.needs W.needs (D.wakes _desk.now) self.now) }
     {
-        if (!reader_waits && self.wants_bytes()) || (!writer_waits && !self.outbox.is_empty()) {
+        if (!reader_waits && self.wants_bytes()) || (!send_waits && !self.outbox.is_empty()) {
             return Turned::GoesOn;
         }
-        if (!reader_waits && !writer_waits) || self.has_frame() {
+        if (!reader_waits && !send_waits) || self.has_frame() {
             return Turned::GoesOn;
         }
         Turned::Waits
@@ -251,7 +275,7 @@ impl<R: ReadPart, W: WriteParts> Line<R, W> {
         !self.is_over && !self.is_done() && matches!(self.inbox.next(), Next::Partial)
     }
 
-    /// The length of the body at the front, where it may be answered: it is whole, the desk answers on, and there is room
+    /// The length of the body at the front, if it may be answered: it is whole, the desk answers on, and there is room
     /// for the reply.
     fn answerable(&self) -> Option<usize>
         ensures { IfSome result (λ len. IsAnswerable self.now len) }

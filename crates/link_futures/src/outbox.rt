@@ -1,5 +1,5 @@
 //! The replies that a line has and hasn't written.
-ghost use Rattle.std.specs.Prelude.{◌≡◌, ◌+◌, ◌==◌, ◌<◌, ◌≤◌, [], length, take, drop, All, IfOk, IfSome, OnOk, OnErr, IsTrue, ◌↔◌};
+ghost use Rattle.std.specs.Prelude.{◌≡◌, ℕ, ◌+◌, ◌==◌, ◌<◌, ◌≤◌, [], length, take, drop, All, None, IfOk, IfSome, OnOk, OnErr, IsTrue, ◌↔◌};
 ghost use Rattle.std.specs.VecDeque.{deque_len, deque_capacity};
 ghost use Rattle.futures.specs.Task.{Covers, Keeps};
 ghost use Rattle.tokio.specs.Io.Moved.{TakesWritten};
@@ -40,7 +40,7 @@ pub(crate) struct Reply {
 #[derive(Drop)]
 pub(crate) struct Outbox {
     replies: VecDeque<Reply>,
-    /// The bytes of all replies, one behind the other, but for those of the last ones. A buffer holds one reply or several.
+    /// The bytes of all replies, one after the other, but for those of the last ones. A buffer holds one reply or several.
     buffers: VecDeque<Bytes>,
     /// The bytes of the last replies, to which the desk appends. With the next write they are frozen, and are the last buffer.
     tail: Vec<u8>,
@@ -102,7 +102,7 @@ impl Outbox {
         self.unsent
     }
 
-    /// Lets the desk answer a frame's body, and keeps its reply behind the others. Where memory is short nothing is kept. The room
+    /// Lets the desk answer a frame's body, and keeps its reply after the others. If memory is short nothing is kept. The room
     /// in the queues is made first, and the desk appends to the tail: once it has answered, no memory is needed. Where one reply
     /// waits, and so more frames are under way, the room of a whole write is made at once, if it is to be had.
     pub(crate) fn answer<D: Desk>(
@@ -112,7 +112,8 @@ impl Outbox {
         stamp: Stamp,
     ) -> Result<Answered, AllocError>
         requires { length (bytes_of_all self.old) ≤ MOST_BYTES }
-        ensures { AnswersInto D.answers D.lacks desk.old body.now stamp result desk.new self.old self.new }
+        ensures answers { AnswersInto D.answers D.lacks desk.old body.now stamp result desk.new self.old self.new }
+        ensures same_sources { (source : ℕ) → D.wakes desk.new source → D.wakes desk.old source }
     {
         self.replies.reserve(1)?;
         self.buffers.reserve(1)?;
@@ -132,6 +133,14 @@ impl Outbox {
     /// Whether so few bytes are unsent that a write may wait for those of further replies.
     pub(crate) fn has_room_in_a_write(&self) -> bool {
         self.unsent < GATHERED
+    }
+
+    /// The number of the first reply's frame.
+    pub(crate) fn first(&self) -> Option<u64>
+        ensures { result ≡ None → length self.now ≡ 0 }
+    {
+        let reply = self.replies.front()?;
+        Some(reply.frame)
     }
 
     /// How many bytes may be written by now, on a connection: those of the first replies, up to one that is to wait.
@@ -157,6 +166,7 @@ impl Outbox {
         cx: &mut Context<'_>,
     ) -> Result<Part, AllocError>
         ensures bytes { OnOk result (TakesWritten W.writes writer.old writer.new (bytes_of_all self.old) (bytes_of_all self.new)) }
+        ensures once { IfOk result (λ _. W.polls writer.old writer.new) }
         ensures counted { IfOk result (λ part. W.faults writer.new ≡ W.faults writer.old + faults_of part) }
         ensures stalled { IfOk result (λ part. W.stalls writer.new ≡ W.stalls writer.old + stalls_of part) }
         ensures registered { IfOk result (λ part. OnWaits part (Covers cx.new (W.needs writer.new))) }
@@ -232,6 +242,7 @@ fn write_front<W: WriteParts>(
 ) -> Part
     ensures bound { count_of result ≤ length (bytes_in buffers.now.items) }
     ensures bytes { W.writes writer.old (take (count_of result) (bytes_in buffers.now.items)) writer.new }
+    ensures once { W.polls writer.old writer.new }
     ensures counted { W.faults writer.new ≡ W.faults writer.old + faults_of result }
     ensures stalled { W.stalls writer.new ≡ W.stalls writer.old + stalls_of result }
     ensures registered { OnWaits result (Covers cx.new (W.needs writer.new)) }

@@ -41,13 +41,13 @@ impl<R: ReadPart, W: WriteParts, D: Desk> Future for Session<R, W, D> {
 
     type Output = End;
 
-    ghost needs = { λ s. LineNeeds R.needs W.needs s.line };
+    ghost needs = { λ s. LineNeeds R.needs W.needs (D.wakes s.desk) s.line };
 
     ghost gives = { λ s end. MayEnd R.reads R.is_at_end R.faults W.writes W.faults W.stalls D.answers s end };
 
     /// One turn of the line.
     fn poll(&mut self, cx: &mut Context<'_>) -> Poll<End>
-        ensures stream { (last : D) × Turns R.reads R.is_at_end W.writes D.answers
+        ensures stream { (last : D) × Turns R.reads R.is_at_end W.writes D.answers R.polls W.polls
             self.old (record { line = self.new.line; desk = last }) × LeavesDesk D.lacks result last self.new.desk }
         ensures ends { IfReady result (λ end. EndsAs R.faults W.faults W.stalls end self.old.line self.new.line) }
         ensures goes_on { OnPending result (MetNoFault R.faults W.faults W.stalls self.old.line self.new.line) }
@@ -55,7 +55,7 @@ impl<R: ReadPart, W: WriteParts, D: Desk> Future for Session<R, W, D> {
         ensures again { OnPending result ⊤ }
         ensures same { let Ends = MayEnd R.reads R.is_at_end R.faults W.writes W.faults W.stalls D.answers in
             OnPending result ((end : End) → Ends self.new end → Ends self.old end) }
-        ensures registered { OnPending result (Covers cx.new (LineNeeds R.needs W.needs self.new.line)) }
+        ensures registered { OnPending result (Covers cx.new (LineNeeds R.needs W.needs (D.wakes self.new.desk) self.new.line)) }
         ensures kept { Keeps cx.old cx.new }
     {
         self.line.turn(cx, &mut self.desk)

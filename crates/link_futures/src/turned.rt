@@ -6,7 +6,7 @@ use crate::end::End;
 pub(crate) enum Turned {
     /// The line has ended.
     Ends(End),
-    /// It waits for its reader or its writer, which will wake the task.
+    /// It waits for its reader, its writer or the desk, which will wake the task.
     Waits,
     /// It has more to do, and nobody would wake the task for that.
     GoesOn,

@@ -113,14 +113,14 @@ impl<R: ReadPart, W: WriteParts, A: Stream<Item = Line<R, W>>, D: Desk> Worker<A
         0 < resting
     }
 
-    /// Gives each line of a range a turn, one line behind the other, so that the replies of one go out while the next is answered. Those
+    /// Gives each line of a range a turn, one line after the other, so that the replies of one go out while the next is answered. Those
     /// that end are dropped. Gives the range of those that have more to do; all others are registered for what they need.
     fn take_turns(&mut self, cx: &mut Context<'_>, turns: Range<usize>) -> Range<usize>
-        requires { AreArmedBut R.needs W.needs cx.old self.old.lines.items turns.start turns.end }
+        requires { AreArmedBut R.needs W.needs (D.wakes self.old.desk) cx.old self.old.lines.items turns.start turns.end }
         ensures arrivals { (self.new.arrivals ≡ self.old.arrivals) × (self.new.is_closed ≡ self.old.is_closed) }
         ensures resting { self.new.resting ≡ self.old.resting }
         ensures gives { (n : ℕ) → ⟦<Worker<A, D> as Future>⟧.gives self.new n → ⟦<Worker<A, D> as Future>⟧.gives self.old n }
-        ensures armed { AreArmedBut R.needs W.needs cx.new self.new.lines.items result.start result.end }
+        ensures armed { AreArmedBut R.needs W.needs (D.wakes self.new.desk) cx.new self.new.lines.items result.start result.end }
         ensures kept { Keeps cx.old cx.new }
     {
         let (mut first, mut behind) = (turns.end, turns.end);
@@ -210,7 +210,7 @@ impl<R: ReadPart, W: WriteParts, A: Stream<Item = Line<R, W>>, D: Desk> Future f
 
     ghost can_poll = { λ w. w.is_closed ≡ false → A.can_poll w.arrivals };
 
-    ghost needs = { λ w. WorkerNeeds A.needs R.needs W.needs w.arrivals w.is_closed w.lines.items w.resting.lines w.resting.count };
+    ghost needs = { λ w. WorkerNeeds A.needs R.needs W.needs (D.wakes w.desk) w.arrivals w.is_closed w.lines.items w.resting.lines w.resting.count };
 
     ghost gives = { λ w. WorkerGives R.reads R.is_at_end R.faults W.writes W.faults W.stalls D.answers
         (EndsIf w.is_closed (A.yields w.arrivals)) w.lines.items w.resting.lines w.resting.count w.ended };

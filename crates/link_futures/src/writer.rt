@@ -15,6 +15,9 @@ pub trait WriteParts: AsyncWrite {
     /// How many polls have failed.
     ghost faults: { Self → ℕ };
 
+    /// One poll may lead from the first state to the second.
+    ghost polls: { Self → Self → Type 0 };
+
     /// How many polls have taken no byte.
     ghost stalls: { Self → ℕ };
 
@@ -22,6 +25,7 @@ pub trait WriteParts: AsyncWrite {
     fn poll_write_parts(&mut self, cx: &mut Context<'_>, bufs: &[IoSlice<'_>]) -> Part
         ensures bound { count_of result ≤ length (io_slices_bytes bufs.now) }
         ensures bytes { Self.writes self.old (take (count_of result) (io_slices_bytes bufs.now)) self.new }
+        ensures once { polls self.old self.new }
         ensures counted { faults self.new ≡ faults self.old + faults_of result }
         ensures stalled { stalls self.new ≡ stalls self.old + stalls_of result }
         ensures registered { OnWaits result (Covers cx.new (Self.needs self.new)) }

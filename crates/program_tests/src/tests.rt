@@ -1,9 +1,6 @@
-//! Tests of the subcommands over readers and writers in memory: the worked examples of the protocol, streams that fail, and what
-//! `coord serve` is asked for. What the program does with further lines stands in `cases`.
+//! Tests of the subcommands over readers and writers in memory: streams that fail, which subcommand runs, and what `coord serve` is asked for.
+//! What the program prints for its lines stands in `cases`, the worked examples of the protocol among them.
 
-mod frames;
-mod replies;
-mod runs;
 mod services;
 mod setup;
 mod stream;

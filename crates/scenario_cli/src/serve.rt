@@ -2,24 +2,18 @@
 ghost use Rattle.std.specs.Prelude.{◌≡◌, ◌+◌, ◌*◌, ◌≤◌, ◌<◌, true, IfOk};
 
 use coord_server::{
-    AlwaysOpen, Announce, ClockMoments, EndLog, Moments, Plan, Runtime, Server, ServerFault,
-    Shards, ShardsDesk,
+    Announce, ClockMoments, EndLog, NewShards, Plan, Runtime, Server, ServerFault, ShardsDesks,
+    listen,
 };
 use scenario_text::service::Service;
-use std::alloc::{AllocGlobal, Global};
+use std::alloc::AllocGlobal;
 use std::collections::hash_map::RandomState;
 use std::io;
 use std::io::Write;
 use std::marker::Brand;
-use std::net::{Ipv4Addr, Net, SocketAddr, SocketAddrV4, TcpListener};
-use std::sync::Wait;
-use std::sync::ledger::{Blank, Ledger};
-use std::thread::Threads;
+use std::net::{Ipv4Addr, SocketAddrV4, TcpListener};
+use std::sync::ledger::Ledger;
 use thiserror::Error;
-use topic_meta::Image;
-
-/// How many seats the shards can give out.
-const SEATS: u64 = 256;
 
 /// Why `coord serve` ends before its connections have.
 #[derive(Debug, Drop, Error)]
@@ -36,6 +30,14 @@ pub enum ServeFault {
     Server(ServerFault),
 }
 
+/// What is served by: the system, the service that is asked for, and where the ends of connections are noted.
+#[derive(Drop)]
+struct Setting<'a, R> {
+    rt: &'a R,
+    service: &'a Service,
+    log: &'a EndLog,
+}
+
 /// Serves as it is asked to, over sockets of this machine. What is printed goes to the writer. A fault is written to `errors`, and so are
 /// the ends of connections, where that is asked for. Gives the program's status: 0 once the connections have ended, 1 after a fault (ours).
 pub fn serve<R, W, E>(rt: &R, service: Service, writer: &mut W, errors: E) -> u8
@@ -45,26 +47,18 @@ where
     E: Write + Copy + Send + 'static,
     ensures { result ≤ 1 }
 {
-    let log = match log_of(rt, &service, errors) {
+    let log = match EndLog::start_if(service.logs, rt, errors) {
         Ok(log) => log,
         Err(fault) => return status_of(errors, Err(ServeFault::from(fault)), true),
     };
-    let ended = serve_port(rt, &service, writer, &log);
+    let setting = Setting {
+        rt,
+        service: &service,
+        log: &log,
+    };
+    let ended = serve_port(&setting, writer);
     let is_written = log.close(rt);
     status_of(errors, ended, is_written)
-}
-
-/// The log that is asked for.
-fn log_of<R, E>(rt: &R, service: &Service, errors: E) -> Result<EndLog, ServerFault>
-where
-    R: Wait + Threads + AllocGlobal + Copy + Send + 'static,
-    E: Write + Drop + Send + 'static,
-{
-    if service.logs {
-        EndLog::start(rt, errors)
-    } else {
-        Ok(EndLog::none())
-    }
 }
 
 /// The program's status. A fault is written, unless the log's last lines can't be: then nobody reads there.
@@ -83,129 +77,89 @@ fn status_of<E: Write + Drop>(mut errors: E, ended: Result<(), ServeFault>, is_r
 }
 
 /// Listens on a port of 127.0.0.1, and serves there.
-fn serve_port<R, W: Write>(
-    rt: &R,
-    service: &Service,
-    writer: &mut W,
-    log: &EndLog,
-) -> Result<(), ServeFault>
+fn serve_port<R, W: Write>(setting: &Setting<'_, R>, writer: &mut W) -> Result<(), ServeFault>
 where
     R: Runtime + Sync,
 {
-    let keys = RandomState::new(rt).map_err(ServeFault::Keys)?;
-    let socket = listen(rt, service.port)?;
-    match ClockMoments::start(rt) {
-        Ok(moments) => serve_listening(rt, service, keys, socket, &moments, writer, log),
+    let keys = RandomState::new(setting.rt).map_err(ServeFault::Keys)?;
+    let port = setting.service.port;
+    let socket = match listen(setting.rt, SocketAddrV4::new(Ipv4Addr::LOCALHOST, port)) {
+        Ok(socket) => socket,
+        Err(error) => return Err(ServeFault::Port(port, error)),
+    };
+    match ClockMoments::start(setting.rt) {
+        Ok(moments) => serve_listening(setting, keys, socket, &moments, writer),
         Err(error) => Err(ServeFault::Clock(error)),
     }
 }
 
 /// Prints that the server listens once it serves, serves the connections of a socket, and prints how many there were.
 fn serve_listening<R, W: Write>(
-    rt: &R,
-    service: &Service,
+    setting: &Setting<'_, R>,
     keys: RandomState,
     socket: TcpListener,
     moments: &ClockMoments<'_, R>,
     writer: &mut W,
-    log: &EndLog,
 ) -> Result<(), ServeFault>
 where
     R: Runtime + Sync,
 {
     let listening = Listening {
         writer: &mut *writer,
-        port: service.port,
+        port: setting.service.port,
     };
-    let served = serve_socket(rt, service, keys, socket, moments, listening, log)?;
+    let served = serve_socket(setting, keys, socket, moments, listening)?;
     Ok(print(writer, "served", served)?)
-}
-
-/// Listens on a port of 127.0.0.1. As many connections may wait to be accepted as the system allows, which a bind of `std` doesn't ask for.
-fn listen<R: Net>(rt: &R, port: u16) -> Result<TcpListener, ServeFault> {
-    let address = SocketAddr::V4(SocketAddrV4::new(Ipv4Addr::LOCALHOST, port));
-    match mio::net::TcpListener::bind(rt, address) {
-        Ok(socket) => Ok(TcpListener::from(socket)),
-        Err(error) => Err(ServeFault::Port(port, error)),
-    }
 }
 
 /// Serves the connections of a socket over new shards, whose salt is the first moment. Gives their number.
 fn serve_socket<R, N>(
-    rt: &R,
-    service: &Service,
+    setting: &Setting<'_, R>,
     keys: RandomState,
     socket: TcpListener,
     moments: &ClockMoments<'_, R>,
     announce: N,
-    log: &EndLog,
 ) -> Result<u64, ServerFault>
 where
     R: Runtime + Sync,
     N: Announce,
-    ensures { IfOk result (λ served. served ≡ service.now.connections) }
+    ensures { IfOk result (λ served. served ≡ setting.now.service.now.connections) }
 {
-    let (salt, shards) = (moments.first().millis(), service.shards as u64);
-    let (entries, calls) = (Blank::new(2 * shards), Blank::new(SEATS + shards));
-    serve_over::<Brand, Brand, _, R, _>(
-        rt, service, keys, salt, socket, moments, entries, calls, announce, log,
-    )
+    let new_shards = NewShards::new(setting.service.shards, moments.first().millis(), keys);
+    serve_over::<Brand, Brand, R, _>(setting, new_shards, socket, moments, announce)
 }
 
-/// Serves the connections of a socket over new shards with a salt. Gives their number.
-fn serve_over<A, C, M, R, N>(
-    rt: &R,
-    service: &Service,
-    keys: RandomState,
-    salt: u64,
+/// Serves the connections of a socket over new shards, which it gives their topics. Gives their number.
+fn serve_over<A, C, R, N>(
+    setting: &Setting<'_, R>,
+    new_shards: NewShards,
     socket: TcpListener,
-    moments: &M,
-    entries: Blank,
-    calls: Blank,
+    moments: &ClockMoments<'_, R>,
     announce: N,
-    log: &EndLog,
 ) -> Result<u64, ServerFault>
 where
     A: Ledger + Send + Sync,
     C: Ledger + Send + Sync,
-    M: Moments + Clone + Send,
     R: Runtime + Sync,
     N: Announce,
-    requires entries { (entries.name ≡ A.name) × (entries.parts ≡ A.parts) × (entries.parts ≡ 2 * service.now.shards) }
-    requires calls { (calls.name ≡ C.name) × (calls.parts ≡ C.parts) × (calls.parts ≡ 256 + service.now.shards) }
-    ensures { IfOk result (λ served. served ≡ service.now.connections) }
+    requires shards { new_shards.shards ≡ setting.now.service.now.shards }
+    requires entries { (new_shards.entries.name ≡ A.name) × (new_shards.entries.parts ≡ A.parts) × (new_shards.entries.parts ≡ 2 * new_shards.shards) }
+    requires calls { (new_shards.calls.name ≡ C.name) × (new_shards.calls.parts ≡ C.parts) × (new_shards.calls.parts ≡ 256 + new_shards.shards) }
+    ensures { IfOk result (λ served. served ≡ setting.now.service.now.connections) }
 {
-    let shards = shards_of::<A, C>(rt.alloc(), service.shards, salt, keys, entries, calls)?;
-    let served = serve_shards(rt, service, &shards, socket, moments, announce, log);
-    drop(shards);
-    served
-}
-
-/// Gives the shards their topics, and serves the connections of a socket over them. Gives their number.
-fn serve_shards<A, C, M, R, N>(
-    rt: &R,
-    service: &Service,
-    shards: &Shards<A, C, AlwaysOpen>,
-    socket: TcpListener,
-    moments: &M,
-    announce: N,
-    log: &EndLog,
-) -> Result<u64, ServerFault>
-where
-    A: Ledger + Send + Sync,
-    C: Ledger + Send + Sync,
-    M: Moments + Clone + Send,
-    R: Runtime + Sync,
-    N: Announce,
-    ensures { IfOk result (λ served. served ≡ service.now.connections) }
-{
-    set_image(rt, shards, moments, &service.image, log)?;
-    let server = Server {
-        rt,
-        shards,
+    let shards = new_shards.open::<A, C>(setting.rt.alloc())?;
+    let desks = ShardsDesks {
+        rt: setting.rt,
+        shards: &shards,
         moments,
-        plan: plan_of(service),
-        log,
+        log: setting.log,
+    };
+    desks.set_image(&setting.service.image)?;
+    let server = Server {
+        rt: setting.rt,
+        desks: &desks,
+        plan: plan_of(setting.service),
+        log: setting.log,
     };
     server.serve_sockets(socket, announce)
 }
@@ -224,46 +178,6 @@ fn plan_of(service: &Service) -> Plan
         expires: true,
         idle: service.idle,
     }
-}
-
-/// New shards with a salt, which keep no journals.
-fn shards_of<A, C>(
-    alloc: Global,
-    shards: usize,
-    salt: u64,
-    keys: RandomState,
-    entries: Blank,
-    calls: Blank,
-) -> Result<Shards<A, C, AlwaysOpen>, ServerFault>
-where
-    A: Ledger,
-    C: Ledger,
-    requires entries { (entries.name ≡ A.name) × (entries.parts ≡ A.parts) × (entries.parts ≡ 2 * shards) }
-    requires calls { (calls.name ≡ C.name) × (calls.parts ≡ C.parts) × (calls.parts ≡ 256 + shards) }
-    ensures { IfOk result (λ made. made ≡ record { shards = shards; salt = salt; cap = 0 }) }
-{
-    let gate = AlwaysOpen;
-    Ok(Shards::<A, C, AlwaysOpen>::new(alloc, shards, salt, 0, keys, gate, entries, calls)?)
-}
-
-/// Gives every shard its topics.
-fn set_image<A, C, M, R>(
-    rt: &R,
-    shards: &Shards<A, C, AlwaysOpen>,
-    moments: &M,
-    image: &Image,
-    log: &EndLog,
-) -> Result<(), ServerFault>
-where
-    A: Ledger,
-    C: Ledger,
-    M: Moments + Clone,
-    R: Wait + AllocGlobal,
-{
-    let mut desk = ShardsDesk::new(rt, rt.alloc(), shards, moments.clone()?, log)?;
-    let is_set = desk.set_image(image);
-    drop(desk);
-    Ok(is_set?)
 }
 
 /// Prints that the server listens on a port.

@@ -28,5 +28,5 @@ pub mod words;
 
 pub use clap::Command;
 pub use itoa::Integer;
-pub use kip_msgs::{Api, MsgFault};
+pub use kip_msgs::{Api, MsgFault, TopicPartitions};
 pub use topic_meta::{Image, ImageFault, TopicEntry};

@@ -1,7 +1,7 @@
 //! The output, written in pieces.
-ghost use Rattle.std.specs.Prelude.{◌≡◌, ◌<◌, ◌≤◌, ◌↔◌, ◌*◌, List, ℕ, [], ◌∷◌, ◌++◌, length, slice_index, IsTrue, OnOk, OnErr};
+ghost use Rattle.std.specs.Prelude.{◌≡◌, ◌≤◌, ◌↔◌, List, ℕ, [], ◌∷◌, ◌++◌, length, IsTrue, OnOk, OnErr};
 ghost use Rattle.std.specs.Io.KnownBytes.{Appends};
-ghost use Rattle.hex.specs.Hex.{encode_lower, lower_digits};
+ghost use Rattle.hex.specs.Hex.{encode_lower};
 ghost use Rattle.scenario_text.specs.Writing.{WritesPart};
 
 use std::alloc::{AllocError, Global};
@@ -113,31 +113,9 @@ fn put_hex(text: &mut Vec<u8>, bytes: &[u8]) -> Result<(), AllocError>
     };
     text.resize(end, 0)?;
     let (_, room) = text.as_mut_slice().split_at_mut(start);
-    put_digits(bytes, room);
+    // (there is room for just these digits)
+    let _ = hex::encode_to_slice(bytes, room);
     Ok(())
-}
-
-/// Puts the two digits of each byte.
-fn put_digits(bytes: &[u8], digits: &mut [u8])
-    requires { length digits.old ≡ 2 * length bytes.now }
-    ensures { digits.new ≡ encode_lower bytes.now }
-{
-    'bytes: for place in 0..bytes.len() {
-        digits[2 * place] = digit_of(bytes[place] / 16);
-        digits[2 * place + 1] = digit_of(bytes[place] % 16);
-    }
-}
-
-/// The digit in hex of a value.
-fn digit_of(value: u8) -> u8
-    requires { value < 16 }
-    ensures { result ≡ slice_index lower_digits value }
-{
-    if value < 10 {
-        b'0' + value
-    } else {
-        b'a' - 10 + value
-    }
 }
 
 /// Writes all the bytes, or the first of them and then says why no more.

@@ -1,8 +1,8 @@
 //! The words of a line, and what they stand for.
-ghost use Rattle.std.specs.Prelude.{◌≡◌, ◌≢◌, ℕ, [], pos, All, ◌^◌, ◌<◌, ◌↔◌, length, map, decimal, IsTrue, IfOk, OnOk, IsErr, Some, None, IfSome, IfNone};
-ghost use Rattle.hex.specs.Hex.{decode_of, hex_digit_value};
+ghost use Rattle.std.specs.Prelude.{◌≡◌, ◌≢◌, ℕ, [], pos, All, ◌^◌, ◌<◌, ◌↔◌, length, map, decimal, IsTrue, IfOk, OnOk, IsErr, IfSome, IfNone};
+ghost use Rattle.hex.specs.Hex.{decode_of};
 ghost use Rattle.scenario_text.specs.Words.{words_of, IsLine, IsName};
-ghost use Rattle.std.specs.Prelude.{ℤ, ◌*◌, MatchOption, OnErr, neg_ℤ, ◌≤◌};
+ghost use Rattle.std.specs.Prelude.{ℤ, MatchOption, neg_ℤ, ◌≤◌};
 ghost use Rattle.scenario_text.specs.Numbers.{SpellsOffset};
 ghost use Rattle.scenario_text.specs.FrameLines.{IsFrameLine, SpellsBytes};
 
@@ -134,44 +134,8 @@ pub fn decode_into(digits: &[u8], bytes: &mut Vec<u8>) -> Result<(), LineFault>
         return Err(LineFault::BadLine);
     }
     bytes.resize(digits.len() / 2, 0)?;
-    decode_pairs(digits, bytes.as_mut_slice())
-}
-
-/// Puts the byte of each two digits.
-fn decode_pairs(digits: &[u8], bytes: &mut [u8]) -> Result<(), LineFault>
-    requires { length digits.now ≡ 2 * length bytes.old }
-    ensures bytes { OnOk result (decode_of digits.now ≡ Ok bytes.new) }
-    ensures refused { OnErr result (IsErr (decode_of digits.now)) }
-{
-    let mut most = 0;
-    'pairs: for place in 0..bytes.len() {
-        let high = value_of(digits[2 * place]);
-        let low = value_of(digits[2 * place + 1]);
-        most = high.max(low).max(most);
-        bytes[place] = high % 16 * 16 + low % 16;
-    }
-    if most < 16 {
-        Ok(())
-    } else {
-        Err(LineFault::BadLine)
-    }
-}
-
-/// The value of a digit in hex, in either case, and at least 16 for another byte.
-fn value_of(digit: u8) -> u8
-    ensures some { result < 16 → hex_digit_value digit ≡ Some result }
-    ensures none { 16 ≤ result → hex_digit_value digit ≡ None }
-{
-    let number = digit.wrapping_sub(b'0');
-    let lower = digit.wrapping_sub(b'a');
-    let upper = digit.wrapping_sub(b'A');
-    if number < 10 {
-        number
-    } else if lower < 6 {
-        lower + 10
-    } else if upper < 6 {
-        upper + 10
-    } else {
-        16
+    match hex::decode_to_slice(digits, bytes.as_mut_slice()) {
+        Ok(()) => Ok(()),
+        Err(_) => Err(LineFault::BadLine),
     }
 }

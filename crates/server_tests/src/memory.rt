@@ -6,7 +6,7 @@ use crate::server::{Told, Unheard, shards_over};
 use bytes::BytesMut;
 use coord_server::{
     ClockMoments, EndLog, Listener, Moments, Plan, Registry, Runtime, Server, ServerFault, Shards,
-    Token,
+    ShardsDesks, Token,
 };
 use futures::task::Poll;
 use futures::test::MockTask;
@@ -40,10 +40,10 @@ where
 }
 
 /// The same, over ledgers of its own.
-fn memory_over<A, C, G, M, R>(
-    rt: &R,
+fn memory_over<'a, A, C, G, M, R>(
+    rt: &'a R,
     gate: G,
-    moments: &M,
+    moments: &'a M,
     plan: Plan,
     frames: &[Vec<u8>],
     entries: Blank,
@@ -65,10 +65,10 @@ where
 }
 
 /// The same, over these shards.
-fn told_over_memory<A, C, G, M, R>(
-    rt: &R,
-    shards: &Shards<A, C, G>,
-    moments: &M,
+fn told_over_memory<'a, A, C, G, M, R>(
+    rt: &'a R,
+    shards: &'a Shards<A, C, G>,
+    moments: &'a M,
     plan: Plan,
     frames: &[Vec<u8>],
 ) -> Result<Told, ServerFault>
@@ -81,10 +81,15 @@ where
 {
     let (lines, far_ends) = lines_of(rt.alloc(), frames)?;
     let log = EndLog::none();
-    let server = Server {
+    let desks = ShardsDesks {
         rt,
         shards,
         moments,
+        log: &log,
+    };
+    let server = Server {
+        rt,
+        desks: &desks,
         plan,
         log: &log,
     };
@@ -127,7 +132,9 @@ struct Listed {
     lines: VecDeque<MemoryLine>,
 }
 
-impl Listener<MemoryLine> for Listed {
+impl Listener for Listed {
+    type Connection = MemoryLine;
+
     fn register(&mut self, _registry: &Registry, _token: Token) -> io::Result<()> {
         Ok(())
     }

@@ -5,7 +5,7 @@ use crate::gates::{Crossing, Meeting, Watched};
 use crate::memory::over_memory;
 use coord_server::{
     AlwaysOpen, Announce, ClockMoments, EndLog, Gate, Moments, Plan, Runtime, Server, ServerFault,
-    Shards, ShardsDesk,
+    Shards, ShardsDesks,
 };
 use std::alloc::{AllocError, AllocGlobal, Global};
 use std::collections::hash_map::RandomState;
@@ -142,10 +142,10 @@ where
 }
 
 /// The same, over ledgers of its own.
-fn sockets_over<A, C, G, M, R>(
-    rt: &R,
+fn sockets_over<'a, A, C, G, M, R>(
+    rt: &'a R,
     gate: G,
-    moments: &M,
+    moments: &'a M,
     plan: Plan,
     client: Client<'_>,
     entries: Blank,
@@ -167,10 +167,10 @@ where
 }
 
 /// The same, over these shards.
-fn told_over_sockets<A, C, G, M, R>(
-    rt: &R,
-    shards: &Shards<A, C, G>,
-    moments: &M,
+fn told_over_sockets<'a, A, C, G, M, R>(
+    rt: &'a R,
+    shards: &'a Shards<A, C, G>,
+    moments: &'a M,
     plan: Plan,
     client: Client<'_>,
 ) -> Result<Told, ServerFault>
@@ -193,11 +193,11 @@ where
 }
 
 /// Serves the connections of a socket over shards, and tells nobody.
-fn serve_on<A, C, G, M, R>(
-    rt: &R,
-    shards: &Shards<A, C, G>,
+fn serve_on<'a, A, C, G, M, R>(
+    rt: &'a R,
+    shards: &'a Shards<A, C, G>,
     socket: TcpListener,
-    moments: &M,
+    moments: &'a M,
     plan: Plan,
 ) -> Result<u64, ServerFault>
 where
@@ -208,10 +208,15 @@ where
     R: Runtime + Sync,
 {
     let log = EndLog::none();
-    let server = Server {
+    let desks = ShardsDesks {
         rt,
         shards,
         moments,
+        log: &log,
+    };
+    let server = Server {
+        rt,
+        desks: &desks,
         plan,
         log: &log,
     };
@@ -219,10 +224,10 @@ where
 }
 
 /// Two shards over a topic `t` of two partitions, whose gate holds threads up from now on.
-pub fn shards_over<A, C, G, M, R>(
-    rt: &R,
+pub fn shards_over<'a, A, C, G, M, R>(
+    rt: &'a R,
     gate: G,
-    moments: &M,
+    moments: &'a M,
     entries: Blank,
     calls: Blank,
 ) -> Result<Shards<A, C, G>, ServerFault>
@@ -243,10 +248,10 @@ where
 }
 
 /// The shards with a topic `t` of two partitions, and their gate from now on.
-fn armed<A, C, G, M, R>(
-    rt: &R,
+fn armed<'a, A, C, G, M, R>(
+    rt: &'a R,
     shards: Shards<A, C, G>,
-    moments: &M,
+    moments: &'a M,
 ) -> Result<Shards<A, C, G>, ServerFault>
 where
     A: Ledger,
@@ -265,10 +270,10 @@ where
 }
 
 /// Gives every shard a topic `t` of two partitions.
-fn set_image<A, C, G, M, R>(
-    rt: &R,
-    shards: &Shards<A, C, G>,
-    moments: &M,
+fn set_image<'a, A, C, G, M, R>(
+    rt: &'a R,
+    shards: &'a Shards<A, C, G>,
+    moments: &'a M,
 ) -> Result<(), ServerFault>
 where
     A: Ledger,
@@ -277,28 +282,14 @@ where
     M: Moments + Clone,
     R: Wait + AllocGlobal,
 {
-    let moments = moments.clone()?;
-    let image = image(rt.alloc())?;
-    give_image(rt, shards, moments, &image, &EndLog::none())
-}
-
-fn give_image<A, C, G, M, R>(
-    rt: &R,
-    shards: &Shards<A, C, G>,
-    moments: M,
-    image: &Image,
-    log: &EndLog,
-) -> Result<(), ServerFault>
-where
-    A: Ledger,
-    C: Ledger,
-    G: Gate,
-    M: Moments,
-    R: Wait + AllocGlobal,
-{
-    let mut desk = ShardsDesk::new(rt, rt.alloc(), shards, moments, log)?;
-    desk.set_image(image)?;
-    Ok(())
+    let log = EndLog::none();
+    let desks = ShardsDesks {
+        rt,
+        shards,
+        moments,
+        log: &log,
+    };
+    desks.set_image(&image(rt.alloc())?)
 }
 
 /// An image of a topic `t` of two partitions, whose id is sixteen bytes 0x11.

@@ -2,9 +2,9 @@
 //! node of their own, give the answers that the callers had.
 ghost use Rattle.std.specs.Prelude.{◌≡◌};
 
-use crate::events::{ask, beat_body, body_of, put_answer};
+use crate::events::{ask, beat_body, body_of, call, put_answer};
 use coord_node::{Answered, Node};
-use coord_shards::{AlwaysOpen, Answer, Entry, Event, Seat, Shard, Shards, Stamp};
+use coord_shards::{AlwaysOpen, Answer, Event, JournalEntry, Seat, Shard, Shards, Stamp};
 use kip_msgs::{Api, Reply, read_reply};
 use std::alloc::{AllocError, Global};
 use std::collections::hash_map::RandomState;
@@ -238,7 +238,7 @@ fn group_of(number: u64, joins: Joins) -> &'static str {
     GROUPS.get(place).copied().unwrap_or("")
 }
 
-/// Sends a join, and once more where it is refused.
+/// Calls for a join, and once more if it is refused.
 fn call_twice<A: Ledger, C: Ledger, R: Wait>(
     rt: &R,
     alloc: Global,
@@ -252,9 +252,9 @@ fn call_twice<A: Ledger, C: Ledger, R: Wait>(
         frame: number,
     };
     let body = body_of(alloc, group).or_else(|_| body_of(alloc, group))?;
-    let answer = ask(rt, alloc, shards, seat, &body, stamp);
+    let answer = call(rt, alloc, shards, seat, body, stamp);
     if answer.is_refused() {
-        return Ok(ask(rt, alloc, shards, seat, &body, stamp));
+        return Ok(call(rt, alloc, shards, seat, body_of(alloc, group)?, stamp));
     }
     Ok(answer)
 }
@@ -340,7 +340,7 @@ fn put_history(
 }
 
 /// The number of the call that made an entry, among those of its seat: the heartbeat comes behind 100 joins.
-fn call_of(entry: &Entry) -> usize {
+fn call_of(entry: &JournalEntry) -> usize {
     match &entry.event {
         Event::Frame { stamp, .. } if stamp.connection < 2 => stamp.frame as usize,
         Event::Frame { .. } => 101,
@@ -362,7 +362,7 @@ fn answer_to(answers: &Answers, seat: usize, call: usize) -> Option<&Answer> {
 fn is_answered(
     alloc: Global,
     node: &mut Node,
-    entry: &Entry,
+    entry: &JournalEntry,
     had: Option<&Answer>,
 ) -> Result<bool, AllocError> {
     let Event::Frame {

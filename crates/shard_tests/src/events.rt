@@ -162,6 +162,23 @@ pub fn ask<A: Ledger, C: Ledger, R: Wait>(
     }
 }
 
+/// Calls the shards from a seat for a frame that comes at 0 ms.
+pub fn call<A: Ledger, C: Ledger, R: Wait>(
+    rt: &R,
+    alloc: Global,
+    shards: &Shards<A, C, AlwaysOpen>,
+    seat: &mut Seat<C>,
+    body: Vec<u8>,
+    stamp: Stamp,
+) -> Answer {
+    shards.call(
+        rt,
+        alloc,
+        seat,
+        frame_of(body, stamp.connection, stamp.frame),
+    )
+}
+
 /// Appends what an answer is: `joined` where its bytes are those of the worked reply to a first join, `CODE@EPOCH:SHOWN` of another
 /// reply to a heartbeat, `closes`, `done:N` or `refused`.
 pub fn put_answer(alloc: Global, answer: &Answer, out: &mut String) -> Result<(), AllocError> {

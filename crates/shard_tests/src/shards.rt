@@ -4,7 +4,8 @@ ghost use Rattle.std.specs.Prelude.{◌≡◌, ◌+◌, ◌*◌, ◌≤◌};
 
 use crate::events::{ask, body_of, event_of, put_answer};
 use coord_shards::{
-    AlwaysOpen, Answer, Event, Moment, Seat, Shard, ShardFault, Shards, Stamp, Unclosed,
+    AlwaysOpen, Answer, Event, Moment, Node, NodeReader, Seat, Shard, ShardFault, Shards, Stamp,
+    Unclosed,
 };
 use std::alloc::{AllocError, Global};
 use std::collections::hash_map::RandomState;
@@ -21,13 +22,14 @@ use test_support::tables::{cut, number, part_words};
 /// - `SEAT join GROUP`: a join of topic `t` is sent from the seat.
 /// - `SEAT bad`: a frame that can't be read is sent from the seat.
 /// - `SEAT ask GROUP`, `SEAT ask`: the same two, as the bodies of frames that are no events.
+/// - `look GROUP`: the node of the group's shard is looked at.
 /// - `SEAT tick SHARD MS`, `SEAT image SHARD COUNT`: the time of a shard goes on to MS ms, and a topic `t` of COUNT partitions comes to
 ///   it.
 ///
 /// The answer has for each event `CODE@EPOCH:SHOWN` of a reply, with the number of partitions that it shows, `joined`, `closes`,
-/// `done:N` or `refused`; and the number of a fault where no shards or no seat are to be had. Behind `|` stands what each seat tells
-/// from which something was called: its number, its calls and its events that were kept. Then come the faults of closing without
-/// the last seat, where there is one, and with all seats; and at last what each shard tells to which something came: its number, its
+/// `done:N` or `refused`; for each look the shard's number, and the groups of its node with their members; and the number of a fault
+/// if no shards or no seat can be had. After `|` stands what each seat tells from which something was called: its number, its calls
+/// and its events that were kept. Then come the faults of closing without the last seat, if there is one, and with all seats; and at last what each shard tells to which something came: its number, its
 /// entries that were kept, `SEAT*COUNT` for each seat, the members of the groups `a`, `b` and `c` that are there, and what it answers
 /// to one more tick, from seat 0 and at 90 s, with `*` and the entries that this seat made by then.
 const SHARDS: &str = "
@@ -45,6 +47,8 @@ const SHARDS: &str = "
 2 9; seats 1; 0 join a; 0 tick 0 45000; 0 tick 1 45000 = 0@1:0 done:0 done:1 | seat:0 3 3 short:2 closed:2 shard:0 1 0*1 done:0*2 shard:1 2 0*2 a:0 done:0*3
 2 9; seats 1; 0 image 2 3; 0 join b; 0 join a = done:0 0@1:3 0@1:0 | seat:0 3 3 short:2 closed:2 shard:0 2 0*2 b:1 done:1*3 shard:1 1 0*1 a:1 done:1*2
 3 0; seats 2; 1 image 1 5; 1 join c; 0 join a = done:0 0@1:0 0@1:5 | seat:0 1 0 seat:1 2 0 short:2 closed:3 shard:0 0 1*1 c:1 done:1*1 shard:1 0 0*1 1*1 a:1 done:1*2
+2 9; look a; seats 1; 0 join a; look a; look b = looks:1 0@1:0 looks:1 a:1 looks:0 | seat:0 1 1 short:2 closed:2 shard:1 1 0*1 a:1 done:1*2
+1 0; seats 1; 0 join b; 0 join a; 0 join a; look c = 0@1:0 0@1:0 0@2:0 looks:0 b:1 a:2 | seat:0 3 0 short:2 closed:1 shard:0 0 0*3 a:2 b:1 done:3*4
 2 9; seats 1; 0 bad = closes | seat:0 1 1 short:2 closed:2 shard:0 1 0*1 done:0*2
 1 0; seats 1; 0 ask a; 0 join a; 0 ask a = 0@1:0 0@2:0 0@3:0 | seat:0 3 0 short:2 closed:1 shard:0 0 0*3 a:3 done:3*4
 2 0; seats 2; 1 ask b; 0 ask a; 0 ask = 0@1:0 0@1:0 closes | seat:0 2 0 seat:1 1 0 short:2 closed:2 shard:0 0 0*1 1*1 b:1 done:1*2 shard:1 0 0*1 a:1 done:1*2
@@ -215,6 +219,9 @@ fn take_step<A: Ledger, C: Ledger, R: Wait>(
     if seat == "seats" {
         return sit(rt, alloc, shards, number(words), seats, out);
     }
+    if seat == "look" {
+        return look_into(rt, alloc, shards, words, out);
+    }
     let Some(seat) = seats.get_mut(number::<usize>(seat)) else {
         return Ok(());
     };
@@ -225,6 +232,40 @@ fn take_step<A: Ledger, C: Ledger, R: Wait>(
     };
     let answer = call(rt, alloc, shards, seat, step, out)?;
     put_answer(alloc, &answer, out)
+}
+
+/// Tells the number of a group's shard, and what its node has.
+fn look_into<A: Ledger, C: Ledger, R: Wait>(
+    rt: &R,
+    alloc: Global,
+    shards: &Shards<A, C, AlwaysOpen>,
+    group: &str,
+    out: &mut String,
+) -> Result<(), AllocError> {
+    part_words(out)?;
+    let number = shards.shard_of(group);
+    let mut reader = GroupReader {
+        groups: String::new(alloc),
+    };
+    shards.read(rt, number, &mut reader)?;
+    write!(out, "looks:{number}{}", reader.groups)
+}
+
+/// What a node has: its groups with their members.
+#[derive(Drop)]
+struct GroupReader {
+    groups: String,
+}
+
+impl NodeReader for GroupReader {
+    fn read(&mut self, node: &Node) -> Result<(), AllocError> {
+        for place in 0..node.group_count() {
+            if let Some(it) = node.group_at(place) {
+                write!(self.groups, " {}:{}", it.name, it.group.members())?;
+            }
+        }
+        Ok(())
+    }
 }
 
 /// Gives out `count` seats. For each that isn't to be had the fault is written.

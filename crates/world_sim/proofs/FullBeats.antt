@@ -26,7 +26,7 @@ use Rattle.group_types.specs.Sound.{IsSound}
 use Rattle.group_types.proofs.Lookups.{get-inserted, get-insert_other}
 use Rattle.group_types.proofs.Orders.{partition_cmp_total}
 use Rattle.group_types.proofs.SetLemmas.{has-in_order}
-use Rattle.group_epochs.proofs.Senders.{record_under-get}
+use Rattle.group_types.proofs.Checked.{own_so}
 use Rattle.group_types.proofs.ViewsFor.{view_for-insert}
 use Rattle.member_core.specs.Settings.{Settings}
 use Rattle.world_sim.specs.Turn.{Holds, IsLater}
@@ -170,7 +170,7 @@ module _ (g : Group) (sound : IsSound g) (image : Topics) (s : Settings) (m : Te
   -- ---- it is accepted
 
   whose : record_under g.records m ≡ Some r
-  whose = record_under-get g.records m sound.named ∙ can.was
+  whose = own_so g.records m sound.named ∙ can.was
 
   granted : are_granted g.grants m (Some (in_order own)) ≡ true
   granted = all_of (λ p. has g.grants (m, p)) (in_order own) (λ p there. can.holds p (has-in_order own p ∙ there))

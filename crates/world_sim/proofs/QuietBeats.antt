@@ -16,7 +16,7 @@ use Rattle.group_types.specs.Checks.{Verdict, Accepted, are_granted, checks_of, 
 use Rattle.group_types.specs.HeartbeatStep.{Arrival, Replied, Reply, BeatsWith, ByVerdict, Draft, HeartbeatStep, StepOf, TakesIn, assignment_of, draft_of_beat, epoch_number, is_news, sent_after, shown, Stages}
 use Rattle.group_types.proofs.MadeIds.{length-made_id}
 use Rattle.group_types.proofs.Orders.{text_cmp_total, text_cmp-IsAntisymmetric}
-use Rattle.group_epochs.proofs.Senders.{record_under-get}
+use Rattle.group_types.proofs.Checked.{own_so}
 use Rattle.group_core.proofs.Single.{get-inserted, insert-insert}
 use Rattle.group_types.proofs.ViewsFor.{view_for-insert}
 use Rattle.world_sim.proofs.FullBeats.{first_none}
@@ -73,7 +73,7 @@ module _ (x : Newcomer) (records : Records) (grants : Grants) (frame below previ
   TheDraft = draft_of_beat Before 0 Was Q (stamp_at x (suc frame))
 
   whose : record_under records (id_of x) ≡ Some Was
-  whose = record_under-get records (id_of x) can.named ∙ can.kept
+  whose = own_so records (id_of x) can.named ∙ can.kept
 
   valid : is_invalid Q ≡ false
   valid = ap (λ n. (n == 0) || false) (length-made_id 0 (number_of x))

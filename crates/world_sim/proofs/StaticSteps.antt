@@ -44,7 +44,7 @@ use Rattle.group_types.proofs.Orders.{text_cmp_total, text_cmp-IsAntisymmetric, 
 use Rattle.group_types.proofs.SetLemmas.{has-common, has-in_order, has-minus, has-nothing, has-of_list, has-with_one, is_nothing-Decides, same_set}
 use Rattle.group_types.proofs.SpreadLemmas.{get-renamed, has-share_of}
 use Rattle.group_core.proofs.Single.{entries-empty, entries-single, get-inserted, insert-insert}
-use Rattle.group_epochs.proofs.Senders.{record_under-get}
+use Rattle.group_types.proofs.Checked.{own_so}
 use Rattle.world_sim.proofs.Newcomers.{GROUP}
 use Rattle.world_sim.proofs.RoundTurns.{free_where}
 
@@ -363,7 +363,7 @@ pub none_granted : (m : Text) → IsBounded m nothing
 none_granted m n p holds = absurd (true≢false (sym holds ∙ has-nothing grant_cmp (n, p)))
 
 named_nobody : (name : Text) → record_under finite.empty name ≡ None
-named_nobody name = record_under-get finite.empty name (finite.get-empty text_cmp []) ∙ finite.get-empty text_cmp name
+named_nobody name = own_so finite.empty name (finite.get-empty text_cmp []) ∙ finite.get-empty text_cmp name
 
 nobody_else : (name : Text) → other_with finite.empty name (Some INSTANCE) ≡ None
 nobody_else name =
@@ -456,7 +456,7 @@ ids_apart_too = no_tie ID1 ID2 (λ same. let never : 1 ≡ 2 = made_ids_differ 0
 
 its_record : (n : ℕ) (r : Record) → record_under (alone (made_id 0 n) r) (made_id 0 n) ≡ Some r
 its_record n r =
-    record_under-get (alone (made_id 0 n) r) (made_id 0 n) (get-alone (made_id 0 n) [] r ∙ ap (λ b. cond b (Some r) None) (never_empty n))
+    own_so (alone (made_id 0 n) r) (made_id 0 n) (get-alone (made_id 0 n) [] r ∙ ap (λ b. cond b (Some r) None) (never_empty n))
     ∙ get-inserted text_cmp_total finite.empty (made_id 0 n) r
 
 -- ---- it joins

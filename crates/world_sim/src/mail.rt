@@ -1,4 +1,6 @@
 //! Requests and replies that were sent.
+ghost use Rattle.std.specs.Prelude.{◌≤◌, length};
+ghost use Rattle.group_types.specs.Limits.{LARGEST_BODY};
 
 use crate::frame::Frame;
 use coord_node::Stamp;
@@ -8,6 +10,7 @@ use coord_node::Stamp;
 pub(crate) struct Request {
     pub(crate) stamp: Stamp,
     pub(crate) frame: Frame,
+    pub(crate) ghost small: { length frame ≤ LARGEST_BODY },
 }
 
 /// A reply that was sent.

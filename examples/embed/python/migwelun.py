@@ -48,7 +48,7 @@ SNAPSHOT_FAULTS: Dict[int, str] = {
     31: "a field of the snapshot is cut, or no value of its type",
     32: "a field of the snapshot has a value that can't stand there",
     33: "the snapshot is no state to which a log can come",
-    34: "the snapshot spells a state otherwise, or bytes are left behind it",
+    34: "the snapshot is another encoding of a state, or bytes are left after it",
     35: "there is more of something than a snapshot can say",
 }
 KINDS = ("frame", "tick", "topics", "leads")

@@ -105,7 +105,7 @@ class Client:
             yield reply
 
     def beaten(self, reply: bytes) -> None:
-        """Takes the id and the epoch of a heartbeat's reply without an error: they stand behind 5 + 4 + 2 + 1 bytes."""
+        """Takes the id and the epoch of a heartbeat's reply without an error: they stand after 5 + 4 + 2 + 1 bytes."""
         if reply[9:11] != b"\0\0":
             raise ValueError(f"a heartbeat was answered with {reply.hex()}")
         length = reply[12] - 1

@@ -38,7 +38,7 @@ def written(replica: Any, size: int = 1 << 20) -> bytes:
 
 
 class Played:
-    """A script that is played: the entries, what each of them came to, and the snapshots behind them."""
+    """A script that is played: the entries, their results, and the snapshots after them."""
 
     def __init__(self, replica: Any, dice: random.Random) -> None:
         self.replica, self.dice, self.rules = replica, dice, reply_lines.Lines()
@@ -87,7 +87,7 @@ def play(library: str, dice: random.Random) -> Played:
             if at:
                 it.restore(played.snapshots[at - 1])
             applied = [it.apply(place, entry) for place, entry in enumerate(played.entries[at:], at + 1)]
-            same(f"the log behind {at}", (applied, written(it)), (played.applied[at:], played.snapshots[-1]))
+            same(f"the log after {at}", (applied, written(it)), (played.applied[at:], played.snapshots[-1]))
     return played
 
 
@@ -102,7 +102,7 @@ def changed(some: bytes, other: bytes, dice: random.Random) -> bytes:
 
 
 def is_taken(replica: Any, snapshot: bytes) -> bool:
-    """Whether a snapshot is. If so, it is written with the same bytes, and the log goes on behind it."""
+    """Whether a snapshot is. If so, it is written with the same bytes, and the log goes on after it."""
     try:
         replica.restore(snapshot)
     except (migwelun.BadSnapshot, MemoryError):

@@ -1,9 +1,9 @@
 //! Requests that are delivered.
 ghost use Rattle.std.specs.Prelude.{◌≡◌, ◌<◌, IfOk, IfSome, OnErr, vec_capacity, vec_len};
 ghost use Rattle.kip_msgs.specs.Values.{RequestValue};
-ghost use Rattle.kip_msgs.specs.Spelling.{SpellsRequest};
 ghost use Rattle.kip_msgs.specs.Views.{request_value};
 ghost use Rattle.coord_node.specs.Nodes.{coordinator_of};
+ghost use Rattle.coord_node.specs.Steps.{IsRequest};
 ghost use Rattle.world_sim.specs.Acts.{Deliver};
 ghost use Rattle.world_sim.specs.Acting.{Acted};
 ghost use Rattle.world_sim.specs.Invariant.{Keeps};
@@ -85,7 +85,7 @@ fn answer(
 
 /// Whether the body is a join under an id that its group doesn't remember.
 fn is_forgotten(node: &Node, body: &ParsedBody<'_>) -> bool
-    ensures { (v : RequestValue) → SpellsRequest v body.now → result ≡ joins_forgotten (coordinator_of node.now) v }
+    ensures { (v : RequestValue) → IsRequest v body.now → result ≡ joins_forgotten (coordinator_of node.now) v }
 {
     one_request_a_body();
     match body.request() {

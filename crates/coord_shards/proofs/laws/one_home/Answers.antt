@@ -6,10 +6,10 @@ use Rattle.kip_msgs.specs.Laws.{OneRequestABody}
 use Rattle.coord_shards.proofs.laws.one_home.Goals as goal
 
 homes-are_one : OneRequestABody → OneHome
-homes-are_one one_request shards (Frame body stamp moment) one other (inl (v, spells_v, is_v)) (inl (w, spells_w, is_w)) =
-    is_v ∙ ap (λ r. shard_of_group shards (group_named r)) (one_request v w body spells_v spells_w) ∙ sym is_w
-homes-are_one one_request shards (Frame body stamp moment) one other (inl (v, spells_v, is_v)) (inr none) = absurd (none.0 v spells_v)
-homes-are_one one_request shards (Frame body stamp moment) one other (inr none) (inl (w, spells_w, is_w)) = absurd (none.0 w spells_w)
+homes-are_one one_request shards (Frame body stamp moment) one other (inl (v, request_v, is_v)) (inl (w, request_w, is_w)) =
+    is_v ∙ ap (λ r. shard_of_group shards (group_named r)) (one_request v w body request_v.spells request_w.spells) ∙ sym is_w
+homes-are_one one_request shards (Frame body stamp moment) one other (inl (v, request_v, is_v)) (inr none) = absurd (none.0 v request_v)
+homes-are_one one_request shards (Frame body stamp moment) one other (inr none) (inl (w, request_w, is_w)) = absurd (none.0 w request_w)
 homes-are_one one_request shards (Frame body stamp moment) one other (inr none) (inr none') = none.1 ∙ sym none'.1
 homes-are_one one_request shards (Tick shard moment) one other is is' = is ∙ sym is'
 homes-are_one one_request shards (Image shard image) one other is is' = is ∙ sym is'

@@ -30,6 +30,7 @@ answer-requires c =
         | then-is_current+then-is_steady_beat+in_ok-outcome+in_default w ↦ subst IsGroup (sym (w.state-is ∙ subst (λ o. IfNone o (w.beat_steadily.new.state ≡ c.args.state.now)) w.in_default.is w.in_ok-outcome.ensures.none)) c.requires.group
         | else-is_current w ↦ subst IsGroup (sym w.state-is) c.requires.group
       ];
+      id = c.requires.id;
     }
 
 pub returns-clause-step : goal.returns-clause-step

@@ -1,6 +1,6 @@
 use Rattle.std.proofs.Common.{◌≡◌, take, length, sym, subst, arith, ◌∙◌}
 use Rattle.coord_node.specs.Nodes.{coordinator_of}
-use Rattle.coord_shards.specs.declared.shard.Entry.{Entry}
+use Rattle.coord_shards.specs.declared.shard.JournalEntry.{JournalEntry}
 use Rattle.coord_shards.specs.Events.{event_of, IsGiven, Gives}
 use Rattle.coord_shards.specs.Home.{IsHome}
 use Rattle.coord_shards.specs.Shard.{ShardState, one_more}
@@ -8,7 +8,7 @@ use Rattle.coord_shards.specs.Replay.{IsFull, IsShard, GoesOn, shard_view}
 use Rattle.coord_shards.proofs.StepLemmas.{taken-is, room-is, take-kept_with}
 use Rattle.coord_shards.proofs.shard.Shard.take.Goals as goal
 
-abbrev entry_of : goal.After-self-1 → Entry
+abbrev entry_of : goal.After-self-1 → JournalEntry
 entry_of c = record { seat = c.args.seat; event = event_of c.args.event.now }
 
 -- what is of the shard once the event was acted on, and that this is a step

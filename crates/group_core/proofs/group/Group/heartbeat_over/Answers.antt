@@ -22,7 +22,7 @@ sound_after (Err e) answer a old new image sound step err = subst IsSound (sym e
 
 pub invariant_of-self : goal.invariant_of-self
 invariant_of-self c =
-    let a : Arrival = arrival_of (heartbeat_request_value c.args.request.now) c.args.stamp c.args.now c.args.image.now in
+    let a : Arrival = arrival_of (heartbeat_request_value c.args.request.now.request.now) c.args.stamp c.args.now c.args.image.now in
     record {
       sound = sound_after c.respond.result answer_of a (group_of c.self.inside.state) (group_of c.respond.new.state) c.len.ensures.sound c.self.invariant.sound c.respond.ensures.step c.respond.ensures.keeps.err;
       marked = c.respond.ensures.keeps.marks;

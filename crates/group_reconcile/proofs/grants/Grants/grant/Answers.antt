@@ -35,7 +35,7 @@ invariant_of-self-2 c =
     let us = c.number_for.new.self in
     let cells = c.self.inside.table.cells in
     let p = c.args.p.now in
-    let free : finite.get cells p ≡ None = free_cell ms cells p (ap (λ h. finite.get h p) c.self.view_is ∙ c.requires) in
+    let free : finite.get cells p ≡ None = free_cell ms cells p (ap (λ h. finite.get h p) c.self.view_is ∙ c.requires.free) in
     AreConsistent-granted us cells
     (AreConsistent-kept ms us cells c.self.invariant c.number_for.ensures.members c.number_for.ensures.parts)
     c.args.member.now c.in_ok-number.number c.in_ok-number.ensures.number p c.args.since free
@@ -48,7 +48,7 @@ returns-clause-holders c =
     let us = c.number_for.new.self in
     let cells = c.self.inside.table.cells in
     let p = c.args.p.now in
-    let free : finite.get cells p ≡ None = free_cell ms cells p (ap (λ h. finite.get h p) c.self.view_is ∙ c.requires) in
+    let free : finite.get cells p ≡ None = free_cell ms cells p (ap (λ h. finite.get h p) c.self.view_is ∙ c.requires.free) in
     holders_of-granted us cells
     (AreConsistent-kept ms us cells c.self.invariant c.number_for.ensures.members c.number_for.ensures.parts)
     c.args.member.now c.in_ok-number.number c.in_ok-number.ensures.number p c.args.since free

@@ -12,18 +12,18 @@ pub returns-clause-grants : goal.returns-clause-grants
 returns-clause-grants c =
     let before = pairs c.args.self.now in
     let m = c.args.member.now in
-    let target = c.args.target.now.partitions in
+    let target = c.args.target.now.wanted.partitions in
     let owned = option_copied c.args.owned in
     let may : may_settle before m target owned ≡ true =
     ap (λ id. may_settle before id target owned) (sym c.as_str-id.ensures.value) ∙ sym c.may_settle.ensures ∙ c.if-not-may_settle.false in
-    pairs_move c.args.self.now c.settle_on.new.self m target c.args.target.now.epoch c.in_ok-settle_on.ensures.settled
+    pairs_move c.args.self.now c.settle_on.new.self m target c.args.target.now.wanted.epoch c.in_ok-settle_on.ensures.settled
     ∙ ap (λ b. grants_after b before m target) (sym may)
 
 pub returns-then-is_settled-clause-verdict : goal.returns-then-is_settled-clause-verdict
 returns-then-is_settled-clause-verdict c =
     let before = pairs c.args.self.now in
     let m = c.args.member.now in
-    let target = c.args.target.now.partitions in
+    let target = c.args.target.now.wanted.partitions in
     let is : held before m ≡ target = ap (held before) (sym c.as_str-id.ensures.value) ∙ c.is_settled.ensures c.if-is_settled.true in
     ap verdict_of (sym (may before m target is (option_copied c.args.owned)))
 
@@ -31,6 +31,6 @@ pub returns-then-is_settled-clause-grants : goal.returns-then-is_settled-clause-
 returns-then-is_settled-clause-grants c =
     let before = pairs c.args.self.now in
     let m = c.args.member.now in
-    let target = c.args.target.now.partitions in
+    let target = c.args.target.now.wanted.partitions in
     let is : held before m ≡ target = ap (held before) (sym c.as_str-id.ensures.value) ∙ c.is_settled.ensures c.if-is_settled.true in
     sym (kept before m target is (may_settle before m target (option_copied c.args.owned)))

@@ -8,6 +8,7 @@ use Rattle.group_reconcile.specs.Holders.{Settles}
 use Rattle.group_reconcile.specs.Members.{IsNumberOf, parts_of}
 use Rattle.group_reconcile.specs.Settling.{cells_cleared, cells_put}
 use Rattle.group_reconcile.specs.Tables.{Cells}
+use Rattle.group_reconcile.proofs.FromZero.{next_from_zero}
 use Rattle.group_reconcile.proofs.Settled.{settling_is}
 use Rattle.group_reconcile.proofs.Settles.{AreConsistent-settled, IsSettling, Settling, Settles-settled, holders_of-kept}
 use Rattle.group_reconcile.proofs.grants.Grants.settle_on.Goals as goal
@@ -62,6 +63,9 @@ is_settling c =
       changed = changed s.cells_before c.make_room_for.new.table.cells s.cells_after (parts_of s.numbered s.number) s.next s.number c.epoch.result s.epoch c.make_room_for.ensures.cells c.epoch.ensures c.settle.ensures.cells;
       sets = c.settle.ensures.members;
     }
+
+pub make_room_for-requires : goal.make_room_for-requires
+make_room_for-requires c = next_from_zero c.self.inside.table.cells c.find-number.result c.args.target.now.partitions c.in_ok-next.next c.in_ok-next.ensures c.requires
 
 pub invariant_of-self-2 : goal.invariant_of-self-2
 invariant_of-self-2 c = AreConsistent-settled (settling c) (is_settling c)

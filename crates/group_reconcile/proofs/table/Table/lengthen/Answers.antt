@@ -33,7 +33,7 @@ returns-clause-room c =
           (subst (λ k. IsIndex k (length new.items)) index far))
           w.add_blanks.ensures.far)
       | in-None w ↦
-          absurd (no_topic c.self.inside.topics.entries c.args.self.now.sizes c.args.p.now.topic (ap (λ t. t.sizes) c.self.view_is) (sym w.in-None.ensures.value) c.requires)
+          absurd (no_topic c.self.inside.topics.entries c.args.self.now.sizes c.args.p.now.topic (ap (λ t. t.sizes) c.self.view_is) (sym w.in-None.ensures.value) c.requires.topic)
     ]
 
 pub returns-clause-kept : goal.returns-clause-kept
@@ -48,5 +48,5 @@ returns-clause-kept c =
           (sizes-grown c.self.inside.topics.entries (c.get_mut.follows.lender new).entries c.args.p.now old new follows.0 (sym w.in-Some.ensures.value) w.add_blanks.ensures.blanks.1
           w.add_blanks.ensures.blanks.0))
       | in-None w ↦
-          absurd (no_topic c.self.inside.topics.entries c.args.self.now.sizes c.args.p.now.topic (ap (λ t. t.sizes) c.self.view_is) (sym w.in-None.ensures.value) c.requires)
+          absurd (no_topic c.self.inside.topics.entries c.args.self.now.sizes c.args.p.now.topic (ap (λ t. t.sizes) c.self.view_is) (sym w.in-None.ensures.value) c.requires.topic)
     ]

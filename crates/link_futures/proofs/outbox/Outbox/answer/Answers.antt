@@ -15,7 +15,7 @@ overflow_add-self g c =
 pub invariant_of-self-then-unsent-gt0 : goal.invariant_of-self-then-unsent-gt0
 invariant_of-self-then-unsent-gt0 g c =
     let o = c.self.inside in
-    let given = c.in_ok-answered.ensures in
+    let given = c.in_ok-answered.ensures.gives in
     let reply : Reply = record { frame = c.args.stamp.frame; unsent = c.len-2.result - c.len-before.result } in
     let pushed = c.push_back_reserved.ensures.items in
     let kept = c.in_ok-reserve.ensures.items in
@@ -29,10 +29,10 @@ invariant_of-self-then-unsent-gt0 g c =
       λ some. omega (arith, c.in_ok-reserve-2.ensures.ok),
     )
 
-pub returns-then-unsent-gt0 : goal.returns-then-unsent-gt0
-returns-then-unsent-gt0 g c =
+pub returns-then-unsent-gt0-clause-answers : goal.returns-then-unsent-gt0-clause-answers
+returns-then-unsent-gt0-clause-answers g c =
     let o = c.self.inside in
-    let given = c.in_ok-answered.ensures in
+    let given = c.in_ok-answered.ensures.gives in
     let fits = (invariant_of-self-then-unsent-gt0 g c).0 in (
       given.0,
       given.1,

@@ -23,7 +23,7 @@ returns-clause-registered g c =
     ] in
     let some : c.loop-round.self.is_closed ≡ true → (0 < length c.loop-round.self.lines.items) ⊎ (0 < c.loop-round.self.resting.count) = rw same at left in
     rw same
-    (WorkerNeeds_covered g.A.Stream.needs g.R.AsyncRead.needs g.W.AsyncWrite.needs c.loop-round.self.is_closed c.loop-round.self.lines.items c.loop-round.self.resting.lines c.loop-round.self.resting.count c.loop-round.self.arrivals c.loop-round.cx
+    (WorkerNeeds_covered g.A.Stream.needs g.R.AsyncRead.needs g.W.AsyncWrite.needs (g.D.Desk.wakes c.loop-round.self.desk) c.loop-round.self.is_closed c.loop-round.self.lines.items c.loop-round.self.resting.lines c.loop-round.self.resting.count c.loop-round.self.arrivals c.loop-round.cx
     (kept.1 c.if-has_come.false) (λ k d inside. kept.3 c.if-has_come.false k d inside (one_side k)) (kept.2 c.if-has_come.false) some)
 
 pub returns-then-len-eq0-clause-value : goal.returns-then-len-eq0-clause-value

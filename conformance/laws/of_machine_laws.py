@@ -1,0 +1,133 @@
+"""The laws of crates/machine_laws/src/laws.rt, by their names there."""
+
+from __future__ import annotations
+
+from typing import Any
+
+from .of_group_types import asks_for_the_same, stores_given
+from .steps import (
+    AWAY,
+    GREATEST_EPOCH,
+    HEARTBEAT,
+    HEARTBEAT_INTERVAL,
+    TICK,
+    Reply,
+    Step,
+    by_hand,
+    is_even,
+    is_invalid,
+    is_lawful,
+    is_overtaken,
+    is_unsupported,
+    law,
+)
+
+
+@law
+def requests_by_reason(s: Step) -> bool:
+    """42 and 112 have these reasons and no others."""
+    if s.kind != HEARTBEAT:
+        return True
+    return (s.code == 42) == is_invalid(s.q) and (s.code == 112) == (is_unsupported(s.q) and not is_invalid(s.q))
+
+
+@law
+def replies_are_these(s: Step) -> bool:
+    """All fields of a refusal, a farewell and an acceptance."""
+    if not isinstance(s.answer, Reply):
+        return True
+    if not s.accepted:
+        return s.answer == Reply(s.code, s.answer.message, None, 0, 0, None)
+    if s.q.epoch < 0:
+        return s.answer == Reply(0, None, s.q.member, s.q.epoch, 0, None)
+    return s.answer[:5] == (0, None, s.answer.member, s.after_record.epoch, HEARTBEAT_INTERVAL)
+
+
+@law
+def leaves_and_ticks_raise(s: Step) -> bool:
+    """A leave raises the group epoch by one, a tick by one where somebody left, both below the greatest; else it stays."""
+    leaves = s.kind == HEARTBEAT and s.q.epoch == -1 and s.accepted
+    if not leaves and s.kind != TICK:
+        return True
+    lost = leaves or len(s.new.records) < len(s.g.records)
+    return s.new.epoch == (min(s.g.epoch + 1, GREATEST_EPOCH) if lost else s.g.epoch)
+
+
+@law
+def former_members_stay(s: Step) -> bool:
+    """Former members stay remembered, with their stamps and in their order, but one that joins and the oldest beyond the limit; who left is last."""
+    joined = s.answer.member if s.takes_in else None
+    kept = [it for it in s.g.past if it[0] != joined]
+    left = sorted((m for m in s.g.records if m not in s.new.records), key=str.encode)
+    last = {m: s.stamp if s.kind == HEARTBEAT and s.q.epoch == -1 else s.g.records[m].stamp for m in left}
+    return s.new.past == (*[*kept, *last.items()][-s.limits.past :],)
+
+
+@law
+def heirs_ask_as_before(s: Step) -> bool:
+    """A take-over raises the epoch exactly where it asks for something else, or the view is another one; its record is the old one, but for what
+    it gives."""
+    if s.old is None:
+        return True
+    before = s.g.records[s.old]
+    return s.new.epoch == s.g.epoch + (not asks_for_the_same(s, before)) and stores_given(s, before)
+
+
+@by_hand
+def texts_by_hand(rules: Any) -> bool:
+    texts = "coordinator not available|unknown member|invalid request|group is full|fenced member epoch|instance id in use|unknown assignor"
+    return rules.codes.TEXTS == dict(zip((15, 25, 42, 81, 110, 111, 112), texts.split("|")))
+
+
+@by_hand
+def deadlines_saturate(rules: Any) -> bool:
+    later, last = rules.group.later, (1 << 64) - 1
+    return [later(0, 5), later(last - 5, 5), later(last - 5, 6), later(last, 1)] == [5, last, last, last]
+
+
+def is_heard(s: Step) -> bool:
+    """A heartbeat of a group that is there, with nothing wrong in itself."""
+    return s.kind == HEARTBEAT and not is_invalid(s.q) and not is_unsupported(s.q)
+
+
+@law
+def unknown_members_are_told(s: Step) -> bool:
+    """25: whoever beats, leaves or goes away has no record, or goes away under an instance that isn't its own."""
+    is_unknown = s.q is not None and s.q.epoch != 0 and (s.own is None or s.q.epoch == -2 and s.own.instance != s.q.instance)
+    return s.kind != HEARTBEAT or (s.code == 25) == (is_heard(s) and is_unknown)
+
+
+@law
+def joins_are_refused_exactly(s: Step) -> bool:
+    """Of a join that nothing earlier stands against. 111: another member has its instance, and it isn't away or the joining one has a record. 81: it
+    neither joins again nor takes over, and there are as many members as there may be."""
+    if s.kind != HEARTBEAT or not is_heard(s) or s.q.epoch != 0 or is_overtaken(s):
+        return s.code not in (81, 111)
+    others = s.g.with_instance(s.q.instance, s.q.member)
+    in_use = any(s.own is not None or s.g.records[m].epoch != AWAY for m in others)
+    too_many = s.own is None and not others and len(s.g.records) >= s.limits.members
+    return (s.code == 111) == in_use and (s.code == 81) == too_many
+
+
+def asks_for_uniform(s: Step) -> bool:
+    votes = [r.assignor for r in s.new.records.values()]
+    return votes.count("range") <= votes.count("uniform")
+
+
+@law
+def renewals_keep_owners(s: Step) -> bool:
+    """Uniform: a target that is lawful and even for the members of now stays."""
+    if not s.takes_in or s.new.target_epoch == s.g.target_epoch or not asks_for_uniform(s):
+        return True
+    former = {p: s.answer.member if m == s.old else m for p, m in s.g.target.items()}
+    stays = is_lawful(s.new, former) and is_even(s.new, former)
+    return not stays or s.new.target == former
+
+
+@law
+def others_keep_their_grants(s: Step) -> bool:
+    """A heartbeat changes the grants of its member alone, and of the id whose place it takes over."""
+    if s.kind != HEARTBEAT:
+        return True
+    own = {s.q.member, s.old, s.answer.member if isinstance(s.answer, Reply) else None}
+    return {it for it in s.new.grants if it[0] not in own} == {it for it in s.g.grants if it[0] not in own}

@@ -1,0 +1,5 @@
+"""The rules of the checker, which are looked at in all cases."""
+
+
+def body(*_: object) -> None:
+    """(A rule does nothing.)"""

@@ -1,0 +1,10 @@
+"""The limits and times of the coordinator, by the names of crates/group_types/specs/Limits.antt: `tools/check-model` compares the two."""
+
+LONGEST_STRING = 32_767
+LARGEST_BODY = 8_388_608
+LONGEST_METADATA = 4_096
+MOST_TOPICS, MOST_TOPIC_PARTITIONS, MOST_PARTITIONS = 10_000, 100_000, 1_000_000
+MOST_MEMBERS, MOST_GROUPS, MOST_PAST_MEMBERS = 10_000, 100_000, 4_096
+GREATEST_EPOCH = 2_147_483_647
+# Milliseconds.
+SESSION_TIMEOUT, HEARTBEAT_INTERVAL = 45_000, 5_000

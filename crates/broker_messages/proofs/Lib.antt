@@ -1,0 +1,5 @@
+pub mod FrontLaws
+pub mod HeadLemmas
+pub mod NameLemmas
+pub mod Translation
+pub mod Writable

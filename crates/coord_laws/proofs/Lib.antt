@@ -1,0 +1,3 @@
+pub mod GroupSteps
+pub mod GroupRuns
+pub mod AnsweredCommits

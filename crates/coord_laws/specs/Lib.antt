@@ -1,0 +1,2 @@
+pub mod GroupRuns
+pub mod AnsweredCommits

@@ -1,0 +1,9 @@
+pub mod RaisedEpochs
+pub mod FormerMembers
+pub mod ReplyFields
+pub mod Heirs
+pub mod RequestReasons
+pub mod ExactCodes
+pub mod UnknownMembers
+pub mod KeptOwners
+pub mod OtherGrants

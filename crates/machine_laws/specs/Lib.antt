@@ -1,0 +1,9 @@
+pub mod Epochs
+pub mod Former
+pub mod Replies
+pub mod Deadlines
+pub mod TakeOvers
+pub mod Requests
+pub mod Codes
+pub mod Renewals
+pub mod OtherMembers

@@ -1,0 +1,70 @@
+//! Laws of the machine's definitions, proved where nothing runs.
+ghost use Rattle.machine_laws.specs.Codes.{JoinsAreRefusedExactly, UnknownMembersAreTold};
+ghost use Rattle.machine_laws.specs.Deadlines.{DeadlinesSaturate};
+ghost use Rattle.machine_laws.specs.Epochs.{LeavesAndTicksRaise};
+ghost use Rattle.machine_laws.specs.Former.{FormerMembersStay};
+ghost use Rattle.machine_laws.specs.OtherMembers.{OthersKeepTheirGrants};
+ghost use Rattle.machine_laws.specs.Renewals.{RenewalsKeepOwners};
+ghost use Rattle.machine_laws.specs.Replies.{RepliesAreThese, TextsByHand};
+ghost use Rattle.machine_laws.specs.Requests.{RequestsByReason};
+ghost use Rattle.machine_laws.specs.TakeOvers.{HeirsAskAsBefore};
+
+use uniform_assign::lawful_and_even_owners_stay;
+
+/// A leave raises the group epoch by one, and a tick by one where somebody leaves; a tick at which nobody is due leaves it.
+pub fn leaves_and_ticks_raise()
+    ensures { LeavesAndTicksRaise }
+{}
+
+/// A former member stays remembered until 4,096 others left after it, or it joins.
+pub fn former_members_stay()
+    ensures { FormerMembersStay }
+{}
+
+/// Each field of a refusal, of the reply to a leave, and of an acceptance.
+pub fn replies_are_these()
+    ensures { RepliesAreThese }
+{}
+
+/// The text of each error of a heartbeat.
+pub fn texts_by_hand()
+    ensures { TextsByHand }
+{}
+
+/// A deadline is the sum of its moment and its time, and 2^64 - 1 where the sum is past that.
+pub fn deadlines_saturate()
+    ensures { DeadlinesSaturate }
+{}
+
+/// A static member that comes back under another id asks for what the old id did, but for what its join gives, and raises the group epoch exactly
+/// where that is something else.
+pub fn heirs_ask_as_before()
+    ensures { HeirsAskAsBefore }
+{}
+
+/// The reasons of INVALID_REQUEST and of UNSUPPORTED_ASSIGNOR, and when a heartbeat says all, one by one.
+pub fn requests_by_reason()
+    ensures { RequestsByReason }
+{}
+
+/// A join is answered with UNRELEASED_INSTANCE_ID and with GROUP_MAX_SIZE_REACHED for these reasons and for no others.
+pub fn joins_are_refused_exactly()
+    ensures { JoinsAreRefusedExactly }
+{}
+
+/// A heartbeat is answered with UNKNOWN_MEMBER_ID for these reasons and for no others.
+pub fn unknown_members_are_told()
+    ensures { UnknownMembersAreTold }
+{}
+
+/// Under uniform a renewal leaves a target that is lawful and even for the members of now.
+pub fn renewals_keep_owners()
+    ensures { RenewalsKeepOwners }
+{
+    lawful_and_even_owners_stay();
+}
+
+/// A heartbeat leaves to each other member, whether it is away or not, the partitions that it was granted.
+pub fn others_keep_their_grants()
+    ensures { OthersKeepTheirGrants }
+{}

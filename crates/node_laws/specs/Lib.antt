@@ -1,0 +1,2 @@
+pub mod OtherGroups
+pub mod Salts
