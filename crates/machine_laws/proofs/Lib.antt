@@ -7,3 +7,12 @@ pub mod ExactCodes
 pub mod UnknownMembers
 pub mod KeptOwners
 pub mod OtherGrants
+pub mod Words
+pub mod SubscribedViews
+pub mod AnsweredCodes
+pub mod Ends
+pub mod UniformSteps
+pub mod UniformByHand
+pub mod MovingTargets
+pub mod ComesAgain
+pub mod Examples

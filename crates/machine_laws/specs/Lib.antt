@@ -7,3 +7,11 @@ pub mod Requests
 pub mod Codes
 pub mod Renewals
 pub mod OtherMembers
+pub mod Limits
+pub mod Names
+pub mod Stamps
+pub mod Views
+pub mod AnsweredCodes
+pub mod Ends
+pub mod Uniform
+pub mod Examples
