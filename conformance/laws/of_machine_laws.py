@@ -132,6 +132,14 @@ def renewals_keep_owners(s: Step) -> bool:
 
 
 @law
+def heartbeats_keep_owners(s: Step) -> bool:
+    """Uniform: an accepted join or beat leaves a target that is lawful and even for the members of now, but for a take-over."""
+    if not s.takes_in or s.old is not None or not asks_for_uniform(s):
+        return True
+    return not (is_lawful(s.new, s.g.target) and is_even(s.new, s.g.target)) or s.new.target == s.g.target
+
+
+@law
 def others_keep_their_grants(s: Step) -> bool:
     """A heartbeat changes the grants of its member alone, and of the id whose place it takes over."""
     if s.kind != HEARTBEAT:
@@ -222,13 +230,37 @@ def codes_are_of_their_requests(s: Step) -> bool:
     return s.kind != HEARTBEAT or s.code in (None, 0, 15, 25, 42, 81, 110, 111, 112)
 
 
-# -- COORDINATOR_NOT_AVAILABLE
+# -- answers leave nothing out
+
+
+@law
+def ticks_count_who_goes(s: Step) -> bool:
+    members = [sum(len(g.records) for g in them.values()) for them in (s.before, s.after)]
+    return s.kind != TICK or s.answer == members[0] - members[1]
+
+
+@law
+def commits_are_answered_whole(s: Step) -> bool:
+    asked = [(name, [part[0] for part in parts]) for name, parts in s.q.topics] if s.kind == COMMIT else []
+    return s.kind != COMMIT or [(name, [part[0] for part in parts]) for name, parts in s.answer] == asked
+
+
+# -- ids, and COORDINATOR_NOT_AVAILABLE
 
 
 def next_serial(s: Step) -> Optional[int]:
     """The first serial from the group's on whose id it doesn't know."""
     serials = range(s.g.serial, min(s.g.serial + len(s.g.records) + len(s.g.past) + 1, SERIALS))
     return next((n for n in serials if not s.g.knows(str(uuid.UUID(int=n)))), None)
+
+
+@law
+def ids_are_made_in_order(s: Step) -> bool:
+    """A join without an id gets that of the first serial that the group doesn't know, and the next serial is the one after it; else it stays."""
+    if s.kind != HEARTBEAT or not s.accepted or s.q.epoch != 0 or s.q.member:
+        return s.new.serial == s.g.serial
+    made = next_serial(s)
+    return made is not None and s.answer.member == str(uuid.UUID(int=made)) and s.new.serial == made + 1
 
 
 @law

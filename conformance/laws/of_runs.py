@@ -2,22 +2,8 @@
 
 from __future__ import annotations
 
-import uuid
-
-from .of_machine_laws import asks_for_uniform, next_serial
-from .steps import HEARTBEAT, Step, is_even, law, reported
-
-
-# -- ids
-
-
-@law
-def ids_are_made_in_order(s: Step) -> bool:
-    """A join without an id gets that of the first serial that the group doesn't know, and the next serial is the one after it; else it stays."""
-    if s.kind != HEARTBEAT or not s.accepted or s.q.epoch != 0 or s.q.member:
-        return s.new.serial == s.g.serial
-    made = next_serial(s)
-    return made is not None and s.answer.member == str(uuid.UUID(int=made)) and s.new.serial == made + 1
+from .of_machine_laws import asks_for_uniform
+from .steps import Step, is_even, law, reported
 
 
 # -- who leaves, and who is remembered

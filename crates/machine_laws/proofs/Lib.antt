@@ -6,6 +6,7 @@ pub mod RequestReasons
 pub mod ExactCodes
 pub mod UnknownMembers
 pub mod KeptOwners
+pub mod KeptByHeartbeats
 pub mod OtherGrants
 pub mod Words
 pub mod SubscribedViews
@@ -16,3 +17,5 @@ pub mod UniformByHand
 pub mod MovingTargets
 pub mod ComesAgain
 pub mod Examples
+pub mod Whole
+pub mod Ids

@@ -15,3 +15,5 @@ pub mod AnsweredCodes
 pub mod Ends
 pub mod Uniform
 pub mod Examples
+pub mod Whole
+pub mod Ids

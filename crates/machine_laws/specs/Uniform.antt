@@ -32,15 +32,15 @@ owned_from index (letter ∷ letters) = (partition index, letter ∷ []) ∷ own
 abbrev pub owners : Text → Spread
 owners letters = finite.from_entries (owned_from 0 letters)
 
--- of members with these letters, the owners under uniform of as many partitions as there are letters in the last text
-abbrev pub GivesBack : Text → Text → ℕ → Text → Type 0
-GivesBack letters former count after =
+-- Of members with these letters and these former owners, uniform gives so many partitions these owners.
+abbrev pub UniformGives : Text → Text → ℕ → Text → Type 0
+UniformGives letters former count after =
     (spread : Spread) → IsUniform (one_topic count) (members letters) (owners former) spread → spread ≡ owners after
 
 -- Partitions without an owner go one by one to the member with the fewest, and of several such to the first. A member with too many gives its first
 -- one away: of several with as many the first member does, and of several with the fewest the first takes it.
 pub record UniformByHand : Type 0 where
-  pub in_turn : GivesBack (codes "ab") [] 3 (codes "aba")
-  pub to_the_fewest : GivesBack (codes "ab") (codes "aa") 4 (codes "aabb")
-  pub from_the_first : GivesBack (codes "abc") (codes "aabb") 4 (codes "cabb")
-  pub to_the_first : GivesBack (codes "abc") (codes "aaaa") 4 (codes "bcaa")
+  pub in_turn : UniformGives (codes "ab") [] 3 (codes "aba")
+  pub to_the_fewest : UniformGives (codes "ab") (codes "aa") 4 (codes "aabb")
+  pub from_the_first : UniformGives (codes "abc") (codes "aabb") 4 (codes "cabb")
+  pub to_the_first : UniformGives (codes "abc") (codes "aaaa") 4 (codes "bcaa")

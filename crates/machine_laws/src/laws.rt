@@ -6,16 +6,18 @@ ghost use Rattle.machine_laws.specs.Ends.{GroupsEnd};
 ghost use Rattle.machine_laws.specs.Epochs.{LeavesAndTicksRaise};
 ghost use Rattle.machine_laws.specs.Examples.{TheMachinesLawsAreMet};
 ghost use Rattle.machine_laws.specs.Former.{FormerMembersStay};
+ghost use Rattle.machine_laws.specs.Ids.{IdsAreMadeInOrder};
 ghost use Rattle.machine_laws.specs.Limits.{LimitsByHand};
 ghost use Rattle.machine_laws.specs.Names.{AssignorsAreNamed, IdsByHand};
 ghost use Rattle.machine_laws.specs.OtherMembers.{OthersKeepTheirGrants};
-ghost use Rattle.machine_laws.specs.Renewals.{RenewalsKeepOwners};
+ghost use Rattle.machine_laws.specs.Renewals.{HeartbeatsKeepOwners, RenewalsKeepOwners};
 ghost use Rattle.machine_laws.specs.Replies.{RepliesAreThese, TextsByHand};
 ghost use Rattle.machine_laws.specs.Requests.{RequestsByReason};
 ghost use Rattle.machine_laws.specs.Stamps.{StampsAreOrdered};
 ghost use Rattle.machine_laws.specs.TakeOvers.{HeirsAskAsBefore};
 ghost use Rattle.machine_laws.specs.Uniform.{UniformByHand};
 ghost use Rattle.machine_laws.specs.Views.{ViewsAreOfTheSubscribed};
+ghost use Rattle.machine_laws.specs.Whole.{CommitsAreAnsweredWhole, TicksCountWhoGoes};
 
 use uniform_assign::{lawful_and_even_owners_stay, uniform_is_one_spread};
 
@@ -72,6 +74,13 @@ pub fn renewals_keep_owners()
     lawful_and_even_owners_stay();
 }
 
+/// So an accepted join or beat leaves a target that is lawful and even for the members of then, unless it takes another member's place over.
+pub fn heartbeats_keep_owners()
+    ensures { HeartbeatsKeepOwners }
+{
+    renewals_keep_owners();
+}
+
 /// A heartbeat leaves to each other member, whether it is away or not, the partitions that it was granted.
 pub fn others_keep_their_grants()
     ensures { OthersKeepTheirGrants }
@@ -90,6 +99,11 @@ pub fn assignors_are_named()
 /// The ids that are made of a salt and a serial, for three of them.
 pub fn ids_by_hand()
     ensures { IdsByHand }
+{}
+
+/// A join without an id gets that of the first serial whose id the group doesn't know. Nothing else uses a serial up.
+pub fn ids_are_made_in_order()
+    ensures { IdsAreMadeInOrder }
 {}
 
 /// The later of two stamps is that of the later connection, and on one connection that of the later frame.
@@ -119,6 +133,16 @@ pub fn uniform_by_hand()
 {
     uniform_is_one_spread();
 }
+
+/// A tick answers how many members it takes.
+pub fn ticks_count_who_goes()
+    ensures { TicksCountWhoGoes }
+{}
+
+/// The reply to a commit has each partition of its request, in the request's order.
+pub fn commits_are_answered_whole()
+    ensures { CommitsAreAnsweredWhole }
+{}
 
 /// These laws aren't empty: a renewal moves a partition, under range and under uniform; a connection is closed on a heartbeat that comes again; and
 /// a later one is accepted.
