@@ -23,6 +23,7 @@ from .steps import (
     is_overtaken,
     is_unsupported,
     law,
+    reported,
     view_for,
 )
 
@@ -137,6 +138,21 @@ def heartbeats_keep_owners(s: Step) -> bool:
     if not s.takes_in or s.old is not None or not asks_for_uniform(s):
         return True
     return not (is_lawful(s.new, s.g.target) and is_even(s.new, s.g.target)) or s.new.target == s.g.target
+
+
+@law
+def members_hold_what_is_free(s: Step) -> bool:
+    """A member that holds nothing beyond its target, or reports none of that, holds all of its target that nobody else holds; any other one
+    holds what it held."""
+    if not s.takes_in:
+        return True
+    m, owned = s.answer.member, reported(s.q)
+    held = s.g.held(m) | (s.g.held(s.old) if s.old is not None else frozenset())
+    rest = held - s.new.wanted(m)
+    if rest and (owned is None or owned & rest):
+        return s.new.held(m) == held and s.after_record.epoch == s.record_before.last_epoch
+    others = {p for n, p in s.g.grants if n not in (m, s.old)}
+    return s.new.held(m) == s.new.wanted(m) - others and s.after_record.epoch == s.new.target_epoch
 
 
 @law

@@ -3,7 +3,7 @@
 from __future__ import annotations
 
 from .of_machine_laws import asks_for_uniform
-from .steps import Step, is_even, law, reported
+from .steps import Step, is_even, law
 
 
 # -- who leaves, and who is remembered
@@ -16,21 +16,6 @@ def targets_wait(s: Step) -> bool:
         return True
     left = {p: m for p, m in s.g.target.items() if m in s.new.records}
     return (s.new.target, s.new.target_epoch, s.new.view) == (left, s.g.target_epoch, s.g.view)
-
-
-@law
-def members_hold_all_that_is_free(s: Step) -> bool:
-    """A member that holds nothing beyond its target, or reports none of that, holds all of its target that nobody else holds; any other one
-    holds what it held."""
-    if not s.takes_in:
-        return True
-    m, owned = s.answer.member, reported(s.q)
-    held = s.g.held(m) | (s.g.held(s.old) if s.old is not None else frozenset())
-    rest = held - s.new.wanted(m)
-    if rest and (owned is None or owned & rest):
-        return s.new.held(m) == held and s.after_record.epoch == s.record_before.last_epoch
-    others = {p for n, p in s.g.grants if n not in (m, s.old)}
-    return s.new.held(m) == s.new.wanted(m) - others and s.after_record.epoch == s.new.target_epoch
 
 
 # -- take-overs and renewals

@@ -19,3 +19,4 @@ pub mod ComesAgain
 pub mod Examples
 pub mod Whole
 pub mod Ids
+pub mod Holdings

@@ -17,3 +17,4 @@ pub mod Uniform
 pub mod Examples
 pub mod Whole
 pub mod Ids
+pub mod Holdings

@@ -6,6 +6,7 @@ ghost use Rattle.machine_laws.specs.Ends.{GroupsEnd};
 ghost use Rattle.machine_laws.specs.Epochs.{LeavesAndTicksRaise};
 ghost use Rattle.machine_laws.specs.Examples.{TheMachinesLawsAreMet};
 ghost use Rattle.machine_laws.specs.Former.{FormerMembersStay};
+ghost use Rattle.machine_laws.specs.Holdings.{MembersHoldWhatIsFree};
 ghost use Rattle.machine_laws.specs.Ids.{IdsAreMadeInOrder};
 ghost use Rattle.machine_laws.specs.Limits.{LimitsByHand};
 ghost use Rattle.machine_laws.specs.Names.{AssignorsAreNamed, IdsByHand};
@@ -80,6 +81,12 @@ pub fn heartbeats_keep_owners()
 {
     renewals_keep_owners();
 }
+
+/// By a join again or a beat a member that has given up what it lost holds all of its target that nobody else held, and nothing more; any other one
+/// holds what it held.
+pub fn members_hold_what_is_free()
+    ensures { MembersHoldWhatIsFree }
+{}
 
 /// A heartbeat leaves to each other member, whether it is away or not, the partitions that it was granted.
 pub fn others_keep_their_grants()

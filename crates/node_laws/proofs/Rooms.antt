@@ -61,7 +61,7 @@ no_room_so : (c : Coordinator) → 100000 ≤ finite.len c.groups → has_room c
 no_room_so c most = by (has_room c) refl
   where
     by : (b : Bool) → has_room c ≡ b → b ≡ false
-    by true so = let below = ltb-true (finite.len c.groups) MOST_GROUPS so in absurd (lt_irrefl (lt_of_lt_of_le below most))
+    by true so = let below = ltb-true (finite.len c.groups) MOST_GROUPS so in absurd (lt_irrefl (finite.len c.groups) (lt_of_lt_of_le below most))
     by false so = refl
 
 pub groups_are_made_while_there_is_room : GroupsAreMadeWhileThereIsRoom
