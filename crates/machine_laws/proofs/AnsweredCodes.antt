@@ -1,8 +1,7 @@
 -- Which codes heartbeats and commits are answered with.
-use Rattle.std.proofs.Common.{◌≡◌, inl, inr, ℤ, Bool, true, false, cond, List, [], ◌∷◌, map, All, get_or, refl, sym, ap, subst}
+use Rattle.std.proofs.Common.{inl, inr, ℤ, true, false, cond, List, [], ◌∷◌, map, All, get_or, refl, sym, ap, subst}
 use Rattle.std.proofs.lemmas.List.Elements.{All-map}
 use Rattle.group_types.specs.declared.code.Code.{Code}
-use Rattle.group_types.specs.declared.code.Code.TheVariants as codes
 use Rattle.group_types.specs.declared.stamp.Stamp.{Stamp}
 use Rattle.group_types.specs.Text.{Text}
 use Rattle.group_types.specs.Topics.{Topics}

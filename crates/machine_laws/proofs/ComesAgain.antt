@@ -1,6 +1,5 @@
 -- A heartbeat that comes again, and others of its member.
-use Rattle.std.proofs.Common.{◌≡◌, ◌≢◌, ◌≤◌, ℕ, ◌==◌, pos, Bool, true, false, cond, not, ◌||◌, ◌&&◌, max, nat_le, List, [], ◌∷◌, Option, Some, None, is_gt, is_some, le_of_eq, ◌+◌, refl, sym, ap, subst, ◌∙◌, arith, codes, true≢false}
-use Rattle.std.specs.Ordering.{eq_by_cmp}
+use Rattle.std.proofs.Common.{◌≡◌, ◌≤◌, ℕ, ◌==◌, pos, Bool, true, false, cond, not, ◌||◌, max, [], Option, Some, None, is_gt, is_some, le_of_eq, ◌+◌, refl, sym, ap, subst, ◌∙◌, arith, codes, true≢false}
 use Rattle.std.specs.FinMap as finite
 use Rattle.std.specs.declared.cmp.Ordering.TheVariants.{Greater}
 use Rattle.std.proofs.lemmas.Bool.Decides.{Decides-eqb}
@@ -9,20 +8,19 @@ use Rattle.group_types.specs.declared.epoch.Epoch.{Epoch}
 use Rattle.group_types.specs.declared.epoch.Epoch.TheVariants.{At, Away}
 use Rattle.group_types.specs.declared.stamp.Stamp.{Stamp}
 use Rattle.group_types.specs.Text.{Text, text_cmp}
-use Rattle.group_types.specs.Sets.{nothing}
 use Rattle.group_types.specs.Partition.{Partitions, partition_cmp}
 use Rattle.group_types.specs.Topics.{Topic}
 use Rattle.group_types.specs.Stamp.{stamp_cmp}
 use Rattle.group_types.specs.Request.{Heartbeat, Beats, SAME_TIMEOUT, is_full, reported}
 use Rattle.group_types.specs.Group.{Record, Records, Group, grant_cmp, starting_group, wanted}
-use Rattle.group_types.specs.Join.{blank_record, record_of_beat}
+use Rattle.group_types.specs.Join.{blank_record}
 use Rattle.group_types.specs.Leave.{last_epoch}
 use Rattle.group_types.specs.Renewal.{Renews, RenewsWhere, is_subscribed, view_for}
 use Rattle.group_types.specs.Settle.{arrived, asked, may_settle, settled, settled_by, settled_record}
 use Rattle.group_types.specs.Checks.{Accepted, Refused, Overtaken, Sender, are_granted, is_current, is_fenced, is_late, is_overtaken}
 use Rattle.group_types.specs.HeartbeatStep.{Answer, ByVerdict, Closes, Replied, Arrival, Draft, HeartbeatStep, Stages, StepBy, StepOf, TakesIn, acceptance, assignment_of, draft_of_beat, is_news, refusal, sent_after, shown}
 use Rattle.group_types.specs.Sound.{IsSound}
-use Rattle.group_types.proofs.Lookups.{Found, this, another, found, get-inserted, get-insert_other, not_none, some_is}
+use Rattle.group_types.proofs.Lookups.{Found, this, another, found, get-inserted, get-insert_other, not_none}
 use Rattle.group_types.proofs.Orders.{text_cmp-IsAntisymmetric, text_cmp_total}
 use Rattle.group_types.proofs.Runs.{starting_is_sound}
 use Rattle.group_types.proofs.SetLemmas.{has-nothing}

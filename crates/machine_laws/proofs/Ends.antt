@@ -1,21 +1,18 @@
 -- When a group can't go on.
 use Rattle.std.proofs.Common.{◌≡◌, ◌≢◌, ◌≤◌, ℕ, zero, suc, ℤ, pos, negsuc, Bool, true, false, cond, ◌&&◌, max, nat_le, List, [], ◌∷◌, Option, Some, None, MatchOption, refl, sym, ap, subst, ◌∙◌, true≢false}
-use Rattle.std.specs.Option.{option_and_then, option_map, option_or}
+use Rattle.std.specs.Option.{option_and_then, option_or}
 use Rattle.std.specs.FinMap as finite
 use Rattle.std.proofs.lemmas.Bool.{and_parts, leb-true, le-leb}
-use Rattle.group_types.specs.declared.assignor_name.AssignorName.{AssignorName}
-use Rattle.group_types.specs.declared.code.Code.{Code}
 use Rattle.group_types.specs.declared.code.Code.TheVariants as codes
 use Rattle.group_types.specs.declared.stamp.Stamp.{Stamp}
 use Rattle.group_types.specs.Limits.{GREATEST_EPOCH}
 use Rattle.group_types.specs.Text.{Text}
-use Rattle.group_types.specs.Topics.{Names, Topics}
 use Rattle.group_types.specs.AssignorName.{assignor_named}
 use Rattle.group_types.specs.Request.{Heartbeat, Kind, Joins, Beats, Leaves, GoesAway, MeansNothing, kind_of}
 use Rattle.group_types.specs.Group.{Record, Group}
 use Rattle.group_types.specs.Given.{AreNamesGiven, IsAssignorGiven}
 use Rattle.group_types.specs.Join.{IsNamed, IsSerial, Name, name_of_serial, names_after, record_of_beat, record_of_join}
-use Rattle.group_types.specs.Renewal.{IsChange, IsUnchanged, changed_if, view_for}
+use Rattle.group_types.specs.Renewal.{IsChange, changed_if, view_for}
 use Rattle.group_types.specs.Checks.{Verdict, Accepted, Refused, Overtaken, Check, Member, Sender, checks_of, first_of, record_under, sender_of, verdict_on}
 use Rattle.group_types.specs.HeartbeatStep as machine
 use Rattle.group_types.specs.HeartbeatStep.{Answer, Replied, Closes, Reply, Arrival, Draft, BeatsWith, ByVerdict, GoesAwayWith, HeartbeatStep, IsRefused, StepOf, TakesIn, acceptance, draft_of, draft_of_beat, draft_under, farewell, refusal}

@@ -1,14 +1,13 @@
 -- What a member may read after a join or a beat.
-use Rattle.std.proofs.Common.{◌≡◌, ◌≢◌, ℕ, ◌==◌, pos, Bool, true, false, cond, not, ◌&&◌, ◌||◌, max, List, [], ◌∷◌, length, Option, Some, None, IsTrue, is_eq, refl, sym, ap, subst, ◌∙◌, true≢false}
+use Rattle.std.proofs.Common.{◌≡◌, ◌≢◌, ℕ, ◌==◌, pos, Bool, true, false, not, ◌&&◌, ◌||◌, max, List, [], ◌∷◌, length, Option, Some, None, IsTrue, is_eq, refl, sym, ap, subst, ◌∙◌, true≢false}
 use Rattle.std.specs.List.{list_any}
 use Rattle.std.specs.Ordering.{eq_by_cmp}
 use Rattle.std.specs.Cmp.{Equal-is, eq_by_cmp_equiv, first_so, second_so}
 use Rattle.std.specs.FinMap as finite
 use Rattle.group_types.specs.declared.partition.Partition.{Partition}
 use Rattle.group_types.specs.Text.{Text, text_cmp}
-use Rattle.group_types.specs.Sets.{common, has, in_order, is_nothing, minus, nothing}
+use Rattle.group_types.specs.Sets.{common, has, in_order, is_nothing, minus}
 use Rattle.group_types.specs.Partition.{Partitions, partition_cmp}
-use Rattle.group_types.specs.Owners.{owns}
 use Rattle.group_types.specs.Request.{reported}
 use Rattle.group_types.specs.Group.{Grant, Grants, Group, Record, grant_cmp, held, wanted}
 use Rattle.group_types.specs.Settle.{grants_after, is_free_for, may_move}

@@ -9,12 +9,12 @@ use Rattle.group_types.specs.Topics.{Topics}
 use Rattle.group_types.specs.Members.{is_remembered, members_of}
 use Rattle.group_types.specs.Request.{Joins, Kind, kind_of, reported}
 use Rattle.group_types.specs.Group.{Group, Record, wanted}
-use Rattle.group_types.specs.Join.{IsNamed, IsNextSerial, IsSerial, Name, name_of_serial}
+use Rattle.group_types.specs.Join.{IsNamed, IsSerial, Name, name_of_serial}
 use Rattle.group_types.specs.Leave.{without_member, risen}
 use Rattle.group_types.specs.Renewal.{RenewsWhere, changed_if, view_for}
 use Rattle.group_types.specs.Settle.{may_settle, settled_by}
 use Rattle.group_types.specs.Tick.{at_moment, due, expired, without_members}
-use Rattle.group_types.specs.Checks.{Verdict, Accepted, Refused, Overtaken, Member, Sender, sender_of, verdict_on}
+use Rattle.group_types.specs.Checks.{Verdict, Accepted, Refused, Overtaken, Member, Sender, sender_of}
 use Rattle.group_types.specs.HeartbeatStep as machine
 use Rattle.group_types.specs.HeartbeatStep.{Answer, Arrival, BeatsWith, ByVerdict, Draft, GoesAwayWith, HeartbeatStep, IsRefused, Replied, Reply, StepOf, TakesIn, acceptance, draft_of_beat, draft_under}
 use Rattle.group_types.specs.Fencing.{IsAcceptedAs}

@@ -1,5 +1,5 @@
 -- An accepted heartbeat leaves a target that fits.
-use Rattle.std.proofs.Common.{◌≡◌, ◌≢◌, ℕ, suc, ◌==◌, pos, Bool, true, false, cond, ◌&&◌, max, nat_le, List, [], ◌∷◌, map, Option, Some, None, is_lt, is_eq, IsPermutation, refl, sym, ap, subst, ◌∙◌, T}
+use Rattle.std.proofs.Common.{◌≡◌, ◌≢◌, ℕ, ◌==◌, pos, Bool, true, false, cond, ◌&&◌, max, nat_le, List, [], ◌∷◌, map, Option, Some, None, is_lt, is_eq, IsPermutation, refl, sym, ap, subst, ◌∙◌, T}
 use Rattle.std.specs.declared.cmp.Ordering.{Ordering}
 use Rattle.std.specs.declared.cmp.Ordering.TheVariants.{Less, Equal, Greater}
 use Rattle.std.specs.FinMap as finite

@@ -1,6 +1,5 @@
 -- Two renewals that move a partition.
-use Rattle.std.proofs.Common.{◌≡◌, ◌≢◌, ◌<◌, ℕ, zero, suc, pos, Bool, true, false, cond, List, [], ◌∷◌, map, length, Option, Some, None, refl, sym, ap, subst, ◌∙◌, arith, bytes_eq, codes, slice_get, true≢false, IsPermutation, IsSorted, ◌≤◌, ◌+◌}
-use Rattle.std.specs.List.{AllByRecursion}
+use Rattle.std.proofs.Common.{◌≡◌, ◌≢◌, ◌<◌, ℕ, zero, suc, Bool, true, false, cond, List, [], ◌∷◌, map, length, Option, Some, None, refl, sym, ap, subst, ◌∙◌, arith, bytes_eq, codes, slice_get, true≢false, IsPermutation, IsSorted}
 use Rattle.std.specs.Ordering.{eq_by_cmp}
 use Rattle.std.specs.FinMap as finite
 use Rattle.std.specs.FinMap.{find, put}
@@ -9,19 +8,19 @@ use Rattle.group_types.specs.declared.assignor_name.AssignorName.{AssignorName}
 use Rattle.group_types.specs.declared.assignor_name.AssignorName.TheVariants.{Range, Uniform}
 use Rattle.group_types.specs.declared.partition.Partition.{Partition}
 use Rattle.group_types.specs.Text.{Text, text_cmp}
-use Rattle.group_types.specs.Sets.{has, nothing, with_one}
+use Rattle.group_types.specs.Sets.{nothing, with_one}
 use Rattle.group_types.specs.Partition.{partition_cmp}
-use Rattle.group_types.specs.Topics.{Topic, Topics}
+use Rattle.group_types.specs.Topics.{Topic}
 use Rattle.group_types.specs.Assignors.{Subscriber, member_cmp, subscribers_of}
 use Rattle.group_types.specs.Owners.{IsRange, IsRangeOwner, range_place}
-use Rattle.group_types.specs.Group.{Record, Records, Group, starting_group}
+use Rattle.group_types.specs.Group.{Record, Group, starting_group}
 use Rattle.group_types.specs.Join.{blank_record}
 use Rattle.group_types.specs.Renewal.{AreMembers, subscriber_of}
 use Rattle.group_types.proofs.Lookups.{get-inserted, not_none, same_text, some_is}
 use Rattle.group_types.proofs.Orders.{text_cmp_total}
 use Rattle.group_types.proofs.SetLemmas.{has-with_one}
 use Rattle.machine_laws.specs.Examples.{TargetMoves}
-use Rattle.machine_laws.specs.Uniform.{lettered, members, one_topic, owners, partition}
+use Rattle.machine_laws.specs.Uniform.{lettered, members, one_topic, partition}
 use Rattle.machine_laws.proofs.UniformSteps.{Owned, each_owner, no_entries, owner_of, spread, topic}
 use Rattle.machine_laws.proofs.UniformByHand.{aaaa, baaa, to_the_first}
 

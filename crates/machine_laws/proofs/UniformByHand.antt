@@ -1,18 +1,16 @@
 -- What uniform gives of one topic.
-use Rattle.std.proofs.Common.{◌≡◌, ◌≢◌, ℕ, zero, suc, ◌≤◌, List, [], ◌∷◌, Some, refl, sym, ap, subst, ◌∙◌, arith, codes, bytes_eq, slice_get, true≢false}
+use Rattle.std.proofs.Common.{◌≡◌, ◌≢◌, ℕ, zero, suc, ◌≤◌, [], ◌∷◌, Some, refl, sym, ap, subst, ◌∙◌, arith, codes, bytes_eq, slice_get, true≢false}
 use Rattle.std.specs.FinMap as finite
 use Rattle.std.specs.FinMap.{find}
 use Rattle.group_types.specs.declared.partition.Partition.{Partition}
 use Rattle.group_types.specs.Text.{Text}
 use Rattle.group_types.specs.Partition.{partition_cmp}
-use Rattle.group_types.specs.Topics.{Topics}
 use Rattle.group_types.specs.Assignors.{Subscriber}
-use Rattle.group_types.specs.Owners.{Spread}
 use Rattle.group_types.specs.Uniform.{AreFilled, IsUniform, in_partition_order}
 use Rattle.group_types.proofs.Lookups.{some_is}
 use Rattle.uniform_assign.specs.Laws.{UniformIsOneSpread}
 use Rattle.machine_laws.specs.Uniform.{UniformByHand, lettered, members, one_topic, owned_from, owners, partition}
-use Rattle.machine_laws.proofs.UniformSteps.{Moves, Owned, all_kept, filled, level, next, owner_of, parts, parts_of, same_spreads, spread, stays, subscribes}
+use Rattle.machine_laws.proofs.UniformSteps.{Moves, Owned, all_kept, filled, level, next, owner_of, parts_of, same_spreads, spread, stays, subscribes}
 
 abbrev p0 : Partition
 p0 = partition 0

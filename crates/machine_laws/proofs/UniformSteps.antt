@@ -12,7 +12,7 @@ use Rattle.group_types.specs.declared.partition.Partition.{Partition}
 use Rattle.group_types.specs.Text.{Text, text_cmp}
 use Rattle.group_types.specs.Sets.{has, nothing}
 use Rattle.group_types.specs.Partition.{partition_cmp}
-use Rattle.group_types.specs.Topics.{Topic, Topics}
+use Rattle.group_types.specs.Topics.{Topic}
 use Rattle.group_types.specs.Assignors.{Subscriber, subscribers_of}
 use Rattle.group_types.specs.Owners.{IsIndex, IsSubscriber, Spread}
 use Rattle.group_types.specs.Uniform.{CanMove, Fills, GoesTo, IsFewest, IsKept, IsLevel, IsNextMove, count, in_partition_order, partitions_of}

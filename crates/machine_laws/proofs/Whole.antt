@@ -1,5 +1,5 @@
 -- An answer leaves nothing out.
-use Rattle.std.proofs.Common.{◌≡◌, ◌≤◌, ℕ, zero, suc, ◌+◌, ◌-◌, ℤ, true, cond, List, [], ◌∷◌, map, length, max, Option, Some, None, is_some, refl, sym, ap, subst, ◌∙◌, arith}
+use Rattle.std.proofs.Common.{◌≡◌, ◌≤◌, ℕ, zero, suc, ◌+◌, ◌-◌, ℤ, cond, List, [], ◌∷◌, map, length, Option, Some, None, is_some, refl, sym, ap, subst, ◌∙◌, arith}
 use Rattle.std.specs.FinMap as finite
 use Rattle.group_types.specs.declared.code.Code.{Code}
 use Rattle.group_types.specs.Text.{Text, text_cmp}
@@ -7,7 +7,7 @@ use Rattle.group_types.specs.Topics.{Topics}
 use Rattle.group_types.specs.Group.{Group, Record, Records}
 use Rattle.group_types.specs.Leave.{risen, without_member}
 use Rattle.group_types.specs.Tick.{at_moment, due, expired, is_due, without_members}
-use Rattle.group_types.specs.Commit.{Commit, Commitment, CommitReply, CommitStep, TopicCommitments, answers_by, code_of_taken, commit_reply, refusal_of_commit}
+use Rattle.group_types.specs.Commit.{Commit, Commitment, TopicCommitments, answers_by, code_of_taken, commit_reply, refusal_of_commit}
 use Rattle.group_types.proofs.Entries.{entries_found}
 use Rattle.group_types.proofs.Lookups.{not_none}
 use Rattle.group_types.proofs.Orders.{text_cmp_total}

@@ -1,5 +1,5 @@
 -- Limits, names, ids and stamps, each in words of its own.
-use Rattle.std.proofs.Common.{◌≡◌, ◌⊎◌, inl, inr, ◌↔◌, ℕ, ◌<◌, Bool, true, false, cond, Option, Some, None, refl, sym, ap, ◌∙◌, bytes_eq, codes, arith, true≢false, nat_cmp, Ordering, Less, Equal, Greater}
+use Rattle.std.proofs.Common.{◌≡◌, inl, inr, ℕ, ◌<◌, Bool, true, false, cond, Option, Some, None, refl, ap, bytes_eq, codes, arith, nat_cmp, Ordering, Less, Equal, Greater}
 use Rattle.std.specs.Ordering.{MatchOrdering, ordering_then}
 use Rattle.std.proofs.lemmas.Cmp.{ranked}
 use Rattle.std.proofs.lemmas.Slice.Eq.{bytes_eq-Decides}
@@ -7,8 +7,6 @@ use Rattle.uuid.specs.Text.{by_index}
 use Rattle.group_types.specs.declared.assignor_name.AssignorName.{AssignorName}
 use Rattle.group_types.specs.declared.assignor_name.AssignorName.TheVariants.{Range, Uniform}
 use Rattle.group_types.specs.declared.stamp.Stamp.{Stamp}
-use Rattle.group_types.specs.Stamp.{stamp_cmp}
-use Rattle.group_types.specs.Text.{Text}
 use Rattle.group_types.specs.AssignorName.{assignor_named}
 use Rattle.machine_laws.specs.Limits.{LimitsByHand}
 use Rattle.machine_laws.specs.Names.{AssignorsAreNamed, IdsByHand}

@@ -1,5 +1,5 @@
 -- KIP-848, "ConsumerGroupHeartbeat API": which id the coordinator makes for a member that comes without one (ours).
-use Rattle.std.specs.Prelude.{◌≡◌, ℕ, suc, ◌<◌, ◌≤◌, pos, true, false, List, [], ◌∷◌}
+use Rattle.std.specs.Prelude.{◌≡◌, ℕ, suc, ◌<◌, ◌≤◌, pos, true, false, [], ◌∷◌}
 use Rattle.group_types.specs.Text.{Text}
 use Rattle.group_types.specs.MemberId.{made_id}
 use Rattle.group_types.specs.Members.{is_remembered, members_of}

@@ -1,5 +1,5 @@
 -- What a node answers for a group that isn't there.
-use Rattle.std.proofs.Common.{◌≡◌, ◌≢◌, ◌<◌, ◌≤◌, Bool, true, false, nat_lt, None, refl, sym, ap, subst, ◌∙◌, true≢false, lt-ltb, ltb-true, lt_irrefl, lt_of_lt_of_le}
+use Rattle.std.proofs.Common.{◌≡◌, ◌≤◌, Bool, true, false, refl, sym, ap, subst, ◌∙◌, true≢false, lt-ltb, ltb-true, lt_irrefl, lt_of_lt_of_le}
 use Rattle.std.specs.FinMap as finite
 use Rattle.group_types.specs.declared.code.Code.TheVariants as codes
 use Rattle.group_types.specs.Limits.{MOST_GROUPS}
@@ -8,7 +8,7 @@ use Rattle.group_types.specs.HeartbeatStep.{Arrival}
 use Rattle.group_types.specs.HeartbeatStep as group
 use Rattle.coord_node.specs.Coordinator.{Coordinator}
 use Rattle.coord_node.specs.EachGroup.{Succeeds}
-use Rattle.coord_node.specs.Steps.{HeartbeatAt, Makes, MakesBy, Opening, has_room, is_success}
+use Rattle.coord_node.specs.Steps.{Makes, MakesBy, Opening, has_room, is_success}
 use Rattle.node_laws.specs.Rooms.{GroupsAreMadeWhileThereIsRoom, IsTurnedAway, as_a_new_group, no_room}
 
 reply_is : (x y : group.Reply) → group.Replied x ≡ group.Replied y → x ≡ y
