@@ -2,6 +2,7 @@
 
 from __future__ import annotations
 
+from .of_group_types import codes_of
 from .steps import COMMIT, HEARTBEAT, IMAGE, Step, law
 
 # What no run shows, and why.
@@ -24,8 +25,13 @@ def images_change_the_image_alone(s: Step) -> bool:
 
 @law
 def commits_of_no_group_are_told(s: Step) -> bool:
-    """69 for each partition, exactly where the group isn't there."""
-    if s.kind != COMMIT:
+    """69 for each partition, where the group isn't there."""
+    return s.kind != COMMIT or s.q.group in s.before or {*codes_of(s)} <= {69} and s.after == s.before
+
+
+@law
+def groups_are_made_while_there_is_room(s: Step) -> bool:
+    """A node with as many groups as it may have makes no other one, and answers none with success."""
+    if s.kind != HEARTBEAT or s.q.group in s.before or len(s.before) < s.limits.groups:
         return True
-    codes = [code for _, parts in s.answer for _, code in parts]
-    return all(code == 69 for code in codes) if s.q.group not in s.before else 69 not in codes
+    return s.after == s.before and not s.accepted

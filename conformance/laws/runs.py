@@ -51,7 +51,7 @@ def is_false(law: Law, it: Any) -> bool:
     """A law that can't be told of what a wrong rule has left is false too."""
     try:
         return not law(it)
-    except (LookupError, TypeError, ValueError, ArithmeticError, AttributeError):
+    except Exception:  # pylint: disable=broad-except (whatever a wrong rule raises)
         return True
 
 
@@ -147,7 +147,8 @@ class Run:
 
     def parts(self) -> Iterator[Tuple[int, int, int, Optional[str]]]:
         for _ in range(self.dice.choice([1, 1, 2])):
-            yield self.dice.randrange(-1, 5), self.dice.randrange(-9, 99), -1, self.dice.choice([None, "", "m", "m" * 4_096, "m" * 4_097])
+            metadata = self.dice.choice([None, "", "m", "m" * 4_096, "m" * 4_097, "\u00e4" * 2_049])
+            yield self.dice.randrange(-1, 5), self.dice.randrange(-9, 99), self.dice.choice([-1, -1, 3]), metadata
 
     def heartbeat(self) -> None:
         name = self.dice.choice(self.names) if self.chance(0.98) else ""

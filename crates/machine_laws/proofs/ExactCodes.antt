@@ -24,7 +24,7 @@ use Rattle.group_types.proofs.Lookups.{not_none, some_is, text_ties}
 use Rattle.group_types.proofs.Senders.{find_passes, no_other, other_is, own_is, own_none}
 use Rattle.machine_laws.specs.Codes.{HasItsInstance, IsInUse, IsMember, IsOneTooMany, IsRight, JoinsAreRefused, JoinsAreRefusedExactly, Says, by_any, by_present}
 
-reply_of : (x y : Reply) → Replied x ≡ Replied y → x ≡ y
+pub reply_of : (x y : Reply) → Replied x ≡ Replied y → x ≡ y
 reply_of x y is = cc
 
 -- ---- what an accepted heartbeat may say
@@ -61,7 +61,7 @@ module _ (g : Group) (a : Arrival) (answer : Answer) (new : Group) (code : Code)
   goes None never = absurd never
   goes (Some r) (is, leaves) = succeeds _ is refl
 
-  allowed : (kind : Kind) (sender : Sender) → StepOf kind sender g a answer new → Allowed code
+  pub allowed : (kind : Kind) (sender : Sender) → StepOf kind sender g a answer new → Allowed code
   allowed Joins sender is = joins is.name sender is.joins
   allowed (Beats n) sender is = beats sender.own is
   allowed Leaves sender (is, leaves) = succeeds _ is refl

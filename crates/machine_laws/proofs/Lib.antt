@@ -6,4 +6,17 @@ pub mod RequestReasons
 pub mod ExactCodes
 pub mod UnknownMembers
 pub mod KeptOwners
+pub mod KeptByHeartbeats
 pub mod OtherGrants
+pub mod Words
+pub mod SubscribedViews
+pub mod AnsweredCodes
+pub mod Ends
+pub mod UniformSteps
+pub mod UniformByHand
+pub mod MovingTargets
+pub mod ComesAgain
+pub mod Examples
+pub mod Whole
+pub mod Ids
+pub mod Holdings

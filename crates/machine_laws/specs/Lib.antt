@@ -7,3 +7,14 @@ pub mod Requests
 pub mod Codes
 pub mod Renewals
 pub mod OtherMembers
+pub mod Limits
+pub mod Names
+pub mod Stamps
+pub mod Views
+pub mod AnsweredCodes
+pub mod Ends
+pub mod Uniform
+pub mod Examples
+pub mod Whole
+pub mod Ids
+pub mod Holdings

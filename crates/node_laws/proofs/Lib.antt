@@ -1,2 +1,3 @@
 pub mod OtherGroups
 pub mod Salts
+pub mod Rooms
