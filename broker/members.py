@@ -16,9 +16,8 @@ from broker.measures import Measures
 from broker.part import LEADERS, Leader, Part
 from broker.settings import BROKERS, KEY, Settings, decoded
 from broker.snapshots import LAST
-from broker.starter import Ended
 from broker.streams import first_done, within
-from broker.trouble import Trouble
+from broker.trouble import Ended, Trouble
 
 # What is watched: CLUSTER, and behind it the logs.
 ALL, ALL_END = "migwelun/cluster/", "migwelun/log0"

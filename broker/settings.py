@@ -12,8 +12,8 @@ from typing import List, Tuple
 from broker.batches import MOST_BYTES
 from broker.etcd import Etcd, Message, NoRoom, Refused, Txn, Unanswered, created_at, get, modified_at, nothing_in, put
 from broker.log import Log
-from broker.starter import Ended
 from broker.topics import Topics
+from broker.trouble import Ended
 from broker.words import names_in_words
 
 KEY = "migwelun/cluster/settings"

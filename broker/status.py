@@ -48,7 +48,7 @@ class Status:
     async def run(self, listener: socket.socket) -> None:
         """Serves for ever."""
 
-        async def prepare(it: Accepted) -> Work:
+        def prepare(it: Accepted) -> Work:
             return self._serve(it.socket)
 
         # (The oldest ones may be at their end.)

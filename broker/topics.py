@@ -61,6 +61,10 @@ class Topics:
         if len(topics) > MOST_TOPICS or sum(topic.count for topic in topics) > MOST_PARTITIONS:
             raise ValueError(f"there are more than {MOST_TOPICS} topics or {MOST_PARTITIONS} partitions")
 
+    def put(self, topic: Topic) -> None:
+        """Takes a topic in place of the one of its name."""
+        self.by_name[topic.name] = self.by_id[topic.id] = topic
+
     def __iter__(self) -> Iterator[Topic]:
         return iter(self.by_name.values())
 
