@@ -94,7 +94,7 @@ class Brokers(Programs):
     async def begin(self) -> None:
         for each in [*sum(self.wires, []), *self.gates]:
             await each.listen()
-        self.relay(self.ports.numbers[-1], [f"client:{door[1]}:{gate.port}" for door, gate in zip(self.doors, self.gates)])
+        self.relay(self.ports.numbers[-1], [f"{door[1]}:{gate.port}" for door, gate in zip(self.doors, self.gates)])
         await asyncio.gather(*map(self.start_one, range(BROKERS)))
 
     async def start_one(self, slot: int) -> None:

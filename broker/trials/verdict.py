@@ -50,7 +50,7 @@ def judge_frames(trial: Trial, exchanges: List[Exchange]) -> None:
     trial.note(f"heartbeat codes {dict(sorted(holds.heartbeat_codes.items()))}, commit codes {dict(sorted(holds.commit_codes.items()))}")
     closes = [it.connection for it in exchanges if it.closes]
     if not trial.may_close:
-        trial.check(not closes, f"the coordinator closed no connection{told(closes)}")
+        trial.check(not closes, f"the broker closed no connection over a heartbeat or a commit{told(closes)}")
 
 
 def judge_reading(trial: Trial, group: str, prints: List[Print], exchanges: List[Exchange]) -> None:
