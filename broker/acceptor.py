@@ -138,7 +138,7 @@ class Door:
 
 def _opening_seconds(client: socket.socket) -> Optional[float]:
     """For how long a new connection may have been open for its client before it was for this system: the time from this side's answer to the
-    client's. None where the answer was sent again, which begins after a second. (Other systems than Linux don't tell.)"""
+    client's. None if the answer was sent again, which begins after a second. (Other systems than Linux don't tell.)"""
     if not sys.platform.startswith("linux"):
         return 0.0
     info = client.getsockopt(socket.IPPROTO_TCP, socket.TCP_INFO, INFO_SIZE)

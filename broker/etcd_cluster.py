@@ -36,7 +36,7 @@ MOVE_SECONDS = 2.0
 
 
 class EtcdCluster(Cluster):
-    """`nodes` are those of the brokers that are there. Only this one has a coordinator behind it."""
+    """`nodes` are those of the brokers that are there. Only this one has a coordinator."""
 
     has_log = True
 
@@ -97,7 +97,7 @@ class EtcdCluster(Cluster):
         return sorted((topic.name, range(topic.count)) for topic in self.topics)
 
     def have_changed(self) -> None:
-        """Takes over who is there. (Where nobody is known to be, clients hear of this one alone.)"""
+        """Takes over who is there. (If nobody is known to be, clients hear of this one alone.)"""
         assert self.members is not None
         others = {number: each for number, each in self.members.brokers.items() if number != self.own.id}
         nodes = [Node(number, each.host, each.port, self.own.coordinator) for number, each in others.items()]
@@ -122,7 +122,7 @@ class Replicated(Coordinator):
         return str(self.etcd)
 
     def make_parts(self, settings: Settings, library: str, cluster: EtcdCluster, watch: Watch) -> Members:
-        """Raises Ended where the library isn't there."""
+        """Raises Ended if the library isn't there."""
         tell: Callable[[str], None] = watch.tell
         for number in range(settings.parts):
             replica = replica_of(library, (settings.salt + number) % SALTS)
@@ -188,7 +188,7 @@ class PartsLink(Link):
 
 
 def replica_of(library: str, salt: int) -> Any:
-    """A replica at the beginning of a log. Raises Ended where the library isn't there."""
+    """A replica at the beginning of a log. Raises Ended if the library isn't there."""
     try:
         return module().Replica(library, salt)
     except OSError as why:

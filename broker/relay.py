@@ -73,7 +73,7 @@ class Relay:
         self.cluster, self.node, self.watch, self.number = cluster, node, watch, number
 
     async def serve(self, reader: asyncio.StreamReader, writer: asyncio.StreamWriter, link: Link) -> None:
-        """Answers requests until the client closes. Raises where anything else ends the connection."""
+        """Answers requests until the client closes. Raises if anything else ends the connection."""
         while True:
             reply = await self._reply(reader, writer, link)
             if reply is None:
@@ -82,7 +82,7 @@ class Relay:
             del reply
 
     async def _reply(self, reader: asyncio.StreamReader, writer: asyncio.StreamWriter, link: Link) -> Optional[Reply]:
-        """The reply to the next request, for which there is room until then; or None where the client has closed."""
+        """The reply to the next request, for which there is room until then; or None if the client has closed."""
         body = await self._next(reader, writer, link)
         if body is None:
             return None
@@ -91,7 +91,7 @@ class Relay:
             return await self._answer(body, link)
 
     async def _next(self, reader: asyncio.StreamReader, writer: asyncio.StreamWriter, link: Link) -> Optional[bytes]:
-        """The next request's body, or None where the client has closed. Raises Closed where the coordinator has."""
+        """The next request's body, or None if the client has closed. Raises Closed if the coordinator has."""
         reading = asyncio.ensure_future(read_body(reader, held=lambda size: self.cluster.room.held(writer, size)))
         try:
             await first_done([reading, link.ended], IDLE_SECONDS)

@@ -51,7 +51,7 @@ def id_of(name: str) -> uuid.UUID:
 
 
 class Topics:
-    """All topics, found by name or by id. Raises ValueError where they can't be a cluster's."""
+    """All topics, found by name or by id. Raises ValueError if they can't be a cluster's."""
 
     def __init__(self, topics: Sequence[Topic]) -> None:
         self.by_name: Dict[str, Topic] = {topic.name: topic for topic in topics}

@@ -119,7 +119,7 @@ class Client:
         self.writer.write(framed(data(text)))
 
     async def body(self, seconds: float = SECONDS) -> Optional[bytes]:
-        """The next reply's body, or None where the connection is closed."""
+        """The next reply's body, or None if the connection is closed."""
         try:
             size = struct.unpack(">i", await asyncio.wait_for(self.reader.readexactly(4), seconds))[0]
             return await asyncio.wait_for(self.reader.readexactly(size), seconds)

@@ -108,7 +108,7 @@ def closed_pipe() -> int:
 
 
 def ask(port: int, text: str) -> Optional[bytes]:
-    """A reply's body, or None where the connection is closed."""
+    """A reply's body, or None if the connection is closed."""
     try:
         with socket.create_connection((HOST, port), SECONDS) as connection, connection.makefile("rb") as stream:
             connection.sendall(struct.pack(">i", len(data(text))) + data(text))

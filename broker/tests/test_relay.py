@@ -38,7 +38,7 @@ FETCHERS = [
     ("01 00000002", "", STORED),
     ("02 'm' ffffffff", "", STORED),
 ]
-# What librdkafka 2.14.2 sent: version 1, with an empty regular expression behind the names; and the same request in version 0.
+# What librdkafka 2.14.2 sent: version 1, with an empty regular expression after the names; and the same request in version 0.
 JOIN_1 = "0044 0001 00000003 0005 'c-sid' 00 06 'g-sid' 17 '/3dPginAT4eUZTkRfdoe0w' 00000000 00 00 000493e0 02 07 'orders' 01 00 01 00"
 JOIN_0 = "0044 0000 00000003 0005 'c-sid' 00 06 'g-sid' 17 '/3dPginAT4eUZTkRfdoe0w' 00000000 00 00 000493e0 02 07 'orders' 00 01 00"
 BEAT_1 = "0044 0001 00000008 0005 'c-sid' 00 06 'g-sid' 17 '/3dPginAT4eUZTkRfdoe0w' 00000001 00 00 ffffffff 00 00 00 00 00"

@@ -46,7 +46,7 @@ Side = Tuple[asyncio.StreamReader, asyncio.StreamWriter]
 
 
 async def read_frame(reader: asyncio.StreamReader) -> bytes:
-    """A whole frame; no bytes where the stream ends."""
+    """A whole frame; no bytes if the stream ends."""
     try:
         size = await reader.readexactly(4)
         count = struct.unpack(">i", size)[0]

@@ -433,7 +433,8 @@ QUIETLY = ("-q", "-c", 2000)
 
 def hundred(t: Trial) -> None:
     """A hundred consumers of a topic of 200 partitions, fifty at a time."""
-    t.expect("TRANSPORT")
+    # (2.8.0 may ask twice where a partition begins, and goes back there.)
+    t.expect("TRANSPORT", "offset 0 of")
     wide: Dict[str, Any] = {"topics": "wide", "fetch_wait_max_ms": 5_000, "limit": LIMIT}
     t.come("h", "50 consumers at once", *QUIETLY, count=50, **wide)
     second = t.come("k", "100 consumers, the second 50 at once", *QUIETLY, count=50, **wide)
@@ -551,8 +552,8 @@ def run_kcat(t: Trial, client: str, settings: Sequence[str], *words: str, given:
 DESCRIBE = """
 import sys
 from confluent_kafka.admin import AdminClient
-group = AdminClient({"bootstrap.servers": sys.argv[1]}).describe_consumer_groups(["g"])["g"].result(100)
-for it in group.members:
+admin = AdminClient({"bootstrap.servers": sys.argv[1]})
+for it in admin.describe_consumer_groups(["g"])["g"].result(100).members:
     print(it.member_id, ",".join(sorted(f"{part.topic}:{part.partition}" for part in it.assignment.topic_partitions)))
 """
 

@@ -146,7 +146,7 @@ class Crowd:
         return True
 
     def problem(self, topics: Sequence[str], names: Sequence[str] = ()) -> str:
-        """Why it isn't so that each partition of these topics has exactly one owner; nothing where it is."""
+        """Why it isn't so that each partition of these topics has exactly one owner; nothing if it is."""
         with self.lock:
             every = {f"{name}:{index}" for name in topics for index in range(self.topics[name].count)}
             owners = collections.Counter(p for name, parts in self.owned.items() if not names or name in names for p in parts)
@@ -159,7 +159,7 @@ class Crowd:
             return collections.Counter(len(parts) for name, parts in self.owned.items() if not names or name in names)
 
     def uneven(self, names: Sequence[str] = ()) -> str:
-        """How many partitions how many consumers own, where that is more or less than one apart."""
+        """How many partitions how many consumers own, if that is more or less than one apart."""
         counts = self.counts(names)
         return f"the counts are {dict(counts)}" if counts and max(counts) - min(counts) > 1 else ""
 

@@ -23,7 +23,7 @@ from conformance.runner import FAILED, Result, Runner
 from conformance.starter import Starter
 
 TIMEOUT, PATIENCE, VARIANT_PATIENCE = 5.0, 1.5, 10.0
-# The session timeout where slow cases are played, and how much later its end may be noticed.
+# The session timeout if slow cases are played, and how much later its end may be noticed.
 SHORT_SESSION, LATE = 3.0, 3.0
 # After so many cases that failed no more are played against a fault.
 MOST_FAILED = 12
@@ -78,12 +78,12 @@ def serve(faults: Sequence[Fault]) -> int:
 
 
 def show(faults: Sequence[Fault], cases: Sequence[Case], options: argparse.Namespace) -> int:
-    """Status 0 where each fault is found by the case that names it."""
+    """Status 0 if each fault is found by the case that names it."""
     finders: Set[str] = set()
     unfound, kept = 0, found_before()
     with contextlib.ExitStack() as stack:
         pool = concurrent.futures.ThreadPoolExecutor(max(1, options.jobs))
-        # (Where this is stopped, what isn't begun yet never is.)
+        # (If this is stopped, what isn't begun yet never is.)
         stack.callback(pool.shutdown, cancel_futures=True)
         for found in pool.map(lambda fault: try_fault(fault, cases, options.named), faults):
             unfound += found.fault.case not in found.cases

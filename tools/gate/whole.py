@@ -76,7 +76,7 @@ def say(line: str) -> None:
 
 
 def outcome(name: str, lines: List[str], status: int, began: float, processor: float, more: str = "") -> Outcome:
-    """By the last line of a check, and its status; a failure where the line says neither how many passed nor how many failed."""
+    """By the last line of a check, and its status; a failure if the line says neither how many passed nor how many failed."""
     found = LAST_LINE.fullmatch(lines[-1])
     passed, failed = (int(found[1]) - int(found[3]) * (found[2] == "scripts"), int(found[3])) if found else (0, 1)
     failed = max(failed, int(status != 0))
@@ -102,7 +102,7 @@ def prove(words: List[str]) -> Tuple[Outcome, List[str]]:
 
 
 def run(when: str, text: str, nice: Optional[int] = None) -> Outcome:
-    """Runs a check: its lines are shown where it fails, else its last one."""
+    """Runs a check: its lines are shown if it fails, else its last one."""
     began, name = time.monotonic(), re.sub("(PROGRAM|BROKER) ?", "", text).strip()
     words = [MEANINGS.get(word, word) for word in text.split()]
     if any(word.startswith((BUILT, BROKER)) and not os.path.isfile(word) for word in words):
@@ -122,7 +122,7 @@ def run_in(pool: concurrent.futures.Executor, whens: Tuple[str, ...]) -> List["c
 
 
 def with_proofs(command: List[str]) -> int:
-    """Runs `rt ci` and every check. The status is 0 only where nothing failed."""
+    """Runs `rt ci` and every check. The status is 0 only if nothing failed."""
     with concurrent.futures.ThreadPoolExecutor(AT_ONCE) as pool:
         begun = run_in(pool, (AHEAD,))
         first, spent = prove(command)

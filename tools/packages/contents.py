@@ -23,7 +23,7 @@ UNITS = {
     "migwelun": ("coord serve", "Migwelun, a coordinator of Kafka consumer groups"),
     "coord-broker": ("coord-broker", "Migwelun's broker for clients of Kafka, with topics in memory"),
 }
-# Programs in Python, with the document that their man pages have, and its sections where that isn't all. They are commands migwelun-NAME of the
+# Programs in Python, with the document that their man pages have, and its sections if that isn't all. They are commands migwelun-NAME of the
 # package, and so are the tools that need only Python. Some of these have their parts in the folder `stories`.
 PAGES = {
     "broker": ("broker/README.md", ("The command line", "A record of the frames", "What a broker does for a consumer")),
