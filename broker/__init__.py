@@ -6,7 +6,7 @@
     cluster                           the brokers, and which of them coordinates a group
     apis                              a module for each API that is answered
     heartbeats, commits               the messages that the coordinator answers, as far as they are read here
-    link, relay                       a coordinator in this process, and a client's connection
+    link, connection                  a coordinator in this process, and a client's connection
     rules, library                    the rules of the protocol in Python as a coordinator, and the C library
     acceptor, streams, room           the taking of connections in order, and bounds on how long streams may take and how much waits
     turns                             long work in pieces, so that nobody else waits for it

@@ -23,7 +23,7 @@ from broker.members import number_of
 from broker.offsets import Offsets
 from broker.output import STANDARD_ERROR, Output, say, to_file
 from broker.record import Record
-from broker.relay import serve_node
+from broker.connection import serve_node
 from broker.rules import Rules
 from broker.serving import serve_while_member
 from broker.settings import Settings, log_of, settings_of, wanted

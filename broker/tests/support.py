@@ -17,7 +17,7 @@ from broker.link import Coordinator, CoordinatorClosed, Link
 from broker.log import Log
 from broker.offsets import Committed, Offsets
 from broker.output import STANDARD_ERROR
-from broker.relay import serve_node
+from broker.connection import serve_node
 from broker.topics import Topic, Topics
 from broker.turns import Turns
 from broker.watch import Watch

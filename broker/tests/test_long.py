@@ -19,7 +19,7 @@ from broker.frames import framed
 from broker.offsets import Committed
 from broker.status import Status
 from broker.tests.support import HOST, SECONDS, Client, accept_all, front, small_cluster
-from broker.tests.test_relay import HEARTBEAT
+from broker.tests.test_connection import HEARTBEAT
 from broker.tests.test_status import get
 
 PARTITIONS = 50_000

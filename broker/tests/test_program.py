@@ -20,7 +20,7 @@ import urllib.request
 from typing import IO, Iterator, List, Optional
 
 from broker.tests.support import HOST, ORDERS, SECONDS, data
-from broker.tests.test_relay import WITH_REGEX
+from broker.tests.test_connection import WITH_REGEX
 
 TOP = pathlib.Path(__file__).resolve().parents[2]
 CLIENT = TOP / "examples/client.py"

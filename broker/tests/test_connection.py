@@ -10,7 +10,7 @@ import unittest
 from typing import List, Optional, Tuple
 from unittest import mock
 
-from broker import relay
+from broker import connection
 from broker.frames import framed
 from broker.tests.support import HOST, Client, accept_all, data, front, small_cluster
 
@@ -71,7 +71,7 @@ def numbers(*texts: str) -> str:
     return "\n".join(text.format(number) for number, text in enumerate(texts, 1))
 
 
-class Relay(unittest.IsolatedAsyncioTestCase):
+class Connections(unittest.IsolatedAsyncioTestCase):
     async def test_replies_have_the_order_of_the_requests(self) -> None:
         texts = [VERSIONS, FETCH, HEARTBEAT, FIND, COMMIT, OFFSETS, FETCH, HEARTBEAT, VERSIONS]
         async with front(accept_commits, small_cluster(rate=0)) as it:
@@ -160,7 +160,7 @@ class Relay(unittest.IsolatedAsyncioTestCase):
 
     async def test_a_pause_of_this_process_ends_no_connection(self) -> None:
         async with front() as it:
-            with mock.patch.object(relay, "IDLE_SECONDS", 0.2):
+            with mock.patch.object(connection, "IDLE_SECONDS", 0.2):
                 client = await it.client()
                 self.assertIsNotNone(await client.ask(VERSIONS.format(1)))
                 # Everything here stops for longer than a connection may say nothing. What has come meanwhile is read in more than one piece.
@@ -187,7 +187,7 @@ class Relay(unittest.IsolatedAsyncioTestCase):
         self.assertEqual((seconds < 10, [task.done() for task in asking]), (True, [True] * 5))
 
     async def test_connections_above_the_bound_wait(self) -> None:
-        with mock.patch.object(relay, "MOST_CONNECTIONS", 2):
+        with mock.patch.object(connection, "MOST_CONNECTIONS", 2):
             async with front() as it:
                 clients = [await it.client() for _ in range(3)]
                 await clients[1].ask(VERSIONS.format(1))

@@ -38,12 +38,12 @@ async def serve_node(cluster: Cluster, node: Node, watch: Watch, listener: socke
 
     def prepare(it: Accepted) -> Work:
         number = cluster.record.opened(f"{it.address[0]}:{it.address[1]}", f"{node.host}:{node.port}")
-        return relay(Relay(cluster, node, watch, number), it.socket, node.coordinator.connect(it.since), it.address)
+        return serve_client(Connection(cluster, node, watch, number), it.socket, node.coordinator.connect(it.since), it.address)
 
     await accept(listener, MOST_CONNECTIONS, prepare)
 
 
-async def relay(it: Relay, client: socket.socket, link: Link, address: Address) -> None:
+async def serve_client(it: Connection, client: socket.socket, link: Link, address: Address) -> None:
     """Serves a client until either side closes. Says why, unless it was the client."""
     reader, writer = await asyncio.open_connection(sock=client)
     # What is written counts as taken once all of it is.
@@ -66,7 +66,7 @@ class Closed(Exception):
     """The connection ends, for a reason that is said."""
 
 
-class Relay:
+class Connection:
     """The connection of this number to a node."""
 
     def __init__(self, cluster: Cluster, node: Node, watch: Watch, number: int) -> None:
