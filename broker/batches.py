@@ -1,7 +1,7 @@
 """A part's log in etcd: batches of entries, each under a key that names the place of its first entry.
 
 A batch begins with the revision at which its leadership's key was created and with the batch's number, so that a leader knows its own
-again. Behind that stand its entries, each behind its length. Numbers are big-endian.
+again. After that stand its entries, each after its length. Numbers are big-endian.
 """
 
 from __future__ import annotations

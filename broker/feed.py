@@ -1,7 +1,7 @@
 """What a part's log tells, once it is applied, in its order: to the committed offsets and the watch of this broker, whether it leads the part or
 follows. So a broker that begins to lead shows the members, and what they committed.
 
-No reply waits for it. What is long isn't told, and where more comes than can be told, that isn't either: it is counted.
+No reply waits for it. What is long isn't told, and if more comes than can be told, that isn't either: it is counted.
 """
 
 from __future__ import annotations

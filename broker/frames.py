@@ -88,7 +88,7 @@ class Request:
 
 
 def read_request(body: bytes, pace: Pace) -> Request:
-    """Reads a request's header. Raises Unreadable, also where the API or its version isn't spoken here."""
+    """Reads a request's header. Raises Unreadable, also if the API or its version isn't spoken here."""
     fields = Reader(body, pace)
     key, version, correlation, client = fields.int16(), fields.int16(), fields.int32(), fields.nullable_string()
     spoken = SPOKEN.get(key)

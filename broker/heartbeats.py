@@ -54,7 +54,7 @@ class Steady(NamedTuple):
 
 
 def steady(body: bytes, reply: bytes) -> Optional[Steady]:
-    """That, of a request of version 0 with short names and its reply; or None, where they have to be read."""
+    """That, of a request of version 0 with short names and its reply; or None, if they have to be read."""
     if not body.endswith(NOTHING_NEW) or not reply.endswith(NOTHING_TOLD) or reply[9:11] != b"\0\0":
         return None
     try:
@@ -100,7 +100,7 @@ async def read_reply(body: bytes, pace: Pace) -> Told:
     _throttle, code, _message = fields.int32(), fields.int16(), fields.compact_nullable_string()
     member, epoch, _interval = fields.compact_nullable_string(), fields.int32(), fields.int32()
     assigned = None
-    # A structure that may be null has a byte before it: -1 where it is.
+    # A structure that may be null has a byte before it: -1 if it is.
     if fields.int8() >= 0:
         assigned = _united(await fields.compact_array(lambda: _topic(fields)))
         fields.tags()

@@ -19,7 +19,7 @@ from broker.snapshots import LAST
 from broker.streams import first_done, within
 from broker.trouble import Ended, Trouble
 
-# What is watched: CLUSTER, and behind it the logs.
+# What is watched: CLUSTER, and after it the logs.
 ALL, ALL_END = "migwelun/cluster/", "migwelun/log0"
 CLUSTER, CLUSTER_END = "migwelun/cluster/", "migwelun/cluster0"
 NUMBERS = "migwelun/cluster/numbers/"
@@ -141,12 +141,12 @@ class Members:
                 await asyncio.sleep(AGAIN_SECONDS)
 
     async def _watch(self) -> None:
-        """Reads all there is, and then what changes. It ends where the watch does: whatever was missed is read then."""
+        """Reads all there is, and then what changes. It ends if the watch does: whatever was missed is read then."""
         found = await self._etcd.range(CLUSTER, CLUSTER_END)
         self._see_all(found.pairs, found.revision)
         seen = found.revision
         async with self._etcd.watch(ALL, ALL_END, found.revision + 1) as stream:
-            # (What was appended until that revision is read, and what comes behind it is watched.)
+            # (What was appended until that revision is read, and what comes after it is watched.)
             for part in self._parts:
                 part.look_again()
             while True:

@@ -77,7 +77,7 @@ def wanted(parts: int, topics: Topics, rate: float, records: int, machine: str) 
 
 
 async def settings_of(etcd: Etcd, own: Settings, upgrades: bool = False) -> Settings:
-    """The cluster's settings, which are these where there are none. Waits until etcd is there. Raises Ended if they differ otherwise than by what
+    """The cluster's settings, which are these if there are none. Waits until etcd is there. Raises Ended if they differ otherwise than by what
     belongs to each cluster alone; or, at an upgrade, than by the version of the state machine, too, and no broker is there."""
     found = await _until_answered(etcd, [created_at(KEY, 0)], own)
     if found.succeeded:
@@ -96,7 +96,7 @@ async def settings_of(etcd: Etcd, own: Settings, upgrades: bool = False) -> Sett
 
 
 async def _until_answered(etcd: Etcd, compare: List[Message], settings: Settings) -> Txn:
-    """Writes settings where that compares so, and tells what was found where it doesn't."""
+    """Writes settings if that compares so, and tells what was found if it doesn't."""
     while True:
         try:
             return await etcd.txn(compare, [put(KEY, settings.encoded())], [get(KEY)])

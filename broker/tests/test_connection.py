@@ -27,7 +27,7 @@ OFFSETS = "0009 0009 {:08x} 0001 'c' 00 02 02 'g' 00 ffffffff 02 07 'orders' 02 
 FETCH_OFFSETS = "0009 0009 00000001 0001 'c' 00 02 02 'g' {} 02 07 'orders' 02 00000001 00 00 01 00"
 OF_NOTHING = "0008 0009 00000001 0001 'c' 00 02 'g' 00000002 02 'm' 00 02 01 02 ffffffff ffffffffffffffff ffffffff 00 00 00 00"
 STORED = "00000001 00 00000000 02 02 'g' 02 07 'orders' 02 00000001 0000000000000007 00000000 02 'm' 0000 00 00 0000 00 00"
-# The member; the coordinator's code for it, where it is asked; and the reply.
+# The member; the coordinator's code for it, if it is asked; and the reply.
 FETCHERS = [
     ("02 'm' 00000002", "0003", STORED),
     ("02 'm' 00000002", "0019", "00000001 00 00000000 02 02 'g' 01 0019 00 00"),

@@ -128,7 +128,7 @@ class Cluster(unittest.IsolatedAsyncioTestCase):
         self.assertEqual(found, [False, ["well again"], True, [], {}])
 
     async def test_other_versions_of_the_state_machine(self) -> None:
-        """Refused; and where no broker is there, taken at an upgrade, whose request may be late as well."""
+        """Refused; and if no broker is there, taken at an upgrade, whose request may be late as well."""
         async with played_etcd() as (played, etcd):
             first = await settings_of(etcd, own())
             for upgrades, there in ((False, False), (True, True)):

@@ -24,7 +24,7 @@ from broker.tests.test_status import get
 
 PARTITIONS = 50_000
 ENTRIES = 20_000
-# So many heartbeats are answered meanwhile at least. Where nobody gives others a turn it is none, or one that came before.
+# So many heartbeats are answered meanwhile at least. If nobody gives others a turn it is none, or one that came before.
 BEATS = 4
 # How long a busy machine may take for a long request.
 LONG_SECONDS = 180
