@@ -84,6 +84,6 @@ def java_hash(text: str) -> int:
 
 
 def group_number(group: str, count: int) -> int:
-    """Where Kafka puts a group among `count` partitions of its internal topic. (The magnitude of the least number is no number of Java's, and counts as 0.)"""
+    """Where Kafka puts a group among `count` partitions. (The magnitude of the least number is no number of Java's, and counts as 0.)"""
     number = java_hash(group)
     return 0 if number == -(1 << 31) else abs(number) % count

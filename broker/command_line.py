@@ -76,20 +76,25 @@ def parse(words: List[str]) -> Options:
 def _parser() -> Parser:
     parser = Parser(
         prog=os.environ.get("PROGRAM_NAME", "python3 -m broker"),
-        description="A broker for stock consumers, in Python: over the rules of the protocol, or one of several over etcd. `coord broker` is the proved one.",
+        description="A broker for stock consumers, in Python, over the rules of the protocol or over etcd. `coord broker` is the proved one.",
     )
-    parser.add_argument("--start-rules", action="store_true", help="has the rules of the protocol in Python: at once, without a toolchain, and not proved")
     parser.add_argument(
-        "--session", type=_real_of(SHORTEST_SESSION, SESSION), default=SESSION, metavar="SECONDS", help="with --start-rules: how long a member may be silent (%(default)g)"
+        "--start-rules", action="store_true", help="has the rules of the protocol in Python: at once, without a toolchain, and not proved"
+    )
+    session = _real_of(SHORTEST_SESSION, SESSION)
+    parser.add_argument(
+        "--session", type=session, default=SESSION, metavar="SECONDS", help="with --start-rules: how long a member may be silent (%(default)g)"
     )
     _add_those_of_etcd(parser)
     parser.add_argument("--library", default=str(LIBRARY), metavar="PATH", help="with --etcd: the library (that of this repository or package)")
     parser.add_argument("--port", type=_port, help="clients' port of 127.0.0.1; 0 is a free one; with --etcd by default that of --advertise, there")
     parser.add_argument("--status", type=_port, metavar="PORT", help="port of 127.0.0.1 for the page /, /groups and /metrics")
-    parser.add_argument("--rate", type=_real_of(0, MOST_RECORDS_A_SECOND), default=2.0, metavar="R", help="records a second in each partition (%(default)g)")
+    rate = _real_of(0, MOST_RECORDS_A_SECOND)
+    parser.add_argument("--rate", type=rate, default=2.0, metavar="R", help="records a second in each partition (%(default)g)")
     parser.add_argument("--records", type=_records, default=0, metavar="N", help="records in each partition from the start (%(default)d)")
     parser.add_argument("--record", metavar="FILE", help="writes all frames to this file, with their times; broker/README.md has its form")
-    parser.add_argument("topics", nargs="+", type=_topic, metavar="TOPIC", help="a topic, NAME:COUNT or NAME:UUID:COUNT; without a UUID its id is made from the name")
+    about = "a topic, NAME:COUNT or NAME:UUID:COUNT; without a UUID its id is made from the name"
+    parser.add_argument("topics", nargs="+", type=_topic, metavar="TOPIC", help=about)
     return parser
 
 

@@ -143,7 +143,7 @@ class Program(unittest.TestCase):
                 (["--start-rules", "--port", "0", "--status", port], f"broker: --status: {HOST}:{port}: Address already in use\n"),
                 ([*over_etcd, "--advertise", f"{HOST}:{port}"], f"broker: --advertise: {HOST}:{port}: Address already in use\n"),
                 ([*over_etcd, "--advertise", "nobody.invalid:9093"], "broker: --advertise: nobody.invalid:9093: "),
-                (["--etcd", f"{HOST}:9", "--parts", "1", "--advertise", f"{HOST}:9", "--port", "0", "--library", "/nowhere"], "tools/build-library makes it"),
+                ([*over_etcd, "--advertise", f"{HOST}:9", "--port", "0", "--library", "/nowhere"], "tools/build-library makes it"),
                 (["--start-rules", "--record", "/nowhere/record", "--port", "0"], "No such file or directory: '/nowhere/record'"),
             ]
             for words, why in rows:

@@ -186,7 +186,9 @@ class Crowd:
 
 
 class Trial(Crowd):
-    def __init__(self, scenario: str, client: str, setting: Setting, topics: Sequence[Topic] = TOPICS, more: Sequence[str] = (), relay: Sequence[str] = ()) -> None:
+    def __init__(
+        self, scenario: str, client: str, setting: Setting, topics: Sequence[Topic] = TOPICS, more: Sequence[str] = (), relay: Sequence[str] = ()
+    ) -> None:
         """`more` and `relay` are further words for the broker and for the relay."""
         super().__init__(client, setting.roots, setting.out / f"{scenario}-{client}", topics)
         self.scenario = scenario

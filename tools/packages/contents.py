@@ -140,7 +140,8 @@ def of_options(broker: str, version: str, seconds: int) -> Files:
 
 def as_installed(text: str) -> str:
     """A document with the commands of the package in place of those of the repository."""
-    names = {"./coord broker": sources.BROKER, "`coord broker`": f"`{sources.BROKER}`", "./coord": "coord", **{f"python3 -m {it} ": f"migwelun-{it} " for it in PROGRAMS}, **{f"tools/{it}": f"migwelun-{it}" for it in TOOLS}}
+    names = {"./coord broker": sources.BROKER, "`coord broker`": f"`{sources.BROKER}`", "./coord": "coord"}
+    names.update({**{f"python3 -m {it} ": f"migwelun-{it} " for it in PROGRAMS}, **{f"tools/{it}": f"migwelun-{it}" for it in TOOLS}})
     for here, there in names.items():
         text = text.replace(here, there)
     return text
