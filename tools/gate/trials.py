@@ -15,8 +15,8 @@ from typing import Dict, List, Optional, Set
 
 from gate import cases, commands, crates, wrong
 
-# How long a build with its run may take, in seconds: beside `rt ci` it has what proofs leave of the processors.
-LIMIT = 5_400
+# How long a build with its run may take, and the run alone, in seconds: besides `rt ci` they have what proofs leave of the processors.
+LIMIT, RUN_LIMIT = 5_400, "300"
 
 
 class NotRun(Exception):
@@ -55,7 +55,7 @@ class Trials:
             test_crate, _, test = it.whom.partition("::")
             kept = {test} if crate else self.tests[test_crate]
             leave_out_tests(f"{folder}/crates/{test_crate}/src", {name.rpartition("::")[2] for name in kept})
-            ran = commands.run([self.rt, "try", "--test"], f"{folder}/crates/{test_crate}", limit=LIMIT)
+            ran = commands.run([self.rt, "try", "--test", "--seconds", RUN_LIMIT], f"{folder}/crates/{test_crate}", limit=LIMIT)
             found = [re.match(r"test (\S+) \.\.\. (\w+)", line) for line in ran.lines()]
             if not any(found):
                 raise NotRun(f"the tests of {test_crate} did not run: {told(ran.lines())}")
@@ -71,7 +71,7 @@ class Trials:
     def case_passes(self, label: str, folder: str) -> bool:
         """By its standard output and its status; rt writes lines of its own to standard error."""
         case = cases.read_case(self.tree.root, label)
-        ran = commands.run([self.rt, "try", "--", *case.words], folder, case.given, LIMIT, merged=False)
+        ran = commands.run([self.rt, "try", "--seconds", RUN_LIMIT, "--", *case.words], folder, case.given, LIMIT, merged=False)
         ended = re.search(rb"^run=ended status=(\d+) .*proved=no\n\Z", ran.errors, re.M)
         if not ended:
             raise NotRun(f"{label} was not run: {told(ran.errors.decode(errors='replace').split(chr(10)))}")

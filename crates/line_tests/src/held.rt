@@ -12,10 +12,10 @@ use test_support::frames::{STRANGER, frame_of};
 use tokio::io::{AsyncRead, AsyncWrite, duplex};
 
 /// The lines of a worker.
-const LINES: u64 = 1_000;
+const LINES: u64 = 100;
 
 /// The most polls until a worker with these lines sleeps. A poll takes one line at least.
-const POLLS: usize = 2_000;
+const POLLS: usize = 200;
 
 /// How many bytes a pipe holds.
 const PIPE: usize = 256;
@@ -40,7 +40,7 @@ fn fed_line(
     line_over(alloc, connection, reader)
 }
 
-/// A worker with a thousand lines, each with a reply that is held, asks each of them some times and then sleeps. One wake lets all go on.
+/// A worker with a hundred lines, each with a reply that is held, asks each of them some times and then sleeps. One wake lets all go on.
 #[test]
 fn held_lines_sleep(rt: HostRuntime) -> Result<(), Fail> {
     let task = task_of(&rt)?;
