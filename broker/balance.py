@@ -6,7 +6,7 @@ from typing import Collection, Dict, List, Mapping
 
 
 def targets(brokers: Collection[int], leaders: Mapping[int, int], parts: int, stopped: Mapping[int, Collection[int]]) -> Dict[int, int]:
-    """By part, who is to lead it, of these brokers, where some lead some parts now. A broker never leads what has stopped in it. All
+    """By part, who is to lead it, of these brokers, if some lead some parts now. A broker never leads what has stopped in it. All
     brokers reckon the same from the same keys in etcd, so that mostly one alone tries to lead a part."""
     held: Dict[int, List[int]] = {broker: [part for part in range(parts) if leaders.get(part) == broker] for broker in brokers}
     room = _shares(held, parts)
@@ -18,7 +18,7 @@ def targets(brokers: Collection[int], leaders: Mapping[int, int], parts: int, st
     for part in range(parts):
         able = [broker for broker in sorted(held) if part not in stopped.get(broker, ())]
         if part not in wanted and able:
-            # (Where one that has stopped leaves parts to others, they get more than their share.)
+            # (If one that has stopped leaves parts to others, they get more than their share.)
             wanted[part] = max(able, key=lambda broker: room[broker])
             room[wanted[part]] -= 1
     return wanted

@@ -1,7 +1,7 @@
 """A part's log in etcd: batches of entries, each under a key that names the place of its first entry.
 
 A batch begins with the revision at which its leadership's key was created and with the batch's number, so that a leader knows its own
-again. Behind that stand its entries, each behind its length. Numbers are big-endian.
+again. After that stand its entries, each after its length. Numbers are big-endian.
 """
 
 from __future__ import annotations
@@ -63,6 +63,6 @@ def end(part: int) -> str:
 
 
 def part_and_place(a_key: str) -> Tuple[int, int]:
-    """Raises ValueError where it is no key of a log."""
+    """Raises ValueError if it is no key of a log."""
     part, place = a_key[len(LOGS) :].split("/")
     return int(part), int(place)

@@ -1,4 +1,4 @@
-"""A client of etcd, over the JSON gateway that etcd has beside gRPC: POST requests to `/v3/..`, keys and values in base64, numbers of 64
+"""A client of etcd, over the JSON gateway that etcd has besides gRPC: POST requests to `/v3/..`, keys and values in base64, numbers of 64
 bits as texts.
 
 Whatever has no answer may have been done, or may be done later. So all that is written here is written by transactions that may be sent
@@ -41,7 +41,7 @@ class Refused(Exception):
 
 
 class NoRoom(Refused):
-    """The quota of etcd's data is reached. (It says so of a transaction that it did, too, where that reached the quota.)"""
+    """The quota of etcd's data is reached. (It says so of a transaction that it did, too, if that reached the quota.)"""
 
 
 class _Broken(Exception):
@@ -126,7 +126,7 @@ class Txn(NamedTuple):
 
 
 class Etcd:
-    """The nodes of one etcd. Each request goes to the node that answered last, and where that has no answer to each other one as well: the first
+    """The nodes of one etcd. Each request goes to the node that answered last, and if that has no answer to each other one as well: the first
     answer counts. Says when none has one, and when one has one again."""
 
     def __init__(self, addresses: Sequence[Address], keeps_history: bool = False) -> None:
@@ -177,7 +177,7 @@ class Etcd:
         return Range(int(answer["header"]["revision"]), pairs, bool(answer.get("more")))
 
     async def txn(self, compare: List[Message], success: List[Message], failure: Sequence[Message] = ()) -> Txn:
-        """A transaction. It may be done twice, so its comparisons have to fail where it was done once."""
+        """A transaction. It may be done twice, so its comparisons have to fail if it was done once."""
         try:
             answer = await self.call("kv/txn", {"compare": compare, "success": success, "failure": [*failure]})
         except NoRoom as why:
@@ -232,7 +232,7 @@ class _Stream:
         self._lines = connection.lines()
 
     async def events(self) -> List[Event]:
-        """The next events, or none. Raises Unanswered at the end, and where etcd ends it: what was to be told is compacted, for instance."""
+        """The next events, or none. Raises Unanswered at the end, and if etcd ends it: what was to be told is compacted, for instance."""
         try:
             message = json.loads(await self._lines.__anext__())
         except (StopAsyncIteration, EOFError, OSError, ValueError, _Broken) as why:

@@ -1,7 +1,7 @@
 """What a part's log tells, once it is applied, in its order: to the committed offsets and the watch of this broker, whether it leads the part or
 follows. So a broker that begins to lead shows the members, and what they committed.
 
-No reply waits for it. What is long isn't told, and where more comes than can be told, that isn't either: it is counted.
+No reply waits for it. What is long isn't told, and if more comes than can be told, that isn't either: it is counted.
 """
 
 from __future__ import annotations
@@ -18,7 +18,7 @@ from broker.turns import Pace, Turns
 from broker.versions import CONSUMER_GROUP_HEARTBEAT, OFFSET_COMMIT
 from broker.watch import Watch
 
-# Where a frame's body begins in its entry: behind version, kind, leadership, connection, number and moment.
+# Where a frame's body begins in its entry: after version, kind, leadership, connection, number and moment.
 BODY = 2 + 2 + 4 + 4 + 8 + 8
 # What came of a snapshot.
 RESTORED = object()

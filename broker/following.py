@@ -13,9 +13,9 @@ from broker.trouble import Trouble
 
 # How many batches are read at a time at first, and how many bytes about that may be.
 FIRST_LIMIT, READ_BYTES = 16, 4 << 20
-# How much of what the watch brings may wait. Where more does, it is read again.
+# How much of what the watch brings may wait. If more does, it is read again.
 MOST_ARRIVED = 1_000
-# A session is over after 45 s without a heartbeat: behind a tick that is so much later than the last frame, no member is left.
+# A session is over after 45 s without a heartbeat: after a tick that is so much later than the last frame, no member is left.
 SESSION_MS = 60_000
 
 
@@ -33,7 +33,7 @@ class Follower:
         # The last place that is applied, and the last that the log is known to have; how many bytes the batches up to there have; whether all
         # that the log had at the start is applied.
         self.place = self.head = self.logged = 0
-        # The place of the snapshot that it last went on from; 0 where it has met none.
+        # The place of the snapshot that it last went on from; 0 if it has met none.
         self.restored = 0
         self.has_read_up = asyncio.Event()
         # Whether there have been topics among the applied entries; and the log's moments at the last frame and at the last tick.
@@ -59,7 +59,7 @@ class Follower:
     # ---- applying
 
     async def follow(self) -> None:
-        """Applies all that is known of the log. Raises Stopped; and Unanswered and Refused, where it is to be done again."""
+        """Applies all that is known of the log. Raises Stopped; and Unanswered and Refused, if it is to be done again."""
         if self._is_behind:
             await self.read_up()
         while self._arrived:
@@ -71,7 +71,7 @@ class Follower:
         self.has_read_up.set()
 
     async def read_up(self) -> None:
-        """Reads all that the log has, and applies it. Begins with the last snapshot, and again where the log is cut meanwhile. Raises as
+        """Reads all that the log has, and applies it. Begins with the last snapshot, and again if the log is cut meanwhile. Raises as
         `follow` does."""
         self._is_behind = True
         if not self.place:
@@ -102,7 +102,7 @@ class Follower:
                 await asyncio.to_thread(self.replica.restore, whole)
                 break
             except ValueError as why:
-                # (Where the leader has written another one meanwhile, that is read.)
+                # (If the leader has written another one meanwhile, that is read.)
                 if last and last.value == value:
                     raise Stopped(f"the snapshot is refused: {why}") from None
                 value = last and last.value
@@ -115,7 +115,7 @@ class Follower:
         return True
 
     async def _read(self) -> Range:
-        """The next batches: twice as many as the last time, or half as many where that took too long."""
+        """The next batches: twice as many as the last time, or half as many if that took too long."""
         try:
             found = await self.etcd.range(batches.key(self.number, self.place + 1), batches.end(self.number), self._limit)
         except Unanswered:
@@ -168,7 +168,7 @@ class Follower:
     # ---- what etcd has against a request
 
     def has_failed(self, why: Exception) -> None:
-        """Says why etcd refuses a request, where nobody else says it, as of a lease that is over."""
+        """Says why etcd refuses a request, if nobody else says it, as of a lease that is over."""
         if isinstance(why, Refused) and not isinstance(why, NoRoom) and why.code != NOT_FOUND:
             self._refused.is_there(str(why))
 

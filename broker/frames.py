@@ -29,7 +29,7 @@ class BadFrame(Exception):
 async def read_body(
     stream: asyncio.StreamReader, sizes: range = REQUEST_SIZES, held: Callable[[int], ContextManager[None]] = lambda _: contextlib.nullcontext()
 ) -> Optional[bytes]:
-    """The body of the next frame, or None where the stream ends before it. Raises BadFrame, and ConnectionError. Room is
+    """The body of the next frame, or None if the stream ends before it. Raises BadFrame, and ConnectionError. Room is
     held while it is read."""
     try:
         first = await stream.readexactly(SIZE)
@@ -88,7 +88,7 @@ class Request:
 
 
 def read_request(body: bytes, pace: Pace) -> Request:
-    """Reads a request's header. Raises Unreadable, also where the API or its version isn't spoken here."""
+    """Reads a request's header. Raises Unreadable, also if the API or its version isn't spoken here."""
     fields = Reader(body, pace)
     key, version, correlation, client = fields.int16(), fields.int16(), fields.int32(), fields.nullable_string()
     spoken = SPOKEN.get(key)

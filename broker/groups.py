@@ -136,7 +136,7 @@ class Groups:
         self.unwatched += 1
 
     def has_heard(self, steady: Steady, now: float) -> bool:
-        """Takes a heartbeat that changes nothing, where that is so by what is known."""
+        """Takes a heartbeat that changes nothing, if that is so by what is known."""
         group = self.groups.get(steady.group)
         member = group.members.get(steady.member) if group else None
         if member is None or member.epoch != steady.epoch or member.is_away:
@@ -145,7 +145,7 @@ class Groups:
         return True
 
     def _after(self, member: Member, asked: Asked, told: Told, now: float) -> Member:
-        """The member behind the heartbeat."""
+        """The member after the heartbeat."""
         after = dataclasses.replace(member, epoch=told.epoch, is_away=False, heard=now)
         if asked.epoch == JOIN:
             after.instance, after.held = asked.instance, NOTHING
@@ -190,7 +190,7 @@ class Groups:
             yield "its topic names are null in a join"
 
     def other_epoch(self, group: str, member: str, epoch: int) -> Iterator[str]:
-        """At which epoch a member is, where that isn't this one."""
+        """At which epoch a member is, if that isn't this one."""
         known = self.groups[group].members.get(member) if group in self.groups else None
         if known is not None and known.epoch != epoch:
             yield f"the member is at {known.epoch}"
@@ -239,7 +239,7 @@ class Groups:
         return next((each for each in group.members.values() if each.is_away and each.instance == asked.instance), None)
 
     def _keep(self, group: Group, member: Member) -> bool:
-        """Keeps a member in its place. Where there is no room, it isn't known any more."""
+        """Keeps a member in its place. If there is no room, it isn't known any more."""
         former = group.members.get(member.id)
         more = member.weight() - (former.weight() if former else 0)
         if self.weight + more > MOST_WEIGHT:
@@ -251,7 +251,7 @@ class Groups:
         return True
 
     def _remove(self, group: Group, member_id: str) -> None:
-        """Takes a member out, and its group where it was the last one."""
+        """Takes a member out, and its group if it was the last one."""
         member = group.members.pop(member_id, None)
         if member is not None:
             self.weight -= member.weight()
@@ -275,7 +275,7 @@ class Groups:
         return Partitions(known), in_words(Partitions(strange)) if strange else ""
 
     def _change(self, group: Group, member: str, epoch: int, phrases: List[str], now: float) -> Change:
-        """A change after which a group isn't settled begins a rebalance, where none is under way. One that moves nothing takes no time."""
+        """A change after which a group isn't settled begins a rebalance, if none is under way. One that moves nothing takes no time."""
         group.changed, group.waits_for = now, None
         began = now if group.since is None else group.since
         is_settled = group.is_settled(self.topics) if group.members else None

@@ -5,7 +5,7 @@ leadership is there as it was created, and the batch's place is free. Only then 
 whatever was stopped, cut off or slow on the way: nobody gets an answer that isn't in the log.
 
 An append without an answer may have been done, or may be done later. It is sent again, the same bytes at the same place, until etcd says
-which: it is there (the same value is at its place), or the leadership is gone, after which it can't be done any more. Where the leadership
+which: it is there (the same value is at its place), or the leadership is gone, after which it can't be done any more. If the leadership
 ends before that is known, nothing of it is applied or answered, and this broker reads the log as any follower does.
 
 **Frames are taken over connections alone that their clients opened after the leadership was won.** What came to the log under an earlier leadership
@@ -45,7 +45,7 @@ Reply = Optional["asyncio.Future[Optional[bytes]]"]
 
 
 class Waiting(NamedTuple):
-    """A frame that waits to be put into the log; who waits for its reply, or for None where its connection is to be closed; and since when."""
+    """A frame that waits to be put into the log; who waits for its reply, or for None if its connection is to be closed; and since when."""
 
     body: bytes
     connection: int
@@ -157,7 +157,7 @@ class Leadership:
             while not woken.done() and not self._over.done() and (left := self._seconds_to_tick(ALONE_SECONDS)) > 0:
                 timeout = None if left == math.inf else min(left, TICK_SECONDS)
                 await asyncio.wait({woken, self._over}, timeout=timeout, return_when=asyncio.FIRST_COMPLETED)
-                # (It stands still where nobody looks at it.)
+                # (It stands still if nobody looks at it.)
                 self._clock.now()
         finally:
             woken.cancel()
@@ -212,7 +212,7 @@ class Leadership:
         return waiting
 
     def _proposed(self, waiting: List[Waiting]) -> Tuple[List[bytes], List[Reply]]:
-        """The entries of a batch, each with who waits for it. A tick is among them where it is time for one, and somebody may be removed by that."""
+        """The entries of a batch, each with who waits for it. A tick is among them if it is time for one, and somebody may be removed by that."""
         entries: List[bytes] = []
         replies: List[Reply] = []
         clock = self._clock.now()
@@ -229,12 +229,12 @@ class Leadership:
         return entries, replies
 
     def _seconds_to_tick(self, every: float) -> float:
-        """In how many seconds a tick is due; never, where there can be no member."""
+        """In how many seconds a tick is due; never, if there can be no member."""
         return self._ticked + every - time.monotonic() if self._follower.may_have_members() else math.inf
 
     async def _append(self, entries: List[bytes]) -> None:
-        """Returns once the entries are in the log, in one batch; or, where there are none, once etcd says that the leadership goes on. Raises
-        Deposed where neither is known to be so."""
+        """Returns once the entries are in the log, in one batch; or, if there are none, once etcd says that the leadership goes on. Raises
+        Deposed if neither is known to be so."""
         began = time.monotonic()
         compare, success, failure, value = [self._is_led], [], [], b""
         if entries:
@@ -249,7 +249,7 @@ class Leadership:
         self._measures.appended(len(entries), len(value), time.monotonic() - began)
 
     async def _until_answered(self, ask: Callable[[], Awaitable[Result]]) -> Result:
-        """What etcd answers, which is asked again until it does. Whoever has waited for long meanwhile gives up. Raises Deposed where the
+        """What etcd answers, which is asked again until it does. Whoever has waited for long meanwhile gives up. Raises Deposed if the
         leadership is over first."""
         while True:
             try:
@@ -263,7 +263,7 @@ class Leadership:
                 await self._unless_over(asyncio.sleep(AGAIN_SECONDS))
 
     async def _unless_over(self, work: Awaitable[Result]) -> Result:
-        """What the work gives. Raises Deposed where the leadership is over first."""
+        """What the work gives. Raises Deposed if the leadership is over first."""
         task = asyncio.ensure_future(work)
         try:
             await asyncio.wait({task, self._over}, return_when=asyncio.FIRST_COMPLETED)

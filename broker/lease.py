@@ -10,7 +10,7 @@ from broker.etcd import NOT_FOUND, Etcd, Refused, Unanswered
 from broker.trouble import Trouble
 
 # How many times it is prolonged in its time; after which part of its time another node of etcd is asked for that as well; and for which part of its
-# time more it is waited for: where etcd elects a leader, which prolongs all leases, nobody hears of that at once.
+# time more it is waited for: if etcd elects a leader, which prolongs all leases, nobody hears of that at once.
 TIMES, ANSWER_PART, MORE = 6, 0.2, 1 / 3
 REVOKE_SECONDS = 1.0
 

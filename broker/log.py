@@ -43,7 +43,7 @@ class Log:
         return self.end_offset() + int(self._ahead * self.rate)
 
     def seconds_until(self, offset: int) -> float:
-        """In how many seconds there is a record at this offset; 0 where there is one."""
+        """In how many seconds there is a record at this offset; 0 if there is one."""
         if offset < self.end_offset():
             return 0.0
         if not self.rate:

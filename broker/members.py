@@ -16,11 +16,10 @@ from broker.measures import Measures
 from broker.part import LEADERS, Leader, Part
 from broker.settings import BROKERS, KEY, Settings, decoded
 from broker.snapshots import LAST
-from broker.starter import Ended
 from broker.streams import first_done, within
-from broker.trouble import Trouble
+from broker.trouble import Ended, Trouble
 
-# What is watched: CLUSTER, and behind it the logs.
+# What is watched: CLUSTER, and after it the logs.
 ALL, ALL_END = "migwelun/cluster/", "migwelun/log0"
 CLUSTER, CLUSTER_END = "migwelun/cluster/", "migwelun/cluster0"
 NUMBERS = "migwelun/cluster/numbers/"
@@ -133,7 +132,7 @@ class Members:
     # ---- what etcd has
 
     async def watch(self) -> None:
-        """Learns of all that changes, for ever. Raises Ended where the cluster is another one suddenly."""
+        """Learns of all that changes, for ever. Raises Ended if the cluster is another one suddenly."""
         while True:
             try:
                 await self._watch()
@@ -142,12 +141,12 @@ class Members:
                 await asyncio.sleep(AGAIN_SECONDS)
 
     async def _watch(self) -> None:
-        """Reads all there is, and then what changes. It ends where the watch does: whatever was missed is read then."""
+        """Reads all there is, and then what changes. It ends if the watch does: whatever was missed is read then."""
         found = await self._etcd.range(CLUSTER, CLUSTER_END)
         self._see_all(found.pairs, found.revision)
         seen = found.revision
         async with self._etcd.watch(ALL, ALL_END, found.revision + 1) as stream:
-            # (What was appended until that revision is read, and what comes behind it is watched.)
+            # (What was appended until that revision is read, and what comes after it is watched.)
             for part in self._parts:
                 part.look_again()
             while True:
@@ -236,7 +235,7 @@ class Members:
         wanted = balance.targets(self.brokers, leaders, len(self._parts), stopped)
         is_member, calm = self.is_member(), time.monotonic() - self._moved
         for part in self._parts:
-            # (Where who is to lead it doesn't for long, whoever can does.)
+            # (If who is to lead it doesn't for long, whoever can does.)
             is_late = calm > 2 * self._lease.seconds
             part.want(is_member and not part.fault and part.leader is None and (is_late or wanted.get(part.number) == self.number))
         surplus = [part for part in self._parts if part.serves and wanted.get(part.number) != self.number]

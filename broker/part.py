@@ -89,7 +89,7 @@ class Part:
     def arrived(self, place: int, value: bytes) -> None:
         """The log has this batch at a place."""
         self.follower.head = max(self.follower.head, place)
-        # (Where this broker leads, what isn't its own comes behind its leadership, and is read then.)
+        # (If this broker leads, what isn't its own comes after its leadership, and is read then.)
         if self._leadership is None:
             self.follower.arrived(place, value)
             self._wake.set()
@@ -140,7 +140,7 @@ class Part:
     # ---- its course
 
     async def run(self) -> None:
-        """Follows, and leads when it is its turn, for ever. Where the log can't be applied any further it says so, and waits for a snapshot."""
+        """Follows, and leads when it is its turn, for ever. If the log can't be applied any further it says so, and waits for a snapshot."""
         while True:
             try:
                 await self._follow_or_lead()
@@ -154,7 +154,7 @@ class Part:
                 say(f"part {self.number} is tried again, since it has another snapshot")
 
     async def _wait_for_snapshot(self) -> None:
-        """Until another snapshot is named, of a later place than what is applied. Meanwhile others lead: also where this broker comes to lead by a
+        """Until another snapshot is named, of a later place than what is applied. Meanwhile others lead: also if this broker comes to lead by a
         request that is done late."""
         place = max(self.snapshot.place, self.follower.place)
         while self.snapshot.place <= place:
@@ -184,7 +184,7 @@ class Part:
         return self._lease.is_held() and (self.is_wanted and self.leader is None or is_own)
 
     async def _win(self) -> int:
-        """Tries to become the leader: the revision of its leadership, or 0 where another one leads. Where the key is there already under this
+        """Tries to become the leader: the revision of its leadership, or 0 if another one leads. If the key is there already under this
         broker's lease, it is that of an earlier try."""
         lease = self._lease.id
         found = await self._lease.etcd.txn([created_at(self._key, 0)], [put(self._key, str(self._broker).encode(), lease)], [get(self._key)])
@@ -219,7 +219,7 @@ class Part:
                 self.tell(f"part {self.number} has no leader")
 
     async def _leave_to_others(self) -> None:
-        """Deletes the key that says that this broker leads, where there is one under its lease."""
+        """Deletes the key that says that this broker leads, if there is one under its lease."""
         while self._lease.is_held():
             with contextlib.suppress(Unanswered, Refused):
                 found = await self._lease.etcd.txn([created_at(self._key, 0)], [], [get(self._key)])

@@ -15,7 +15,7 @@ MOST_BYTES = 64 << 20
 
 
 class Record:
-    """Numbers the connections and, where it is written to a file, has a line for each thing that passes."""
+    """Numbers the connections and, if it is written to a file, has a line for each thing that passes."""
 
     def __init__(self, write: Optional[Write] = None, topics: Iterable[Topic] = ()) -> None:
         self._opened = 0

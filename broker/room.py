@@ -16,7 +16,7 @@ class CutOff(Exception):
 
 
 class Room:
-    """Bytes that are held for connections, at most so many of all together. Where more are wanted, the connection that has held some for the
+    """Bytes that are held for connections, at most so many of all together. If more are wanted, the connection that has held some for the
     longest time is cut off."""
 
     def __init__(self, most_bytes: int) -> None:
@@ -27,7 +27,7 @@ class Room:
 
     @contextlib.contextmanager
     def held(self, writer: asyncio.StreamWriter, size: int) -> Iterator[None]:
-        """Holds so many bytes for a connection until the block ends, which then raises CutOff where it was cut off. Few bytes aren't counted."""
+        """Holds so many bytes for a connection until the block ends, which then raises CutOff if it was cut off. Few bytes aren't counted."""
         if size <= FEW_BYTES:
             yield
             return

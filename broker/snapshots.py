@@ -12,9 +12,9 @@ from typing import List, NamedTuple, Optional
 from broker import batches
 from broker.etcd import Etcd, KeyValue
 
-# The keys that name the last snapshot of each part. Every broker watches them; nobody watches the pieces, which are behind all that is watched.
+# The keys that name the last snapshot of each part. Every broker watches them; nobody watches the pieces, which come after all that is watched.
 LAST, PIECES = "migwelun/cluster/snapshots/", "migwelun/snapshot/"
-# How much of a log there is to a snapshot, where nothing else is said, and how much a piece has.
+# How much of a log there is to a snapshot, if nothing else is said, and how much a piece has.
 BYTES, PIECE_BYTES = 4 << 20, 512 << 10
 DIGITS = 6
 
@@ -68,7 +68,7 @@ async def last_of(etcd: Etcd, part: int) -> Optional[KeyValue]:
 
 
 async def read(etcd: Etcd, part: int, snapshot: Snapshot) -> bytes:
-    """The bytes of a snapshot. Raises BadSnapshot, also where another one has taken its place meanwhile; Unanswered and Refused."""
+    """The bytes of a snapshot. Raises BadSnapshot, also if another one has taken its place meanwhile; Unanswered and Refused."""
     pieces: List[bytes] = []
     for number in range(snapshot.pieces):
         key = piece_key(part, snapshot.place, number)

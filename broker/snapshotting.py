@@ -1,11 +1,11 @@
 """How a part's leader writes snapshots, and cuts the log.
 
 The leader writes one once the log has grown by so many bytes since the last one. While what the replica has come to is written down nothing is
-applied; that comes to etcd beside everything else, piece by piece, and **what is written last is the key that names it**. Only then the log
+applied; that comes to etcd besides everything else, piece by piece, and **what is written last is the key that names it**. Only then the log
 is cut, up to the snapshot before: a follower that is a little behind finds its next entry, and one whose entry is gone begins with the snapshot.
 Everything is written by transactions that fail unless the key of the leadership is there, and the last snapshot is the one that the leader
 knows: so none does anything that is done after the next snapshot is named. What is deleted stands before the snapshot before: later ones are never
-among it, whenever it is done. Where a leader ends in the middle, its pieces are named by nobody, and the next leader deletes them.
+among it, whenever it is done. If a leader ends in the middle, its pieces are named by nobody, and the next leader deletes them.
 """
 
 from __future__ import annotations
@@ -42,7 +42,7 @@ class Writer:
         self._unwritten = Trouble(f"part {self._number} has no further snapshot, and its log grows", f"part {self._number} has snapshots again")
 
     async def begin(self) -> None:
-        """Learns of the last snapshot, and deletes what a leader before this one left. Raises Deposed; and Stopped where there is one that this
+        """Learns of the last snapshot, and deletes what a leader before this one left. Raises Deposed; and Stopped if there is one that this
         broker can't read, since it can't tell what else belongs to that."""
         found = await self._ask(lambda: last_of(self._etcd, self._number))
         try:
@@ -53,7 +53,7 @@ class Writer:
         self._beside = asyncio.ensure_future(_until_deposed(self._tidy_up(self._follower.place + 1)))
 
     async def look(self) -> None:
-        """Writes one where it is time, and returns once the replica may go on."""
+        """Writes one if it is time, and returns once the replica may go on."""
         is_due = self._follower.logged - self._tried >= max(self._log_bytes, self._last.size)
         if not is_due or self._beside and not self._beside.done():
             return

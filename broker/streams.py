@@ -37,7 +37,7 @@ async def within(seconds: float, work: Awaitable[Result]) -> Result:
 
 
 async def taken(writer: asyncio.StreamWriter, seconds: float) -> None:
-    """Waits until the other side has taken what was written, or raises asyncio.TimeoutError where it takes no byte for so long."""
+    """Waits until the other side has taken what was written, or raises asyncio.TimeoutError if it takes no byte for so long."""
     if not writer.transport.get_write_buffer_size():
         return
     left = _left(writer)

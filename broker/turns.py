@@ -16,13 +16,13 @@ from typing import Iterable, List, Tuple, TypeVar
 
 Item = TypeVar("Item")
 # How many entries or records a piece has, each of which takes some ten microseconds, and how many work may have before it has to take turns.
-# (They are counted, since a clock goes on while the machine does other things.) And how long the pause behind a piece is.
+# (They are counted, since a clock goes on while the machine does other things.) And how long the pause after a piece is.
 PIECE, FREE = 200, 100
 PAUSE_SECONDS = 0.001
 ITEMS = 16
 # So many pieces are few.
 FEW = 2
-# Whether work is long, and a number in the order of coming: each time, or once where it is long.
+# Whether work is long, and a number in the order of coming: each time, or once if it is long.
 Place = Tuple[bool, int]
 
 
@@ -48,7 +48,7 @@ class Turns:
             _, turn = heapq.heappop(self._waiting)
             if not turn.done():
                 turn.set_result(None)
-                # (What is called behind this is called behind the piece.)
+                # (What is called after this is called after the piece.)
                 loop = asyncio.get_running_loop()
                 loop.call_soon(loop.call_later, PAUSE_SECONDS, self._next)
                 return
@@ -63,7 +63,7 @@ class Pace:
         self._pieces, self._left = 0, FREE
 
     async def pause(self, entries: int = 1) -> None:
-        """Takes a turn, where that is due for so many entries more."""
+        """Takes a turn, if that is due for so many entries more."""
         self._left -= entries
         if self._left >= 0:
             return

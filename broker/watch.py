@@ -21,7 +21,7 @@ EXPIRY_SECONDS = 0.5
 
 
 class Watch:
-    """What passes is told by whoever answers it; or, where there is a log of it, by all who apply that. Then lines and counts are of what
+    """What passes is told by whoever answers it; or, if there is a log of it, by all who apply that. Then lines and counts are of what
     was answered here (`is_here`), and a member is removed when the log has it so."""
 
     def __init__(
@@ -49,7 +49,7 @@ class Watch:
             self._changed(change, is_here)
 
     def has_heard(self, steady: heartbeats.Steady, is_here: bool = True) -> bool:
-        """Takes a heartbeat that changes nothing, where that is so by what is known."""
+        """Takes a heartbeat that changes nothing, if that is so by what is known."""
         if not self.groups.has_heard(steady, self.clock()):
             return False
         if is_here:

@@ -1,4 +1,4 @@
-"""Fetch (key 1, versions 4 to 11): the records from an offset on. It waits for some where there are none yet."""
+"""Fetch (key 1, versions 4 to 11): the records from an offset on. It waits for some if there are none yet."""
 
 from __future__ import annotations
 

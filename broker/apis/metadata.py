@@ -18,7 +18,7 @@ NOT_TOLD = int32(-(1 << 31))
 
 
 class Asked(NamedTuple):
-    """A topic that is asked for, by its name, or by its id where the name is null."""
+    """A topic that is asked for, by its name, or by its id if the name is null."""
 
     id: uuid.UUID
     name: Optional[str]

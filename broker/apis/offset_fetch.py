@@ -14,7 +14,7 @@ from broker.frames import Reply
 from broker.link import CoordinatorClosed
 from broker.offsets import NOTHING, Committed
 
-# What a code of that commit means here, where it isn't the answer itself.
+# What a code of that commit means here, if it isn't the answer itself.
 MEANINGS = {codes.UNKNOWN_TOPIC_OR_PARTITION: codes.NONE, codes.GROUP_ID_NOT_FOUND: codes.UNKNOWN_MEMBER_ID}
 
 

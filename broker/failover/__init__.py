@@ -8,9 +8,9 @@ member       a consumer that is played
 faults       the faults, as a table
 latecomers   those by requests that come late
 waits        how long programs had to wait for the machine
-logs         the logs in etcd, run through the library, beside the frames that passed
+logs         the logs in etcd, run through the library, compared with the frames that passed
 run          consumers in groups, the faults brought to them, and what must hold
 speed        how fast brokers over etcd are
 
-planted.txt has faults that are planted in brokers, and have to be found. The modules of tools/ that it uses are there where the tool starts it.
+planted.txt has faults that are planted in brokers, and have to be found. The modules of tools/ that it uses are there if the tool starts it.
 """

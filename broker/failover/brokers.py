@@ -24,7 +24,7 @@ from conformance.messages import FIND_COORDINATOR, find_coordinator_fields, fram
 from broker.failover.etcds import Etcds, text
 from broker.failover.wires import PASSES, REFUSED, SOAK, SOAK_FRAMES, Fate, Gate, Late, Wire, dice
 
-# How many brokers there are, how many there may be where one is added, and into how many parts the groups are divided.
+# How many brokers there are, how many there may be if one is added, and into how many parts the groups are divided.
 BROKERS, SLOTS, PARTS = 3, 4, 6
 # How much of a log there is to a snapshot: the least that brokers take.
 SNAPSHOT_BYTES = 65_536
@@ -36,7 +36,7 @@ class Gone(Exception):
 
 
 class Channel:
-    """A client's connection to a broker. Where a reply doesn't come in time it stays open for whatever may still come, until the broker closes it."""
+    """A client's connection to a broker. If a reply doesn't come in time it stays open for whatever may still come, until the broker closes it."""
 
     left: Set["asyncio.Future[None]"] = set()
 
@@ -87,14 +87,14 @@ class Brokers(Programs):
         self.late, self.longest, self.dropped = Late(), longest, 0
         self.wires = [[Wire(port, self.late) for port in etcds.clients] for _ in doors]
         self.gates = [Gate(port, self.late) for port in self.fronts]
-        # What becomes of requests and frames where no fault says otherwise; and who has a consumer of its own play: a group, and a name.
+        # What becomes of requests and frames if no fault says otherwise; and who has a consumer of its own play: a group, and a name.
         self.usual: Tuple[Callable[[str, str], Fate], Callable[[], Fate]] = (lambda kind, key: Fate(PASSES), lambda: Fate(PASSES))
         self.play: Callable[[str, str], Any] = lambda group, name: None
 
     async def begin(self) -> None:
         for each in [*sum(self.wires, []), *self.gates]:
             await each.listen()
-        self.relay(self.ports.numbers[-1], [f"client:{door[1]}:{gate.port}" for door, gate in zip(self.doors, self.gates)])
+        self.relay(self.ports.numbers[-1], [f"{door[1]}:{gate.port}" for door, gate in zip(self.doors, self.gates)])
         await asyncio.gather(*map(self.start_one, range(BROKERS)))
 
     async def start_one(self, slot: int) -> None:
@@ -183,7 +183,7 @@ class Brokers(Programs):
         """The parts that can't be made again of what is in etcd: the last snapshot isn't whole, or the log doesn't go on after it."""
         found, last, pieces = [], self.snapshots(), self.etcds.pairs(PIECES)
         first = {part: self.etcds.first(batches.key(part, it.place + 1), batches.end(part)) for part, it in last.items()}
-        # (Where another one was named meanwhile, this one may be gone.)
+        # (If another one was named meanwhile, this one may be gone.)
         for part, it in self.snapshots().items():
             keys = [piece_key(part, it.place, number) for number in range(it.pieces)]
             whole = b"".join(pieces.get(key, b"") for key in keys)
@@ -195,7 +195,7 @@ class Brokers(Programs):
         return found
 
     def restored(self, slot: int) -> Dict[int, int]:
-        """The place of the snapshot that a broker's replica of each part went on from, where it has met one."""
+        """The place of the snapshot that a broker's replica of each part went on from, if it has met one."""
         return {part["part"]: part["restored"] for part in json.loads(self.page(slot))["parts"] if part["restored"]}
 
     def stopped(self) -> List[str]:
@@ -217,7 +217,7 @@ class Brokers(Programs):
         raise Gone
 
     def leadership(self, part: int) -> int:
-        """The revision at which a part's leadership was created, where its broker takes requests; else 0."""
+        """The revision at which a part's leadership was created, if its broker takes requests; else 0."""
         found = self.etcds.any("kv/range", key=text(f"{LEADERS}{part}".encode())).get("kvs", [])
         for slot in self.slots() if found else ():
             with contextlib.suppress(OSError):

@@ -28,7 +28,7 @@ async def at_once(_: Brokers, __: int) -> None:
 
 class Fault(NamedTuple):
     """`act` brings it to the broker in a slot, once `comes` has returned, and takes it away again. Then a group may have had no answer for the
-    lease and `most` seconds; and where it has `least`, for that long none may have had one."""
+    lease and `most` seconds; and if it has `least`, for that long none may have had one."""
 
     does: str
     act: Callable[[Brokers, int], Awaitable[None]]

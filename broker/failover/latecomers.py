@@ -18,7 +18,7 @@ from broker.failover.wires import KEYS, KINDS, LATE, LEAST_SECONDS, MOST_SECONDS
 from broker.part import LEADERS
 from clients.stand import HOST, Failed
 
-# Within how long each kind of request has been made, where brokers come and go and snapshots are written.
+# Within how long each kind of request has been made, if brokers come and go and snapshots are written.
 MET_SECONDS, TWICE_SECONDS = 120, 30
 # For which part of the longest time packets are dropped. TCP sends them again after as long once more, at most.
 DROPPED_PART, MOST_DROPPED_SECONDS = 0.4, 8.0
@@ -28,7 +28,7 @@ GRANT_SECONDS = 3.0
 TCP_RTO_MAX_MS, COME_SECONDS = 44, 2.5
 # How long at most until packets of another connection are dropped in a soak.
 MOST_BETWEEN_SECONDS = 20.0
-# What is done to snapshots, and what the late one is done behind: the next request of this kind for the same part.
+# What is done to snapshots, and what the late one is done after: the next request of this kind for the same part.
 BEHIND = {"piece": ("name",), "name": ("piece", "name"), "tidy": ("piece", "name"), "cut": ("name",)}
 SLOW = {*BEHIND, "compact"}
 SETTLE_SECONDS, AWAY_SECONDS, SHORT_SECONDS = 120.0, 4.0, 0.3
@@ -178,7 +178,7 @@ class Held(NamedTuple):
 
 
 async def held_back(it: Brokers, frames: List[bytes], by: str) -> Held:
-    """Sends frames to each broker, over a connection that is open for it, or whose opening is under way, where packets of that are dropped too."""
+    """Sends frames to each broker, over a connection that is open for it, or whose opening is under way, if packets of that are dropped too."""
     held = Held([], frames, [])
     it.late.frames += frames
     for slot in it.slots():
@@ -187,7 +187,7 @@ async def held_back(it: Brokers, frames: List[bytes], by: str) -> Held:
             held.dropped.append(packets.but_the_first(port))
             packets.drop(held.dropped[-1])
         channel = await Channel.open((HOST, it.fronts[slot]), SHORT_SECONDS, port)
-        # (Where the system can't do it, they may come only as much later as they were held back.)
+        # (If the system can't do it, they may come only as much later as they were held back.)
         with contextlib.suppress(OSError):
             channel.writer.get_extra_info("socket").setsockopt(socket.IPPROTO_TCP, TCP_RTO_MAX_MS, 1_000)
         held.channels.append(channel)

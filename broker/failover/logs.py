@@ -11,7 +11,7 @@ import time
 from typing import Any, Counter, Deque, Dict, List, Optional, Set, Tuple
 
 from broker.batches import LOGS, decode, part_and_place
-from broker.embedded import module
+from broker.library import module
 from broker.failover.etcds import Etcds, call, opened, text
 from broker.failover.member import NOT_HERE
 from broker.settings import KEY
@@ -46,12 +46,12 @@ class Logs:
         self.revision, self.ends = 0, False
         # How many bytes the batches of each part have.
         self.sizes: Counter[int] = collections.Counter()
-        # What each batch was, by its part and place: an append that is done late, behind the log's being cut there, puts the same one there again.
+        # What each batch was, by its part and place: an append that is done late, after the log was cut there, puts the same one there again.
         self.batches: Dict[Tuple[int, int], bytes] = {}
         # The replies to each request, as the logs make them; and what can't be.
         self.replies: Dict[Ask, List[bytes]] = collections.defaultdict(list)
         self.faults: List[str] = []
-        # Requests of members that leave: where the first one's answer takes long there is another one, which is told 25.
+        # Requests of members that leave: if the first one's answer takes long there is another one, which is told 25.
         self.leaves: Set[Ask] = set()
         threading.Thread(target=self.follow, daemon=True).start()
 
@@ -105,7 +105,7 @@ class Logs:
 
     @staticmethod
     def last(found: Dict[str, Any]) -> Tuple[int, int]:
-        """The revision of the last batch, or 0 where there is none; and etcd's."""
+        """The revision of the last batch, or 0 if there is none; and etcd's."""
         return max((int(it["mod_revision"]) for it in found.get("kvs", [])), default=0), int(found["header"]["revision"])
 
     def catch_up(self) -> None:

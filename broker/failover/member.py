@@ -25,7 +25,7 @@ NUMBERS = 1 << 20
 
 
 async def committed(channel: Channel, group: str, topic: str, indexes: Sequence[int], seconds: float = ANSWER_SECONDS) -> Dict[int, int]:
-    """The offsets that OffsetFetch gives; -1 where there is none. Raises Gone."""
+    """The offsets that OffsetFetch gives; -1 if there is none. Raises Gone."""
     frame = framed(header(OFFSET_FETCH, FETCH_VERSION, 1) + offset_fetch_fields(FETCH_VERSION, group, {topic: indexes}))
     found = read_offset_fetch_reply(reply_fields(OFFSET_FETCH, FETCH_VERSION, await channel.ask(frame, seconds))[1], FETCH_VERSION)
     if found.first_code():
@@ -89,7 +89,7 @@ class Member:
             await self.commit(self.channel)
 
     def takes(self, codes: List[int]) -> None:
-        """Takes note of an answer. Raises Gone where it came from a broker that doesn't coordinate the group."""
+        """Takes note of an answer. Raises Gone if it came from a broker that doesn't coordinate the group."""
         self.codes.update(codes)
         if {*codes} & {*NOT_HERE}:
             raise Gone

@@ -27,7 +27,7 @@ TOPIC = Topic("orders", "aaaaaaaa-0000-4000-8000-000000000001", 12)
 GROUPS, MEMBERS, ETCDS = tuple(f"g{number}" for number in range(5)), 4, 3
 WAIT_SECONDS, HOLD_SECONDS, POLL_SECONDS, LOOK_SECONDS, FETCH_SECONDS = 120.0, 1.0, 0.1, 1.0, 10.0
 # How often stock consumers commit. 2.8.0 puts its next heartbeat off at each commit, by up to 1 s once its coordinator has been away for some time:
-# where it commits more often, it sends no heartbeat any more.
+# if it commits more often, it sends no heartbeat any more.
 COMMIT_MS = {"trixie": 2_000, "sid": 500}
 # What stock consumers say while a broker isn't there, and what none may be told.
 BROKEN = ("TRANSPORT", "ALL_BROKERS_DOWN", "TIMED_OUT", "COORD", "RESOLVE", "Disconnected")
@@ -50,7 +50,7 @@ class Run(Crowd):
         self.acknowledged: Dict[Tuple[str, str], int] = {}
         self.committed_at: Dict[Tuple[str, str], float] = {}
         self.results: List[bool] = []
-        # How much longer an answer may take, where requests are lost and late all the time.
+        # How much longer an answer may take, if requests are lost and late all the time.
         self.slack = 0.0
 
     async def begin(self) -> None:
@@ -101,7 +101,7 @@ class Run(Crowd):
     async def until(self, holds: Callable[[], Union[bool, Awaitable[bool]]], what: str) -> None:
         began, waits_of = time.monotonic(), self.waits()
         while True:
-            # (Where one of ours has ended by a fault of its own, that is raised.)
+            # (If one of ours has ended by a fault of its own, that is raised.)
             for it in (it for it in self.played.values() if it.running.done()):
                 it.running.result()
             found = holds()
@@ -185,7 +185,7 @@ class Run(Crowd):
         took = max((it.moment - began for it in self.changes(began)), default=0.0)
         gaps = {it: self.gap(it, began) for it in GROUPS}
         slack = waits_of()
-        # (Where programs have to wait for the machine, it may take so much longer.)
+        # (If programs have to wait for the machine, it may take so much longer.)
         most = self.brokers.lease + fault.most + slack + self.slack
         for it, gap in gaps.items():
             self.want(fault.least <= gap <= most, f"{it} had no answer for {gap:.1f} s, where {fault.least:g} to {most:.1f} may be")

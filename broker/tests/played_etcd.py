@@ -35,7 +35,7 @@ def unpacked(text: str) -> str:
 class PlayedEtcd:
     def __init__(self) -> None:
         self.revision, self.leases = 1, 0
-        # For how many seconds each lease was granted; 0 where it is over.
+        # For how many seconds each lease was granted; 0 if it is over.
         self.seconds: Dict[str, str] = {}
         self.pairs: Dict[str, Message] = {}
         self.history: List[Message] = []

@@ -16,7 +16,7 @@ from broker.tests.support import data, small_cluster, until
 from broker.turns import Turns
 from broker.watch import Watch
 
-# The fields behind the epoch: instance, rack, timeout, names, assignor and partitions; and the reply's: the assignment.
+# The fields after the epoch: instance, rack, timeout, names, assignor and partitions; and the reply's: the assignment.
 NOTHING_NEW, NOTHING_TOLD = "00 00 ffffffff 00 00 00 00", "ff 00"
 ORDERS_0 = "01 02 11111111111111111111111111111111 02 00000000 00 00 00"
 STEADY = Steady("g", "m", 3)
@@ -73,7 +73,7 @@ class Short(unittest.TestCase):
 
 class Fed(unittest.IsolatedAsyncioTestCase):
     async def watched(self, *passed: Tuple[float, bytes, bytes]) -> Any:
-        """What is known of the group behind these heartbeats, each at a moment; and what was said and counted."""
+        """What is known of the group after these heartbeats, each at a moment; and what was said and counted."""
         now, lines = [0.0], []
         watch = Watch(small_cluster().topics, lines.append, lambda: now[0], has_log=True)
         feed = Feed(Offsets(), watch, Turns(), lambda *_: False)

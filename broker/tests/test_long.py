@@ -19,12 +19,12 @@ from broker.frames import framed
 from broker.offsets import Committed
 from broker.status import Status
 from broker.tests.support import HOST, SECONDS, Client, accept_all, front, small_cluster
-from broker.tests.test_relay import HEARTBEAT
+from broker.tests.test_connection import HEARTBEAT
 from broker.tests.test_status import get
 
 PARTITIONS = 50_000
 ENTRIES = 20_000
-# So many heartbeats are answered meanwhile at least. Where nobody gives others a turn it is none, or one that came before.
+# So many heartbeats are answered meanwhile at least. If nobody gives others a turn it is none, or one that came before.
 BEATS = 4
 # How long a busy machine may take for a long request.
 LONG_SECONDS = 180

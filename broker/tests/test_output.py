@@ -12,7 +12,7 @@ from broker import output
 from broker.output import Output
 from broker.record import Record
 from broker.tests.support import SECONDS, TOPIC, accept_all, data, front, small_cluster
-from broker.tests.test_relay import HEARTBEAT, JOIN_1, VERSIONS
+from broker.tests.test_connection import HEARTBEAT, JOIN_1, VERSIONS
 from broker.topics import read
 
 

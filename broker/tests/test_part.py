@@ -1,4 +1,4 @@
-"""A part of a cluster over etcd: what is appended, applied and answered, and what becomes of that where answers of etcd are lost."""
+"""A part of a cluster over etcd: what is appended, applied and answered, and what becomes of that if answers of etcd are lost."""
 
 from __future__ import annotations
 
@@ -131,7 +131,7 @@ class Running:
         await asyncio.gather(*self.tasks, return_exceptions=True)
 
     async def ask(self, body: str, since: Optional[float] = None) -> Optional[str]:
-        """The reply, or None where the connection is closed. It wasn't open before a moment, or is new."""
+        """The reply, or None if the connection is closed. It wasn't open before a moment, or is new."""
         since = time.monotonic() if since is None else since
         try:
             return (await asyncio.wait_for(self.part.ask(body.encode(), 1, 1, since), SECONDS)).decode()
@@ -230,7 +230,7 @@ class Leading(unittest.IsolatedAsyncioTestCase):
         self.assertEqual(found, (None, False, 1, None))
 
     async def test_connections_from_before_a_leadership_are_closed(self) -> None:
-        """Also where this broker leads again, after another one or at once."""
+        """Also if this broker leads again, after another one or at once."""
         async with parts(2) as (played, _, first, second):
             moments = [time.monotonic()]
             found = []
@@ -303,7 +303,7 @@ class Following(unittest.IsolatedAsyncioTestCase):
         self.assertEqual(it.replica.applied, ["tick 1", "tick 2", "tick 3", "tick 4"])
 
     async def test_a_log_is_read_in_pieces_that_etcd_answers(self) -> None:
-        """Where it answers for 3 batches at most; and where they are so long that 5 are enough at a time."""
+        """If it answers for 3 batches at most; and if they are so long that 5 are enough at a time."""
         size = len(batches.encode(1, 1, [b"tick 1"]))
         for most, of_bytes, limits in ((3, 1 << 20, [16, 8, 4, 2, 4, 2, 4, 2, 4, 2]), (99, 5 * size, [4, 5])):
             asked: List[int] = []

@@ -1,4 +1,4 @@
-"""What isn't done where nothing happens, or too much: ticks, looks at etcd, and what is shown; and an etcd that is slow."""
+"""What isn't done if nothing happens, or too much: ticks, looks at etcd, and what is shown; and an etcd that is slow."""
 
 from __future__ import annotations
 
@@ -54,11 +54,11 @@ class Quiet(unittest.IsolatedAsyncioTestCase):
         self.assertGreater(min(steps), 400, steps)
 
     async def test_a_watch_that_brings_nothing_is_asked(self) -> None:
-        """It goes on where there was nothing to bring, and is begun again where there was: an entry, a key, and a key that is gone."""
+        """It goes on if there was nothing to bring, and is begun again if there was: an entry, a key, and a key that is gone."""
         async with played_etcd() as (played, etcd):
             lease = Lease(etcd, 3)
             settings = await settings_of(etcd, own())
-            it = Members(lease, settings, Node(7, HOST, 1, Coordinator(HOST, 9)), [], Measures(), lambda: None)
+            it = Members(lease, settings, Node(7, HOST, 1, Coordinator()), [], Measures(), lambda: None)
             with mock.patch("broker.members.SILENT_SECONDS", 0.1), mock.patch("broker.members.AGAIN_SECONDS", 0.05):
                 watching = asyncio.ensure_future(it.watch())
                 await until(lambda: played.watches)

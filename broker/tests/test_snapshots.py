@@ -1,4 +1,4 @@
-"""Snapshots of a part in etcd: the log is cut behind them, whoever comes late begins with one, and what is left in the middle hurts nobody."""
+"""Snapshots of a part in etcd: the log is cut after them, whoever comes late begins with one, and what is left in the middle hurts nobody."""
 
 from __future__ import annotations
 

@@ -354,7 +354,7 @@ class Consumer:
         return True
 
     def wants_version(self) -> None:
-        """Ends where the broker doesn't offer the version of the heartbeat that is spoken here."""
+        """Ends if the broker doesn't offer the version of the heartbeat that is spoken here."""
         key, version = KEYS["ConsumerGroupHeartbeat"], VERSIONS["ConsumerGroupHeartbeat"]
         offered = None
         while offered is None:

@@ -1,6 +1,6 @@
 """Faults that are brought to replies: lines such as `heartbeat refuse 14`, `join 2 lose`, `commit every 3 refuse 113`.
 
-A line is WHICH, when (a number for the N-th, `every N`, `all`; the next one where nothing is said), what is done, and a value:
+A line is WHICH, when (a number for the N-th, `every N`, `all`; the next one if nothing is said), what is done, and a value:
 
     lose            the request counts, its reply is lost, and the connection answers nothing any more
     close           the request counts, and the connection closes in place of the reply
@@ -34,7 +34,7 @@ class BadFault(ValueError):
 
 @dataclasses.dataclass
 class Fault:
-    """What is done to the requests that a word means: from the `first` on, of every so many, or to one alone where `every` is 0."""
+    """What is done to the requests that a word means: from the `first` on, of every so many, or to one alone if `every` is 0."""
 
     which: str
     first: int
@@ -105,7 +105,7 @@ class Faults:
         self.waiting = []
 
     def reread(self) -> None:
-        """Takes the lines of the file where it has changed. One that can't be read keeps those that there are. Raises BadFault."""
+        """Takes the lines of the file if it has changed. One that can't be read keeps those that there are. Raises BadFault."""
         if self.file is None:
             return
         changed = self.file.stat().st_mtime_ns

@@ -76,7 +76,7 @@ class Play:
         return self.programs[-1] if self.programs else None
 
     def start(self, subscribed: str = ORDERS, is_static: bool = False) -> None:
-        """Starts the client; again where it has ended."""
+        """Starts the client; again if it has ended."""
         if is_static and not any("{instance}" in word for word in self.settings.command):
             raise NotRun("its command has no {instance}")
         values = values_of(self.stage.address, self.group, subscribed, "member", self.instance)
@@ -157,7 +157,7 @@ class Play:
         self.rest(HOLD_SECONDS)
 
     def hold_in_callback(self) -> None:
-        """The application reads nothing any more, and waits when it prints next: where it is told of a rebalance, if it prints that."""
+        """The application reads nothing any more, and waits when it prints next: if it is told of a rebalance, if it prints that."""
         assert self.program is not None
         self.stage.records = 0
         self.rest(0.5)
@@ -269,7 +269,7 @@ class Play:
         return self.beat(what, since, lambda it: it.beat.owned == partitions and it.beat.epoch > 0, seconds)  # type: ignore[union-attr]
 
     def commit(self, since: float, seconds: Optional[float] = None) -> Frame:
-        """The first commit since a moment; not run where the client commits nothing at all."""
+        """The first commit since a moment; not run if the client commits nothing at all."""
         commits = lambda: [it for it in self.record.of(COMMIT, since) if it.sent and it.request.values["topics"]]
         try:
             return self.until("", commits, seconds)[0]

@@ -17,7 +17,7 @@ from typing import IO, Callable, Dict, List, Mapping, Optional, Sequence
 
 # Of its output so much is kept from the beginning, and so much from the end.
 KEPT = 32 << 10
-# It waits for its reader where so much was printed; less than that is left in the pipe.
+# It waits for its reader if so much was printed; less than that is left in the pipe.
 PIPE, ROOM, READ = 4_096, 600, 1 << 16
 F_SETPIPE_SZ = 1031
 FILLER = b"\0"
@@ -31,7 +31,7 @@ class NoProgram(Exception):
 
 
 def filled(command: Sequence[str], values: Mapping[str, str], is_static: bool) -> List[str]:
-    """The command with its places filled in. Where there is no instance, the words that want one are left out, with the option before them."""
+    """The command with its places filled in. If there is no instance, the words that want one are left out, with the option before them."""
     words: List[str] = []
     for word in command:
         if "{instance}" in word and not is_static:
@@ -88,7 +88,7 @@ class Program:
             self.tail = (self.tail + data)[-KEPT:]
 
     def text(self) -> str:
-        """What it printed; where that is long, its beginning and its end."""
+        """What it printed; if that is long, its beginning and its end."""
         middle = b"" if self.size <= KEPT else self.tail[KEPT - min(KEPT, self.size - KEPT) :]
         left = self.size - len(self.head) - len(middle)
         return (self.head + (b"\n.. %d bytes ..\n" % left if left > 0 else b"") + middle).decode(errors="replace")
@@ -98,7 +98,7 @@ class Program:
         self.is_read.clear()
 
     def fill(self) -> None:
-        """Fills the pipe: whatever it prints next waits. (Where the system lets us; what is written here isn't its output.)"""
+        """Fills the pipe: whatever it prints next waits. (If the system lets us; what is written here isn't its output.)"""
         # (Twice: the reader may have been waiting for the first one.)
         for _ in range(2):
             with contextlib.suppress(OSError), open(f"/proc/{self.process.pid}/fd/1", "wb", buffering=0, opener=unblocked) as pipe:
@@ -154,7 +154,7 @@ def unblocked(path: str, flags: int) -> int:
 
 
 def marked(mark: str) -> List[int]:
-    """The processes that have a mark in their environment, where the system says so."""
+    """The processes that have a mark in their environment, if the system says so."""
     found = []
     for path in pathlib.Path("/proc").glob("[0-9]*/environ"):
         with contextlib.suppress(OSError):

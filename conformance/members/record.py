@@ -19,7 +19,7 @@ MOST_FRAMES = 4_000
 
 @dataclasses.dataclass
 class Frame:
-    """A request: when it came, over which connection, at which node; and its reply, where one was sent that is like any other."""
+    """A request: when it came, over which connection, at which node; and its reply, if one was sent that is like any other."""
 
     at: float
     connection: int
@@ -63,7 +63,7 @@ class Printed(NamedTuple):
 
 class Record:
     def __init__(self, most: int = MOST_FRAMES) -> None:
-        """Keeps so many requests at most; none where nobody judges them."""
+        """Keeps so many requests at most; none if nobody judges them."""
         self.began, self.most = time.monotonic(), most
         self.changed = threading.Condition()
         self.frames: List[Frame] = []
@@ -71,7 +71,7 @@ class Record:
         # When connections were closed by the client or after it, by their numbers; and what couldn't be read.
         self.closed: Dict[int, float] = {}
         self.unreadable: List[str] = []
-        # Why a request couldn't be answered, where that is the suite's own fault.
+        # Why a request couldn't be answered, if that is the suite's own fault.
         self.broken = ""
         # Since when what it prints wasn't read, and until when.
         self.unread: List[List[float]] = []

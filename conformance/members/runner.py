@@ -86,7 +86,7 @@ def run(cases: Sequence[MemberCase], settings: Settings, jobs: int, tell: Callab
 
 
 def of_rule(case: MemberCase, ran: Sequence[Ran]) -> Result:
-    """What came of a rule: failed where it was broken in any case, with the story of the first one."""
+    """What came of a rule: failed if it was broken in any case, with the story of the first one."""
     broken = [(it, found) for it in ran for found in it.found if found.rule == case.name]
     if not any(it.saw for it in ran):
         return Result(case, NOT_RUN, "no case saw a request", case.level)

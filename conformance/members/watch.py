@@ -48,7 +48,7 @@ class Watch:
     shown: FrozenSet[Partition] = NOTHING
     lost: Set[Partition] = dataclasses.field(default_factory=set)
     printed: Set[Partition] = dataclasses.field(default_factory=set)
-    # The epochs at which it may be: several where it isn't sure which reply it took. And until when the former one may be in a commit.
+    # The epochs at which it may be: several if it isn't sure which reply it took. And until when the former one may be in a commit.
     epochs: Set[int] = dataclasses.field(default_factory=lambda: {JOIN})
     former: Dict[int, float] = dataclasses.field(default_factory=dict)
     ids: Set[str] = dataclasses.field(default_factory=set)
@@ -230,7 +230,7 @@ class Watch:
 
 
 def said(it: Heartbeat) -> Dict[str, object]:
-    """What a heartbeat says of its member besides what it owns; null where it says nothing."""
+    """What a heartbeat says of its member besides what it owns; null if it says nothing."""
     names = None if it.names is None else frozenset(it.names)
     timeout = None if it.timeout == -1 else it.timeout
     return {"a timeout": timeout, "names": names, "an expression": it.regex or None, "an assignor": it.assignor, "a rack": it.rack}
