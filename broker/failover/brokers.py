@@ -115,7 +115,8 @@ class Brokers(Programs):
         return new
 
     def slots(self) -> List[int]:
-        return sorted(int(name) for name in self.running if name.isdigit())
+        # (A copy, since threads start and end brokers meanwhile.)
+        return sorted(int(name) for name in self.running.copy() if name.isdigit())
 
     def cut(self, slot: int) -> None:
         for wire in self.wires[slot]:

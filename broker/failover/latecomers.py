@@ -303,6 +303,9 @@ async def late_report(it: Brokers, _: int, by: str = RELAYED) -> None:
 async def settled(members: List[Any], holds: Callable[[], bool]) -> None:
     until = time.monotonic() + SETTLE_SECONDS
     while not holds():
+        # (If one has ended by a fault of its own, that is raised.)
+        for one in (one for one in members if one.running.done()):
+            one.running.result()
         if time.monotonic() > until:
             seen = [(one.client.epoch, sorted(one.offsets)) for one in members]
             raise Failed(f"members of {members[0].client.group} don't come to what they should: {seen}")

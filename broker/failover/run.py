@@ -222,8 +222,8 @@ class Run(Crowd):
 
     def waited(self) -> List[Dict[int, float]]:
         """For how long the processes on which an answer depends have waited for a processor: brokers, etcds and the relay."""
-        brokers = [it.pid for name, it in self.brokers.running.items() if name.isdigit()]
-        kinds = brokers, [it.pid for it in self.etcds.running.values()], [self.brokers.running["relay"].pid]
+        brokers = [it.pid for name, it in self.brokers.running.copy().items() if name.isdigit()]
+        kinds = brokers, [it.pid for it in self.etcds.running.copy().values()], [self.brokers.running["relay"].pid]
         return [waits.of_processors(numbers) for numbers in kinds]
 
     def judge_changes(self, steady: Sequence[str], began: float) -> None:
