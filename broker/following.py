@@ -9,6 +9,7 @@ from typing import Any, Deque, Tuple
 from broker import batches, snapshots
 from broker.etcd import NOT_FOUND, Etcd, NoRoom, Range, Refused, Unanswered
 from broker.feed import Feed, Passed
+from broker.output import say
 from broker.trouble import Trouble
 
 # How many batches are read at a time at first, and how many bytes about that may be.
@@ -140,7 +141,7 @@ class Follower:
         await asyncio.sleep(0) if self.has_read_up.is_set() else await self.feed.has_room()
 
     def apply(self, entry: bytes) -> Any:
-        """The replica at the next place of the log. Raises Stopped."""
+        """The replica at the next place of the log. What it refuses there is passed over, with a line. Raises Stopped."""
         try:
             applied = self.replica.apply(self.place + 1, entry)
         except ValueError as why:
@@ -149,6 +150,8 @@ class Follower:
             raise Stopped(f"there is no memory for entry {self.place + 1}") from None
         self.place += 1
         self.head = max(self.head, self.place)
+        if applied.kind == "passed over":
+            say(f"part {self.number} passes over entry {self.place}: {applied.why}")
         self.has_topics |= applied.kind == "topics"
         if applied.kind == "frame":
             self._heard = self._moment()

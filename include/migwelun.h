@@ -39,13 +39,13 @@ enum {
     MIGWELUN_TOO_MANY = 3,       /* .. more than 10,000 topics, or more than 1,000,000 partitions */
     MIGWELUN_BAD_COUNT = 4,      /* .. a topic has fewer than 1 partition, or more than 100,000 */
 
-    /* why a replica applies or proposes no entry */
+    /* why a replica passes an entry over, or applies or proposes none */
     MIGWELUN_OUT_OF_PLACE = 2,     /* the place is not the next one of the log */
     MIGWELUN_OTHER_LEADERSHIP = 3, /* it is not of the present leadership, or begins another one than the next */
     MIGWELUN_EARLIER_MOMENT = 4,   /* its moment is before the greatest of the log */
     MIGWELUN_NOT_LEADING = 5,      /* this replica does not lead */
     MIGWELUN_BAD_FIELD = 11,       /* a field is no value of its type, or a name is too long */
-    MIGWELUN_UNKNOWN_VERSION = 12,
+    MIGWELUN_UNKNOWN_VERSION = 12, /* a later library knows it */
     MIGWELUN_UNKNOWN_KIND = 13,
     MIGWELUN_BAD_NUMBER = 14, /* a number is negative, or too great for its field */
     MIGWELUN_BAD_BODY = 15,   /* the body has a length that no frame has */
@@ -261,12 +261,16 @@ int32_t migwelun_propose_topics(migwelun_slot *slot);
 int32_t migwelun_take_entry(migwelun_slot *slot, uint8_t *to, size_t room, size_t *size);
 
 /*
- * Applies the entry at a place of the log: the first one has place 1. The frame of its reply, if it has one, is appended to those that wait
- * for migwelun_take. Writes the entry's leadership, the number of its connection, and that of the frame on it, which tell to whom the reply
- * goes. After a tick `frame` is the number of removed members; otherwise both numbers are 0.
+ * Applies a place of the log: the first one is 1. The frame of the entry's reply, if it has one, is appended to those that wait for
+ * migwelun_take. Writes the present leadership, the number of the entry's connection, and that of the frame on it, which tell to whom the
+ * reply goes. After a tick `frame` is the number of removed members; otherwise both numbers are 0.
  *
- * Returns DONE; CLOSES if the connection of a frame is to be closed; OUT_OF_PLACE, OTHER_LEADERSHIP, EARLIER_MOMENT, 11 to 16 if the bytes
- * are no entry, or 21 to 24 if the topics have a fault, and nothing is written or has changed; NO_MEMORY; or EMPTY.
+ * Returns DONE; or CLOSES if the connection of a frame is to be closed. An entry that is refused is passed over: its place is applied, and
+ * nothing else has changed. Then it returns why: OTHER_LEADERSHIP, EARLIER_MOMENT, 11 or 13 to 16 if the bytes are no entry, or 21 to 24 if
+ * the topics have a fault. So a late append of a leader that was deposed holds no replica up.
+ *
+ * Nothing is applied, written or has changed after OUT_OF_PLACE; after UNKNOWN_VERSION, until a later library applies the entry; after
+ * NO_MEMORY, and the call may be repeated; and after EMPTY.
  */
 int32_t migwelun_apply(migwelun_slot *slot, uint64_t place, const uint8_t *entry, size_t length, uint32_t *leadership,
                        uint32_t *connection, uint64_t *frame);

@@ -97,6 +97,8 @@ class Logs:
         except ValueError as why:
             self.faults.append(f"part {part}: the entry at {place} is refused: {why}")
             return
+        if applied.kind == "passed over":
+            self.faults.append(f"part {part}: the entry at {place} is passed over: {applied.why}")
         if applied.kind == "frame" and applied.reply is not None:
             asked = asked_of(bytes(4) + entry[BODY:])
             self.replies[asked].append(applied.reply)

@@ -57,6 +57,7 @@ class Applied:
     kind: str
     reply: Optional[bytes] = None
     removed: int = 0
+    why: Optional[str] = None
 
 
 @dataclasses.dataclass
@@ -65,7 +66,7 @@ class Place:
 
 
 class PlayedReplica:
-    """Entries are texts. A frame's reply is its body, and `bad` is refused."""
+    """Entries are texts. A frame's reply is its body, `late` is passed over, and `bad` holds the log up."""
 
     def __init__(self) -> None:
         self.applied: List[str] = []
@@ -104,6 +105,8 @@ class PlayedReplica:
         kind, _, body = entry.decode().partition(" ")
         if kind == "bad":
             raise ValueError("it is bad")
+        if kind == "late":
+            return Applied("passed over", why="it is late")
         self.applied.append(entry.decode())
         return Applied(kind, struct.pack(">i", len(body)) + body.encode() if kind == "frame" else None)
 
@@ -289,6 +292,21 @@ class Following(unittest.IsolatedAsyncioTestCase):
                     await until(lambda: said)
                     await it.end()
                 self.assertEqual((it.part.fault, said), (why, [f"broker: part 0 stops here, until it has another snapshot or this broker is started again: {why}"]))
+
+    async def test_what_the_replica_passes_over_stops_nobody(self) -> None:
+        """Neither a follower nor the leader: somebody else appends late, and without asking whether it leads. The leader finds its place taken, and
+        leads again behind it."""
+        async with parts() as (played, said, it):
+            played.put(text_of(batches.key(0, 1)), text_of(batches.encode(1, 1, [b"leads", b"topics", b"late", b"tick"])))
+            await it.lead()
+            found = [await it.ask("a")]
+            played.put(text_of(batches.key(0, 7)), text_of(batches.encode(1, 2, [b"late"])))
+            found.append(await it.ask("b"))
+            await until(lambda: it.part.serves)
+            found.append(await it.ask("b"))
+        self.assertEqual((found, it.part.fault), (["a", None, "b"], None))
+        self.assertEqual(it.replica.applied, ["leads", "topics", "tick", "leads", "frame a", "leads", "frame b"])
+        self.assertEqual(said, [f"broker: part 0 passes over entry {place}: it is late" for place in (3, 7)])
 
     async def test_what_the_watch_brings_is_applied_in_order_once(self) -> None:
         async with parts() as (played, _, it):

@@ -1,5 +1,5 @@
 -- What C reads of a coordinator or a replica.
-use Rattle.std.specs.Prelude.{◌≡◌, ◌⊎◌, ◌+◌, ◌-◌, ◌^◌, ℕ, ℤ, pos, negsuc, Bool, true, false, List, [], length, take, IfSome, Option, Some, None, Ok, option_map}
+use Rattle.std.specs.Prelude.{◌≡◌, ◌+◌, ◌-◌, ◌^◌, ◌==◌, ◌||◌, not, ℕ, ℤ, pos, negsuc, Bool, true, false, List, [], length, take, IfSome, Option, Some, None, Ok, option_map}
 use Rattle.std.specs.FinMap as finite
 use Rattle.group_types.specs.declared.epoch.Epoch.{Epoch}
 use Rattle.group_types.specs.declared.epoch.Epoch.TheVariants.{At, Away}
@@ -12,10 +12,10 @@ use Rattle.coord_replica.specs.declared.applied.Applied.{Applied}
 use Rattle.coord_replica.specs.declared.applied.Applied.TheVariants as applied
 use Rattle.coord_replica.specs.declared.fault.ReplicaFault.{ReplicaFault}
 use Rattle.coord_replica.specs.declared.fault.ReplicaFault.TheVariants as replica
-use Rattle.coord_replica.specs.Applying.{AppliesBytes}
+use Rattle.coord_replica.specs.Applying.{AppliesBytes, IsHeldUp}
 use Rattle.coord_replica.specs.Faults.{replica_fault_number}
 use Rattle.coord_replica.specs.Proposing.{IsUnproposed, IsUnwritten, next_leadership, under_present}
-use Rattle.coord_replica.specs.Replicas.{ReplicaState, ReplicaValue}
+use Rattle.coord_replica.specs.Replicas.{LogState, ReplicaState, ReplicaValue}
 use Rattle.replica_entries.specs.Values.{ContentValue}
 use Rattle.replica_snapshots.specs.declared.fault.SnapshotFault.{SnapshotFault}
 use Rattle.replica_snapshots.specs.declared.fault.SnapshotFault.TheVariants as snapshot
@@ -63,28 +63,6 @@ pub record ShowsCommitted (it : Committed) (shown : CommittedShown) : Type 0 whe
 
 -- ---- of a replica
 
--- 1 where the connection of a frame closes, and else 0
-abbrev pub applied_shown : Applied → ℤ
-applied_shown (applied.Frame leadership connection number answered.Replied) = pos 0
-applied_shown (applied.Frame leadership connection number answered.Closes) = pos 1
-applied_shown (applied.Tick removed) = pos 0
-applied_shown applied.Topics = pos 0
-applied_shown (applied.Leads leadership) = pos 0
-
--- the number of a frame's connection
-abbrev pub connection_shown : Applied → ℕ
-connection_shown (applied.Frame leadership connection number answered) = connection
-connection_shown (applied.Tick removed) = 0
-connection_shown applied.Topics = 0
-connection_shown (applied.Leads leadership) = 0
-
--- the number of a frame, or how many members a tick removed
-abbrev pub frame_shown : Applied → ℕ
-frame_shown (applied.Frame leadership connection number answered) = number
-frame_shown (applied.Tick removed) = removed
-frame_shown applied.Topics = 0
-frame_shown (applied.Leads leadership) = 0
-
 -- the number of a fault; -2 where memory is short
 abbrev pub replica_fault_shown : ReplicaFault → ℤ
 replica_fault_shown replica.NoMemory = negsuc 1
@@ -95,11 +73,38 @@ replica_fault_shown replica.NotLeading = pos 5
 replica_fault_shown (replica.BadEntry fault) = pos (replica_fault_number (replica.BadEntry fault))
 replica_fault_shown (replica.BadTopics fault) = pos (replica_fault_number (replica.BadTopics fault))
 
--- an entry was applied
-abbrev pub IsApplied : ℤ → Type 0
-IsApplied code = (code ≡ pos 0) ⊎ (code ≡ pos 1)
+-- 1 where the connection of a frame closes; the number of the fault by which an entry was passed over; and else 0
+abbrev pub applied_shown : Applied → ℤ
+applied_shown (applied.Frame leadership connection number answered.Replied) = pos 0
+applied_shown (applied.Frame leadership connection number answered.Closes) = pos 1
+applied_shown (applied.Tick removed) = pos 0
+applied_shown applied.Topics = pos 0
+applied_shown (applied.Leads leadership) = pos 0
+applied_shown (applied.PassedOver fault) = replica_fault_shown fault
 
--- what is told of an entry that was applied
+-- the number of a frame's connection
+abbrev pub connection_shown : Applied → ℕ
+connection_shown (applied.Frame leadership connection number answered) = connection
+connection_shown (applied.Tick removed) = 0
+connection_shown applied.Topics = 0
+connection_shown (applied.Leads leadership) = 0
+connection_shown (applied.PassedOver fault) = 0
+
+-- the number of a frame, or how many members a tick removed
+abbrev pub frame_shown : Applied → ℕ
+frame_shown (applied.Frame leadership connection number answered) = number
+frame_shown (applied.Tick removed) = removed
+frame_shown applied.Topics = 0
+frame_shown (applied.Leads leadership) = 0
+frame_shown (applied.PassedOver fault) = 0
+
+-- Whether the code says that the place was applied. It wasn't after 2, another place than the next, and 12, an unknown version; nor where
+-- the slot has no replica, or memory is short.
+abbrev pub is_applied : ℤ → Bool
+is_applied (pos code) = not (code == 2 || code == 12)
+is_applied (negsuc _) = false
+
+-- what is told of a place that was applied
 pub record Told : Type 0 where
   pub code : ℤ
   pub leadership : ℕ
@@ -123,9 +128,9 @@ IsUnled r code = (fault : ReplicaFault) × IsUnwritten (next_leadership r) fault
 abbrev pub IsRefused : ReplicaState → ContentValue → ℤ → Type 0
 IsRefused r content code = (fault : ReplicaFault) × IsUnproposed r (under_present r content) fault × (code ≡ replica_fault_shown fault)
 
--- why an entry is not applied: its fault, or that memory is short
-abbrev pub IsUnapplied : Option ReplicaFault → ℤ → Type 0
-IsUnapplied refusal code = (code ≡ negsuc 1) ⊎ ((fault : ReplicaFault) × (refusal ≡ Some fault) × (code ≡ replica_fault_shown fault))
+-- why nothing is applied
+abbrev pub IsUnapplied : LogState → ℕ → List ℕ → ℤ → Type 0
+IsUnapplied s place bytes code = (fault : ReplicaFault) × IsHeldUp s place bytes fault × (code ≡ replica_fault_shown fault)
 
 -- ---- of snapshots
 

@@ -1,15 +1,14 @@
 //! The functions for replicas, and the one that makes them.
-ghost use Rattle.std.specs.Prelude.{◌≡◌, ◌≢◌, ◌⊎◌, ◌≤◌, ◌<◌, [], None, length, take};
+ghost use Rattle.std.specs.Prelude.{◌≡◌, ◌≢◌, ◌⊎◌, ◌+◌, ◌≤◌, ◌<◌, [], true, false, None, length, take};
 ghost use Rattle.topic_meta.specs.Images.{entries_of};
 ghost use Rattle.replica_entries.specs.Spelling.{entry_fields};
 ghost use Rattle.replica_entries.specs.Values.{image, tick};
-ghost use Rattle.coord_replica.specs.Applying.{refusal_at};
 ghost use Rattle.coord_replica.specs.Proposing.{ProposesBytes, begun, frame_proposed, moment_proposed, next_leadership};
 ghost use Rattle.coord_node.specs.Nodes.{coordinator_of};
 ghost use Rattle.coord_replica.specs.Replicas.{log_of, replica_state, value_opening};
 ghost use Rattle.coord_replica.specs.Snapshots.{FitsSnapshot, SnapshotValue, restored, snapshot_fields};
 ghost use Rattle.replica_snapshots.specs.Restoring.{CanBeNode};
-ghost use Rattle.coord_c.specs.Reads.{IsApplied, IsPart, IsRefused, IsSnapshotFault, IsUnapplied, IsUnled, TellsApplied};
+ghost use Rattle.coord_c.specs.Reads.{IsPart, IsRefused, IsSnapshotFault, IsUnapplied, IsUnled, TellsApplied, is_applied};
 ghost use Rattle.coord_c.specs.Slots.{in_slot, IsFull, Has, HasReplica, Becomes, BecomesReplica};
 
 use crate::code::{DONE, EMPTY, FULL, NO_MEMORY, OUT_OF_PLACE, SHORT};
@@ -268,8 +267,9 @@ pub extern "C" fn migwelun_take_entry(
     code
 }
 
-/// Applies the entry of a place of the log; the frame of a reply waits for [`migwelun_take`]. Writes the entry's leadership, the number of a
-/// frame's connection, and that of the frame on it; of a tick how many members it removed.
+/// Applies a place of the log; the frame of a reply waits for [`migwelun_take`]. Writes the present leadership, the number of a frame's
+/// connection, and that of the frame on it; of a tick how many members it removed. An entry that is refused is passed over: its place is
+/// applied, and the code says why.
 #[unsafe(no_mangle)]
 pub extern "C" fn migwelun_apply(
     slot: &mut Slot,
@@ -282,12 +282,12 @@ pub extern "C" fn migwelun_apply(
 ) -> i32
     ensures empty { ¬ HasReplica slot.old → (result ≡ EMPTY) × (in_slot slot.new ≡ in_slot slot.old) }
     ensures full { HasReplica slot.old → HasReplica slot.new × (result ≢ EMPTY) }
-    ensures applied { BecomesReplica slot.old slot.new (λ x y r q. IsApplied result →
-        (refusal_at (log_of r) place entry.now ≡ None) × TellsApplied (replica_state r) entry.now (replica_state q) x.replies.items y.replies.items
+    ensures applied { BecomesReplica slot.old slot.new (λ x y r q. is_applied result ≡ true →
+        (place ≡ r.applied + 1) × TellsApplied (replica_state r) entry.now (replica_state q) x.replies.items y.replies.items
         (record { code = result; leadership = leadership.new; connection = connection.new; frame = frame.new })) }
-    ensures refused { BecomesReplica slot.old slot.new (λ x y r q. ¬ IsApplied result →
-        (q ≡ r) × (y.replies.items ≡ x.replies.items) × IsUnapplied (refusal_at (log_of r) place entry.now) result) }
-    ensures unchanged { ¬ IsApplied result → (leadership.new ≡ leadership.old) × (connection.new ≡ connection.old) × (frame.new ≡ frame.old) }
+    ensures refused { BecomesReplica slot.old slot.new (λ x y r q. is_applied result ≡ false →
+        (q ≡ r) × (y.replies.items ≡ x.replies.items) × IsUnapplied (log_of r) place entry.now result) }
+    ensures unchanged { is_applied result ≡ false → (leadership.new ≡ leadership.old) × (connection.new ≡ connection.old) × (frame.new ≡ frame.old) }
     ensures others { Becomes slot.old slot.new (λ x y. (y.topics ≡ x.topics) × (y.entry ≡ x.entry)) }
 {
     let Some(mut embedded) = slot.take(alloc) else {

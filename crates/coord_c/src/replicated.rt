@@ -1,13 +1,12 @@
 //! The calls that are for replicas.
-ghost use Rattle.std.specs.Prelude.{◌≡◌, ◌≢◌, ◌⊎◌, ◌≤◌, ◌<◌, [], true, false, None, IfOk, length, take};
+ghost use Rattle.std.specs.Prelude.{◌≡◌, ◌≢◌, ◌⊎◌, ◌+◌, ◌≤◌, ◌<◌, [], true, false, IfOk, length, take};
 ghost use Rattle.topic_meta.specs.Images.{entries_of};
 ghost use Rattle.replica_entries.specs.Spelling.{entry_fields};
 ghost use Rattle.replica_entries.specs.Values.{image, tick};
-ghost use Rattle.coord_replica.specs.Applying.{refusal_at};
 ghost use Rattle.coord_replica.specs.Proposing.{ProposesBytes, begun, frame_proposed, moment_proposed, next_leadership};
 ghost use Rattle.coord_replica.specs.Replicas.{log_of, replica_state};
 ghost use Rattle.coord_c.specs.Machines.{ForReplicas, is_replica};
-ghost use Rattle.coord_c.specs.Reads.{IsApplied, IsPart, IsRefused, IsSnapshotFault, IsUnled, IsUnapplied, TellsApplied, applied_shown, connection_shown, frame_shown, replica_fault_shown, snapshot_fault_shown};
+ghost use Rattle.coord_c.specs.Reads.{IsPart, IsRefused, IsSnapshotFault, IsUnled, IsUnapplied, TellsApplied, applied_shown, connection_shown, frame_shown, is_applied, replica_fault_shown, snapshot_fault_shown};
 
 use crate::code::{CLOSES, DONE, EMPTY, NO_MEMORY, OUT_OF_PLACE, SHORT};
 use crate::embedded::{Embedded, copies, take_bytes};
@@ -205,7 +204,7 @@ impl Embedded {
         take_bytes(&mut self.entry, to, size)
     }
 
-    /// Applies the entry of a place of the log, and writes its leadership, the number of its connection, and its own number on the
+    /// Applies a place of the log, and writes the present leadership, the number of a frame's connection, and its own number on the
     /// connection; of a tick how many members it removed.
     pub(crate) fn apply(
         &mut self,
@@ -217,12 +216,12 @@ impl Embedded {
     ) -> i32
         ensures kind { is_replica self.new.machine ≡ is_replica self.old.machine }
         ensures coordinator { is_replica self.old.machine ≡ false → (result ≡ EMPTY) × (self.new ≡ self.old) }
-        ensures applied { ForReplicas self.old.machine self.new.machine (λ r q. IsApplied result →
-            (refusal_at (log_of r) place entry.now ≡ None) × TellsApplied (replica_state r) entry.now (replica_state q) self.old.replies.items self.new.replies.items
+        ensures applied { ForReplicas self.old.machine self.new.machine (λ r q. is_applied result ≡ true →
+            (place ≡ r.applied + 1) × TellsApplied (replica_state r) entry.now (replica_state q) self.old.replies.items self.new.replies.items
             (record { code = result; leadership = leadership.new; connection = connection.new; frame = frame.new })) }
-        ensures refused { ForReplicas self.old.machine self.new.machine (λ r q. ¬ IsApplied result →
-            (q ≡ r) × (self.new.replies.items ≡ self.old.replies.items) × IsUnapplied (refusal_at (log_of r) place entry.now) result) }
-        ensures unchanged { ¬ IsApplied result → (leadership.new ≡ leadership.old) × (connection.new ≡ connection.old) × (frame.new ≡ frame.old) }
+        ensures refused { ForReplicas self.old.machine self.new.machine (λ r q. is_applied result ≡ false →
+            (q ≡ r) × (self.new.replies.items ≡ self.old.replies.items) × IsUnapplied (log_of r) place entry.now result) }
+        ensures unchanged { is_applied result ≡ false → (leadership.new ≡ leadership.old) × (connection.new ≡ connection.old) × (frame.new ≡ frame.old) }
         ensures others { (self.new.topics ≡ self.old.topics) × (self.new.entry ≡ self.old.entry) }
     {
         let Machine::Replica(replica) = &mut self.machine else {
@@ -240,7 +239,7 @@ impl Embedded {
     }
 }
 
-/// The code of an entry that was applied.
+/// The code of a place that was applied: of one that was passed over that of the fault.
 fn applied_code(applied: Applied) -> i32
     ensures { result ≡ applied_shown applied }
 {
@@ -249,6 +248,7 @@ fn applied_code(applied: Applied) -> i32
             answered: Answered::Closes,
             ..
         } => CLOSES,
+        Applied::PassedOver { fault } => fault_code(fault),
         _ => DONE,
     }
 }

@@ -1,11 +1,9 @@
 -- Along a log neither leaderships nor moments fall.
-use Rattle.std.proofs.Common.{◌≡◌, ℕ, zero, suc, ◌<◌, ◌≤◌, List, [], ◌∷◌, length, get_or, Option, Some, None, subst, arith}
+use Rattle.std.proofs.Common.{◌≡◌, ℕ, zero, suc, ◌<◌, ◌≤◌, List, [], ◌∷◌, length, get_or, Option, Some, None, Ok, Err, ap, subst, arith}
 use Rattle.std.specs.Prelude.{unwrap_or}
 use Rattle.std.specs.List.Sorted.{IsNonDecreasing}
 use Rattle.std.specs.List.{cons_option}
-use Rattle.coord_node.specs.Coordinator.{Answer}
-use Rattle.replica_entries.specs.Values.{EntryValue}
-use Rattle.coord_replica.specs.Applying.{LogRun, leadership_due}
+use Rattle.coord_replica.specs.Applying.{Fate, LogRun, Logged, PassedOver, Taken, entries_taken, leadership_due}
 use Rattle.coord_replica.specs.Entries.{leaderships_of, moment_in, moments_of}
 use Rattle.coord_replica.specs.Laws.{NeverFall}
 use Rattle.coord_replica.specs.Replicas.{LogState}
@@ -37,28 +35,36 @@ RisesFrom-front : (n : ℕ) (m : Option ℕ) (xs : List ℕ) → n ≤ unwrap_or
 RisesFrom-front n None xs le rises = rises
 RisesFrom-front n (Some m) xs le rises = (le, rises)
 
-leaderships_rise : (s t : LogState) (entries : List EntryValue) (answers : List (Option Answer))
-    → LogRun s entries answers t → RisesFrom s.leadership (leaderships_of entries)
-leaderships_rise s t [] answers run = tt
-leaderships_rise s t (e ∷ es) [] run = absurd run
-leaderships_rise s t (e ∷ es) (a ∷ answers) run =
+leaderships_rise : (s t : LogState) (log : List Logged) (fates : List Fate)
+    → LogRun s log fates t → RisesFrom s.leadership (leaderships_of (entries_taken log fates))
+leaderships_rise s t [] fates run = tt
+leaderships_rise s t (at ∷ log) [] run = absurd run
+leaderships_rise s t (Ok e ∷ log) (Taken a ∷ fates) run =
     let due = IsDue-from_refusal_of s e run.1.taken in
     let least = leadership_due-rises s.leadership e.content in
     let is : e.leadership ≡ leadership_due s.leadership e.content = due.leadership in
-    (omega arith, subst (λ (n : ℕ). RisesFrom n (leaderships_of es)) run.1.leadership (leaderships_rise run.0 t es answers run.2))
+    (omega arith, subst (λ (n : ℕ). RisesFrom n (leaderships_of (entries_taken log fates))) run.1.leadership (leaderships_rise run.0 t log fates run.2))
+leaderships_rise s t (Err fault ∷ log) (Taken a ∷ fates) run = absurd run.1
+leaderships_rise s t (at ∷ log) (PassedOver fault ∷ fates) run =
+    subst (λ (n : ℕ). RisesFrom n (leaderships_of (entries_taken log fates))) (ap (λ (x : LogState). x.leadership) run.1.becomes)
+    (leaderships_rise run.0 t log fates run.2)
 
-moments_rise : (s t : LogState) (entries : List EntryValue) (answers : List (Option Answer))
-    → LogRun s entries answers t → RisesFrom s.moment (moments_of entries)
-moments_rise s t [] answers run = tt
-moments_rise s t (e ∷ es) [] run = absurd run
-moments_rise s t (e ∷ es) (a ∷ answers) run =
+moments_rise : (s t : LogState) (log : List Logged) (fates : List Fate)
+    → LogRun s log fates t → RisesFrom s.moment (moments_of (entries_taken log fates))
+moments_rise s t [] fates run = tt
+moments_rise s t (at ∷ log) [] run = absurd run
+moments_rise s t (Ok e ∷ log) (Taken a ∷ fates) run =
     let due = IsDue-from_refusal_of s e run.1.taken in
-    RisesFrom-front s.moment (moment_in e.content) (moments_of es) due.moment
-    (subst (λ (n : ℕ). RisesFrom n (moments_of es)) run.1.moment (moments_rise run.0 t es answers run.2))
+    RisesFrom-front s.moment (moment_in e.content) (moments_of (entries_taken log fates)) due.moment
+    (subst (λ (n : ℕ). RisesFrom n (moments_of (entries_taken log fates))) run.1.moment (moments_rise run.0 t log fates run.2))
+moments_rise s t (Err fault ∷ log) (Taken a ∷ fates) run = absurd run.1
+moments_rise s t (at ∷ log) (PassedOver fault ∷ fates) run =
+    subst (λ (n : ℕ). RisesFrom n (moments_of (entries_taken log fates))) (ap (λ (x : LogState). x.moment) run.1.becomes)
+    (moments_rise run.0 t log fates run.2)
 
-pub logs_never_fall : (s : LogState) (entries : List EntryValue) (answers : List (Option Answer)) (t : LogState) → LogRun s entries answers t → NeverFall entries
-logs_never_fall s entries answers t run =
+pub logs_never_fall : (s : LogState) (log : List Logged) (fates : List Fate) (t : LogState) → LogRun s log fates t → NeverFall (entries_taken log fates)
+logs_never_fall s log fates t run =
     record {
-      leaderships = IsNonDecreasing-from_rises s.leadership (leaderships_of entries) (leaderships_rise s t entries answers run);
-      moments = IsNonDecreasing-from_rises s.moment (moments_of entries) (moments_rise s t entries answers run);
+      leaderships = IsNonDecreasing-from_rises s.leadership (leaderships_of (entries_taken log fates)) (leaderships_rise s t log fates run);
+      moments = IsNonDecreasing-from_rises s.moment (moments_of (entries_taken log fates)) (moments_rise s t log fates run);
     }

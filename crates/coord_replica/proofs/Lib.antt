@@ -9,3 +9,8 @@ pub mod Histories
 pub mod SnapshotLaws
 pub mod Restored
 pub mod Written
+pub mod Places
+pub mod CatchesUp
+pub mod Leaders
+pub mod Clocks
+pub mod Removed

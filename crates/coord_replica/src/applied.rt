@@ -1,8 +1,9 @@
 //! What was applied.
 
+use crate::fault::ReplicaFault;
 use coord_node::Answered;
 
-/// What a replica says of an entry that it applied.
+/// What a replica says of a place that it applied.
 #[derive(Clone, Copy, Debug, PartialEq, Eq)]
 pub enum Applied {
     /// The number of a frame's leadership, that of its connection under it, its own on the connection, and what became of it.
@@ -21,5 +22,9 @@ pub enum Applied {
     /// The leadership with this number began.
     Leads {
         leadership: u32,
+    },
+    /// The entry was refused by this fault, and passed over: its place is applied, and nothing else has changed.
+    PassedOver {
+        fault: ReplicaFault,
     },
 }

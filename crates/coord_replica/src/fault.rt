@@ -1,6 +1,7 @@
-//! Why an entry is not applied or not proposed.
+//! Why an entry is passed over, not applied or not proposed.
 
 ghost use Rattle.std.specs.Prelude.{◌≡◌};
+ghost use Rattle.coord_replica.specs.Applying.{is_passed_over};
 ghost use Rattle.coord_replica.specs.Faults.{replica_fault_number};
 
 use replica_entries::EntryFault;
@@ -8,7 +9,7 @@ use std::alloc::AllocError;
 use thiserror::Error;
 use topic_meta::ImageFault;
 
-/// Why a replica applies or proposes no entry. It is then as it was.
+/// Why a replica passes an entry over, or applies or proposes none and is as it was.
 #[derive(Clone, Copy, Debug, PartialEq, Eq, Error)]
 pub enum ReplicaFault {
     /// A growth was refused; the call may be made again.
@@ -47,6 +48,21 @@ impl ReplicaFault {
             ReplicaFault::NotLeading => 5,
             ReplicaFault::BadEntry(fault) => 10 + fault.number(),
             ReplicaFault::BadTopics(fault) => 20 + fault.number(),
+        }
+    }
+
+    /// Whether an entry that is refused by it is passed over. One of an unknown version isn't: a later library takes it, and a replica that
+    /// passed it over would have another state than those that take it.
+    pub fn is_passed_over(self) -> bool
+        ensures { result ≡ is_passed_over self }
+    {
+        match self {
+            ReplicaFault::OtherLeadership
+            | ReplicaFault::EarlierMoment
+            | ReplicaFault::BadTopics(_) => true,
+            ReplicaFault::BadEntry(EntryFault::UnknownVersion) => false,
+            ReplicaFault::BadEntry(_) => true,
+            ReplicaFault::NoMemory | ReplicaFault::OutOfPlace | ReplicaFault::NotLeading => false,
         }
     }
 }

@@ -1,21 +1,40 @@
 //! Laws of logs and replicas, proved where nothing runs.
-ghost use Rattle.coord_replica.specs.Laws.{AllPartsAreTheSnapshot, AnswersAreTheLogs, LogsCanBeRestored, LogsNeverFall, LogsWithFewOffsetsCanBeWritten, OneAnswerAPlace, OneStateAPlace, OneStateASnapshot};
-ghost use Rattle.coord_replica.specs.Laws.{PartsFollow, ProposalsAreTaken, ReplicasAreRuns, ReplicasFollowTheLog, RestoredFollowsTheLog, RestoredIsWrittenTheSame, SameEntriesSameReplica, SectionsMakeASnapshot, StampsRise};
+ghost use Rattle.coord_replica.specs.Laws.{AllPartsAreTheSnapshot, AnswersAreTheLogs, ClocksFollowTheLog, DeposedLeadersFollow, EveryReplicaCatchesUp, LeadershipsBeginQuietly, LeadersKeepTime, LogsCanBeRestored, LogsNeverFall, LogsServe};
+ghost use Rattle.coord_replica.specs.Laws.{LogsWithFewOffsetsCanBeWritten, OneAnswerAPlace, OneStateAPlace, OneStateASnapshot, PartsFollow, ProposalsAreTaken, RemovedWereSilent, ReplicasAreRuns, ReplicasFollowTheLog, RestoredFollowsTheLog, RestoredIsWrittenTheSame, SameEntriesSameReplica, SectionsMakeASnapshot, StampsRise};
 
-use coord_node::one_answer;
+use coord_node::{
+    coordinators_serve, events_are_answered, one_answer, steps_are_sound, ticks_are_of_all_groups,
+};
+use group_types::{every_group_is_sound, ticks_take_the_due};
 use replica_snapshots::runs_with_few_offsets_can_be_written;
 
-/// A replica that applied a list of entries since its opening has the state, and gave the answers, of the coordinator's run over their
-/// events.
+/// A replica that applied a log since its opening has the state, and gave the answers, of the coordinator's run over the events of the
+/// entries that were taken.
 pub fn replicas_are_runs()
     ensures { ReplicasAreRuns }
 {}
 
-/// Replicas that applied the same entries are the same, and gave the same answers.
+/// Replicas that applied the same log are the same: they took the same entries, with the same answers, and passed over the others.
 pub fn same_entries_same_replica()
     ensures { SameEntriesSameReplica }
 {
     one_answer();
+}
+
+/// No log holds a replica up, whatever late appends and other bytes stand in it: it comes to the end of each, and to one state there. Only
+/// bytes of a later library's version hold it up.
+pub fn every_replica_catches_up()
+    ensures { EveryReplicaCatchesUp }
+{
+    one_answer();
+    events_are_answered();
+}
+
+/// Whatever log a replica has applied since its opening, its coordinator serves.
+pub fn logs_serve()
+    ensures { LogsServe }
+{
+    coordinators_serve();
 }
 
 /// A stamp is above all stamps of earlier leaderships.
@@ -23,7 +42,7 @@ pub fn stamps_rise_over_leaderships()
     ensures { StampsRise }
 {}
 
-/// Along a log no leadership falls, and no moment.
+/// Along the entries that were taken of a log no leadership falls, and no moment.
 pub fn logs_never_fall()
     ensures { LogsNeverFall }
 {}
@@ -32,6 +51,40 @@ pub fn logs_never_fall()
 pub fn proposals_are_taken()
     ensures { ProposalsAreTaken }
 {}
+
+/// A replica leads on while no leadership begins, and no longer.
+pub fn deposed_leaders_follow()
+    ensures { DeposedLeadersFollow }
+{}
+
+/// The moments of a leader's proposals go on from the log's. They stand still while nobody leads, and go as fast as the leader's clock, and
+/// no faster.
+pub fn leaders_keep_time()
+    ensures { LeadersKeepTime }
+{}
+
+/// The beginning of a leadership changes neither the coordinator nor the moment.
+pub fn leaderships_begin_quietly()
+    ensures { LeadershipsBeginQuietly }
+{}
+
+/// Whatever log a replica has applied since its opening, no group has used a later moment than the log's.
+pub fn clocks_follow_the_log()
+    ensures { ClocksFollowTheLog }
+{
+    every_group_is_sound();
+    steps_are_sound();
+    ticks_are_of_all_groups();
+}
+
+/// Whom a leader's tick removes had been silent for the rest of its session while this leader led; or it hadn't given up, in the rest of its
+/// rebalance timeout, what it lost.
+pub fn removed_members_were_silent()
+    ensures { RemovedWereSilent }
+{
+    ticks_are_of_all_groups();
+    ticks_take_the_due();
+}
 
 /// Whatever leaders come and go, and whatever is proposed and lost: what a replica has is what a beginning of the log comes to.
 pub fn replicas_follow_the_log()

@@ -18,9 +18,11 @@ pub use applied::Applied;
 pub use coord_node::{Answered, Moment, Node};
 pub use fault::ReplicaFault;
 pub use laws::{
-    all_parts_are_the_snapshot, answers_are_the_logs, logs_can_be_restored, logs_never_fall,
-    logs_with_few_offsets_can_be_written, one_answer_a_place, one_state_a_snapshot, parts_follow,
-    proposals_are_taken, replicas_are_runs, replicas_at_a_place_are_the_same,
+    all_parts_are_the_snapshot, answers_are_the_logs, clocks_follow_the_log,
+    deposed_leaders_follow, every_replica_catches_up, leaders_keep_time, leaderships_begin_quietly,
+    logs_can_be_restored, logs_never_fall, logs_serve, logs_with_few_offsets_can_be_written,
+    one_answer_a_place, one_state_a_snapshot, parts_follow, proposals_are_taken,
+    removed_members_were_silent, replicas_are_runs, replicas_at_a_place_are_the_same,
     replicas_follow_the_log, restored_follows_the_log, restored_is_written_the_same,
     same_entries_same_replica, sections_make_a_snapshot, stamps_rise_over_leaderships,
 };

@@ -1,5 +1,5 @@
 -- The replies of a world over replicas are answers of its log.
-use Rattle.std.proofs.Common.{◌≡◌, ◌⊎◌, ℕ, suc, ◌+◌, Bool, true, false, List, [], ◌∷◌, ◌++◌, length, Contains, Option, Some, None, inl, inr, refl, sym, ap, subst, ◌∙◌, append_assoc}
+use Rattle.std.proofs.Common.{◌≡◌, ◌⊎◌, ℕ, suc, ◌+◌, Bool, true, false, List, [], ◌∷◌, ◌++◌, length, Contains, Option, Some, None, Ok, inl, inr, refl, sym, ap, subst, ◌∙◌, append_assoc}
 use Rattle.kip_msgs.specs.Values.{CommitRequestTopicValue}
 use Rattle.group_types.specs.declared.partition.Partition.{Partition}
 use Rattle.coord_node.specs.Coordinator.{Answer, Closes, Done, Replied}
@@ -8,7 +8,7 @@ use Rattle.member_core.specs.Asking.{Ask, after_giving_up, may_ask, request_for}
 use Rattle.member_core.specs.Refusing.{is_too_large}
 use Rattle.member_core.specs.Releasing.{after_release, may_release}
 use Rattle.replica_entries.specs.Values.{EntryValue}
-use Rattle.coord_replica.specs.Applying.{Applies, LogRun}
+use Rattle.coord_replica.specs.Applying.{Fate, LogRun, Logged, Taken, Takes}
 use Rattle.coord_replica.specs.Replicas.{LogState, log_opening}
 use Rattle.coord_replica.proofs.Runs.{LogRun-push}
 use Rattle.world_sim.specs.World.{Commit, Reply, Request, World, numbered, with_coordinator}
@@ -93,55 +93,55 @@ answers_same w (Done removed) outcome new is = absurd is
 
 module _ (salt : ℕ) where
   -- behind a beginning of the log
-  abbrev AllAnswered : List EntryValue → List Reply → Type 0
+  abbrev AllAnswered : List Logged → List Reply → Type 0
   AllAnswered log replies = (r : Reply) → Contains replies r → IsAnswered salt log r
 
-  moved : (before : List EntryValue) (e : EntryValue) (rest : List EntryValue) (replies : List Reply) → AllAnswered (before ++ e ∷ rest) replies → AllAnswered ((before ++ e ∷ []) ++ rest) replies
-  moved before e rest replies all r there = subst (λ (log : List EntryValue). IsAnswered salt log r) (sym (append_assoc before (e ∷ []) rest)) (all r there)
+  moved : (before : List Logged) (at : Logged) (rest : List Logged) (replies : List Reply) → AllAnswered (before ++ at ∷ rest) replies → AllAnswered ((before ++ at ∷ []) ++ rest) replies
+  moved before at rest replies all r there = subst (λ (log : List Logged). IsAnswered salt log r) (sym (append_assoc before (at ∷ []) rest)) (all r there)
 
-  pools_answered : (before : List EntryValue) (e : EntryValue) (rest : List EntryValue) (answers : List (Option Answer)) (log after : LogState) (w : World) (q : Request) (answer : Answer) (outcome : Outcome) (new : World)
-      → LogRun (log_opening salt) before answers log → Applies log e (Some answer) after → AllAnswered (before ++ e ∷ rest) w.replies → Pools w q answer outcome new → AllAnswered (before ++ e ∷ rest) new.replies
-  pools_answered before e rest answers log after w q (Replied frame) outcome new run applies all (body, header, reply, framed, spells, is) r there =
+  pools_answered : (before : List Logged) (e : EntryValue) (rest : List Logged) (fates : List Fate) (log after : LogState) (w : World) (q : Request) (answer : Answer) (outcome : Outcome) (new : World)
+      → LogRun (log_opening salt) before fates log → Takes log e (Some answer) after → AllAnswered (before ++ Ok e ∷ rest) w.replies → Pools w q answer outcome new → AllAnswered (before ++ Ok e ∷ rest) new.replies
+  pools_answered before e rest fates log after w q (Replied frame) outcome new run takes all (body, header, reply, framed, spells, is) r there =
       by (one_more w.replies (record { request = q; body = body }) r (subst (λ (x : World). Contains x.replies r) is.1 there))
     where
-      by : Contains w.replies r ⊎ (r ≡ record { request = q; body = body }) → IsAnswered salt (before ++ e ∷ rest) r
+      by : Contains w.replies r ⊎ (r ≡ record { request = q; body = body }) → IsAnswered salt (before ++ Ok e ∷ rest) r
       by (inl before_it) = all r before_it
       by (inr same) =
-          subst (λ (x : Reply). IsAnswered salt (before ++ e ∷ rest) x) (sym same) (record {
+          subst (λ (x : Reply). IsAnswered salt (before ++ Ok e ∷ rest) x) (sym same) (record {
             place = length before + 1;
             frame = frame;
             framed = framed;
-            answer = record { before = before; entry = e; behind = rest; stands = refl; at_place = refl; answers = answers; middle = log; run = run; after = after; applies = applies };
+            answer = record { before = before; entry = e; behind = rest; stands = refl; at_place = refl; fates = fates; middle = log; run = run; after = after; takes = takes };
           })
-  pools_answered before e rest answers log after w q Closes outcome new run applies all is r there = all r (subst (λ (x : World). Contains x.replies r) is.1 there)
-  pools_answered before e rest answers log after w q (Done removed) outcome new run applies all is r there = absurd is
+  pools_answered before e rest fates log after w q Closes outcome new run takes all is r there = all r (subst (λ (x : World). Contains x.replies r) is.1 there)
+  pools_answered before e rest fates log after w q (Done removed) outcome new run takes all is r there = absurd is
 
-  run_answered : (acts : List ReplicaAct) (outcomes : List Outcome) (s t : ReplicaWorld) (before : List EntryValue) (answers : List (Option Answer)) → LogRun (log_opening salt) before answers s.log
+  run_answered : (acts : List ReplicaAct) (outcomes : List Outcome) (s t : ReplicaWorld) (before : List Logged) (fates : List Fate) → LogRun (log_opening salt) before fates s.log
       → AllAnswered (before ++ entries_of acts) s.replies → ReplicaRun s acts outcomes t → AllAnswered (before ++ entries_of acts) t.replies
-  run_answered [] [] s t before answers run all is r there = subst (λ (x : ReplicaWorld). AllAnswered (before ++ []) x.replies) (sym is) all r there
-  run_answered [] (outcome ∷ outcomes) s t before answers run all is r there = absurd is
-  run_answered (act ∷ acts) [] s t before answers run all is r there = absurd is
-  run_answered (Does act ∷ acts) (outcome ∷ outcomes) s t before answers run all (middle, (own, after, step, becomes), later) r there =
-      run_answered acts outcomes middle t before answers
-      (subst (λ (x : ReplicaWorld). LogRun (log_opening salt) before answers x.log) (sym becomes) run)
+  run_answered [] [] s t before fates run all is r there = subst (λ (x : ReplicaWorld). AllAnswered (before ++ []) x.replies) (sym is) all r there
+  run_answered [] (outcome ∷ outcomes) s t before fates run all is r there = absurd is
+  run_answered (act ∷ acts) [] s t before fates run all is r there = absurd is
+  run_answered (Does act ∷ acts) (outcome ∷ outcomes) s t before fates run all (middle, (own, after, step, becomes), later) r there =
+      run_answered acts outcomes middle t before fates
+      (subst (λ (x : ReplicaWorld). LogRun (log_opening salt) before fates x.log) (sym becomes) run)
       (subst (λ (xs : List Reply). AllAnswered (before ++ entries_of acts) xs) (sym (ap (λ (x : ReplicaWorld). x.replies) becomes ∙ client_same (world_of s) act outcome after own step)) all) later r there
-  run_answered (Delivers k e ∷ acts) (outcome ∷ outcomes) s t before answers run all (middle, d, later) r there =
-      subst (λ (log : List EntryValue). IsAnswered salt log r) (append_assoc before (e ∷ []) (entries_of acts))
-      (run_answered acts outcomes middle t (before ++ e ∷ []) (answers ++ Some d.answer ∷ [])
-      (subst (λ (x : ReplicaWorld). LogRun (log_opening salt) (before ++ e ∷ []) (answers ++ Some d.answer ∷ []) x.log) (sym d.becomes) (LogRun-push (log_opening salt) s.log d.log before answers e (Some d.answer) run d.applies))
-      (moved before e (entries_of acts) middle.replies (subst (λ (x : ReplicaWorld). AllAnswered (before ++ e ∷ entries_of acts) x.replies) (sym d.becomes)
-      (pools_answered before e (entries_of acts) answers s.log d.log (with_coordinator (world_of s) d.log.coordinator) d.request d.answer outcome d.after run d.applies all d.pools))) later r there)
-  run_answered (Brings k e ∷ acts) (outcome ∷ outcomes) s t before answers run all (middle, b, later) r there =
-      subst (λ (log : List EntryValue). IsAnswered salt log r) (append_assoc before (e ∷ []) (entries_of acts))
-      (run_answered acts outcomes middle t (before ++ e ∷ []) (answers ++ Some b.answer ∷ [])
-      (subst (λ (x : ReplicaWorld). LogRun (log_opening salt) (before ++ e ∷ []) (answers ++ Some b.answer ∷ []) x.log) (sym b.becomes) (LogRun-push (log_opening salt) s.log b.log before answers e (Some b.answer) run b.applies))
-      (moved before e (entries_of acts) middle.replies (subst (λ (xs : List Reply). AllAnswered (before ++ e ∷ entries_of acts) xs)
+  run_answered (Delivers k e ∷ acts) (outcome ∷ outcomes) s t before fates run all (middle, d, later) r there =
+      subst (λ (log : List Logged). IsAnswered salt log r) (append_assoc before (Ok e ∷ []) (entries_of acts))
+      (run_answered acts outcomes middle t (before ++ Ok e ∷ []) (fates ++ Taken (Some d.answer) ∷ [])
+      (subst (λ (x : ReplicaWorld). LogRun (log_opening salt) (before ++ Ok e ∷ []) (fates ++ Taken (Some d.answer) ∷ []) x.log) (sym d.becomes) (LogRun-push (log_opening salt) s.log d.log before fates (Ok e) (Taken (Some d.answer)) run d.takes))
+      (moved before (Ok e) (entries_of acts) middle.replies (subst (λ (x : ReplicaWorld). AllAnswered (before ++ Ok e ∷ entries_of acts) x.replies) (sym d.becomes)
+      (pools_answered before e (entries_of acts) fates s.log d.log (with_coordinator (world_of s) d.log.coordinator) d.request d.answer outcome d.after run d.takes all d.pools))) later r there)
+  run_answered (Brings k e ∷ acts) (outcome ∷ outcomes) s t before fates run all (middle, b, later) r there =
+      subst (λ (log : List Logged). IsAnswered salt log r) (append_assoc before (Ok e ∷ []) (entries_of acts))
+      (run_answered acts outcomes middle t (before ++ Ok e ∷ []) (fates ++ Taken (Some b.answer) ∷ [])
+      (subst (λ (x : ReplicaWorld). LogRun (log_opening salt) (before ++ Ok e ∷ []) (fates ++ Taken (Some b.answer) ∷ []) x.log) (sym b.becomes) (LogRun-push (log_opening salt) s.log b.log before fates (Ok e) (Taken (Some b.answer)) run b.takes))
+      (moved before (Ok e) (entries_of acts) middle.replies (subst (λ (xs : List Reply). AllAnswered (before ++ Ok e ∷ entries_of acts) xs)
       (sym (ap (λ (x : ReplicaWorld). x.replies) b.becomes ∙ answers_same (with_coordinator (world_of s) b.log.coordinator) b.answer outcome b.after b.answers)) all)) later r there)
-  run_answered (Goes e ∷ acts) (outcome ∷ outcomes) s t before answers run all (middle, g, later) r there =
-      subst (λ (log : List EntryValue). IsAnswered salt log r) (append_assoc before (e ∷ []) (entries_of acts))
-      (run_answered acts outcomes middle t (before ++ e ∷ []) (answers ++ g.answer ∷ [])
-      (subst (λ (x : ReplicaWorld). LogRun (log_opening salt) (before ++ e ∷ []) (answers ++ g.answer ∷ []) x.log) (sym g.becomes) (LogRun-push (log_opening salt) s.log g.log before answers e g.answer run g.applies))
-      (moved before e (entries_of acts) middle.replies (subst (λ (x : ReplicaWorld). AllAnswered (before ++ e ∷ entries_of acts) x.replies) (sym g.becomes) all)) later r there)
+  run_answered (Goes at ∷ acts) (outcome ∷ outcomes) s t before fates run all (middle, g, later) r there =
+      subst (λ (log : List Logged). IsAnswered salt log r) (append_assoc before (at ∷ []) (entries_of acts))
+      (run_answered acts outcomes middle t (before ++ at ∷ []) (fates ++ g.fate ∷ [])
+      (subst (λ (x : ReplicaWorld). LogRun (log_opening salt) (before ++ at ∷ []) (fates ++ g.fate ∷ []) x.log) (sym g.becomes) (LogRun-push (log_opening salt) s.log g.log before fates at g.fate run g.applies))
+      (moved before at (entries_of acts) middle.replies (subst (λ (x : ReplicaWorld). AllAnswered (before ++ at ∷ entries_of acts) x.replies) (sym g.becomes) all)) later r there)
 
 pub replies_are_the_logs : RepliesAreTheLogs
 replies_are_the_logs salt clients acts outcomes s run =

@@ -1,5 +1,5 @@
 -- A world over replicas is one that acts lead to, with other stamps.
-use Rattle.std.proofs.Common.{◌≡◌, ℕ, List, [], ◌∷◌, ◌++◌, map, Option, Some, inl, inr, refl, sym, ap, subst, ◌∙◌}
+use Rattle.std.proofs.Common.{◌≡◌, ℕ, List, [], ◌∷◌, ◌++◌, map, Option, Some, Ok, Err, inl, inr, refl, sym, ap, subst, ◌∙◌}
 use Rattle.kip_msgs.specs.Values.{HeartbeatRequestValue, RequestHeaderValue, RequestValue, commit_request, heartbeat_request}
 use Rattle.kip_msgs.specs.Spelling.{SpellsRequest}
 use Rattle.kip_msgs.specs.Laws.{OneRequestABody}
@@ -13,15 +13,16 @@ use Rattle.member_core.specs.Client.{Client, new_client}
 use Rattle.member_core.specs.Asking.{header_of}
 use Rattle.member_core.specs.Committing.{commit_value}
 use Rattle.replica_entries.specs.Values.{ContentValue, EntryValue, frame, image, leads, tick}
-use Rattle.coord_replica.specs.Applying.{EventStep, moment_after}
+use Rattle.coord_replica.specs.Applying.{Applies, EventStep, Fate, Logged, PassedOver, Taken, moment_after}
 use Rattle.coord_replica.specs.Entries.{event_under, stamp_under}
+use Rattle.coord_replica.specs.Replicas.{LogState}
 use Rattle.world_sim.specs.World.{Commit, Request, World, new_world, numbered, with_coordinator}
 use Rattle.world_sim.specs.Acts.{Act, ActStep, Bring, BringStep, Clock, Deliver, DeliverStep, DeliversIf, IsDone, IsRemoved, Outcome, Passes, Run, Sees, is_forgotten, no_stamp}
 use Rattle.world_sim.specs.Exclusivity.{Always}
 use Rattle.world_sim.specs.Invariant.{Committed, Keeps}
 use Rattle.world_sim.proofs.Numbered.{numbered_in}
 use Rattle.group_types.proofs.ListLemmas.{In}
-use Rattle.replica_worlds.specs.ReplicaWorlds.{AreStamped, Brings, Delivers, Does, Goes, GoesOn, IsBrought, IsClients, IsDelivered, ReplicaAct, ReplicaRun, ReplicaStep, ReplicaWorld, Shows, new_replica_world, over_log, stamp_in, stamp_of_entry, world_of}
+use Rattle.replica_worlds.specs.ReplicaWorlds.{AreStamped, Brings, Delivers, Does, Goes, GoesOn, IsBrought, IsClients, IsDelivered, ReplicaAct, ReplicaRun, ReplicaStep, ReplicaWorld, Shows, ShowsTaken, new_replica_world, over_log, stamp_in, stamp_of_entry, world_of}
 use Rattle.replica_worlds.specs.Laws.{IsLedTo, OverReplicas}
 use Rattle.replica_worlds.specs.Unstamped.{restamped}
 use Rattle.replica_worlds.proofs.WithValues.{empty_changed}
@@ -116,7 +117,7 @@ module _ (one_request : OneRequestABody) (one_answer : OneAnswer) (always : Alwa
       at = d.came.moment
 
       moment : d.log.moment ≡ at
-      moment = d.applies.moment ∙ ap (moment_after s.log.moment) d.is_frame
+      moment = d.takes.moment ∙ ap (moment_after s.log.moment) d.is_frame
 
       stamp : stamp_under e.leadership d.came.connection d.came.number ≡ stamp_of_entry e
       stamp = ap (stamp_in e.leadership) (sym d.is_frame)
@@ -125,7 +126,7 @@ module _ (one_request : OneRequestABody) (one_answer : OneAnswer) (always : Alwa
       step =
           subst (λ (b : List ℕ). Step node (Frame b (stamp_of_entry e) at) d.answer d.log.coordinator) d.body
           (subst (λ (x : Stamp). Step node (Frame d.came.body x at) d.answer d.log.coordinator) stamp
-          (subst (λ (content : ContentValue). EventStep node (event_under e.leadership content) (Some d.answer) d.log.coordinator) d.is_frame d.applies.step))
+          (subst (λ (content : ContentValue). EventStep node (event_under e.leadership content) (Some d.answer) d.log.coordinator) d.is_frame d.takes.step))
 
       is_stamp : to_world (stamp_of_entry e) ≡ d.request.stamp
       is_stamp = came_world acts requests (stamp_of_entry e) d.request (world_of_came acts requests clients stamped pool k e d.request came pooled)
@@ -166,7 +167,7 @@ module _ (one_request : OneRequestABody) (one_answer : OneAnswer) (always : Alwa
       brought_at = b.came.moment
 
       brought_moment : b.log.moment ≡ brought_at
-      brought_moment = b.applies.moment ∙ ap (moment_after s.log.moment) b.is_frame
+      brought_moment = b.takes.moment ∙ ap (moment_after s.log.moment) b.is_frame
 
       abbrev commit_stamp : Stamp
       commit_stamp = stamp_under e.leadership b.came.connection b.came.number
@@ -174,7 +175,7 @@ module _ (one_request : OneRequestABody) (one_answer : OneAnswer) (always : Alwa
       commit_step : Step node (Frame b.commit.body commit_stamp brought_at) b.answer b.log.coordinator
       commit_step =
           subst (λ (body : List ℕ). Step node (Frame body commit_stamp brought_at) b.answer b.log.coordinator) b.body
-          (subst (λ (content : ContentValue). EventStep node (event_under e.leadership content) (Some b.answer) b.log.coordinator) b.is_frame b.applies.step)
+          (subst (λ (content : ContentValue). EventStep node (event_under e.leadership content) (Some b.answer) b.log.coordinator) b.is_frame b.takes.step)
 
       committed : Committed (shadow to_world s).coordinator s.clients b.commit
       committed = known.commits b.commit (numbered_in s.commits k b.commit b.is_pooled)
@@ -201,9 +202,9 @@ module _ (one_request : OneRequestABody) (one_answer : OneAnswer) (always : Alwa
           let over : Steps s (over_log b.log b.after) = record { moment = brought_at; act = Bring k; shown = outcome; step = brought; tracked = tracked } in
           subst (Steps s) (sym b.becomes) over
 
-    -- ---- another entry comes
+    -- ---- something else comes
 
-    module _ (e : EntryValue) (g : GoesOn s e outcome t) where
+    module _ (place : Logged) (g : GoesOn s place outcome t) where
       abbrev After : ReplicaWorld
       After = over_log g.log (with_coordinator (world_of s) g.log.coordinator)
 
@@ -225,31 +226,41 @@ module _ (one_request : OneRequestABody) (one_answer : OneAnswer) (always : Alwa
           in
           subst (Steps s) (sym g.becomes) over
 
-      comes : (content : ContentValue) → e.content ≡ content → (answer : Option Answer) → Shows content answer outcome
-          → EventStep node (event_under e.leadership content) answer g.log.coordinator → g.log.moment ≡ moment_after s.log.moment content → Steps s t
-      comes (frame f) is answer shows taken when = absurd shows
-      comes (tick now) is answer (removed, answers, shown) taken when =
-          let ticked : Step node (Tick now) (Done removed) g.log.coordinator = subst (λ (x : Option Answer). EventStep node (Some (Tick now)) x g.log.coordinator) answers taken in
-          event_steps (Passes now) (IsRemoved removed) (Tick now) (Done removed) now when ticked (λ other. tick_as other node now (Done removed) g.log.coordinator ticked)
-          (λ so. (removed, restamped to_world g.log.coordinator, so, (refl, refl)))
-      comes (image topics) is answer (answers, shown) taken when =
-          let seen : Step node (Image (topics_of topics)) (Done 0) g.log.coordinator = subst (λ (x : Option Answer). EventStep node (Some (Image (topics_of topics))) x g.log.coordinator) answers taken in
-          event_steps (Sees (topics_of topics)) IsDone (Image (topics_of topics)) (Done 0) s.log.moment when seen (λ other. image_as other node (topics_of topics) (Done 0) g.log.coordinator seen)
-          (λ so. (restamped to_world g.log.coordinator, so, (refl, refl)))
-      comes leads is answer (answers, shown) taken when =
-          let seen : Step node (Image node.image) (Done 0) g.log.coordinator = (refl, taken.1, known.image) in
+      -- nothing comes to the coordinator
+      quiet : g.log.coordinator ≡ node → g.log.moment ≡ s.log.moment → Steps s t
+      quiet same when =
+          let seen : Step node (Image node.image) (Done 0) g.log.coordinator = (refl, same, known.image) in
           event_steps (Sees node.image) IsDone (Image node.image) (Done 0) s.log.moment when seen (λ other. image_as other node node.image (Done 0) g.log.coordinator seen)
           (λ so. (restamped to_world g.log.coordinator, so, (refl, refl)))
 
+      comes : (leadership : ℕ) (content : ContentValue) (answer : Option Answer) → ShowsTaken content answer outcome
+          → EventStep node (event_under leadership content) answer g.log.coordinator → g.log.moment ≡ moment_after s.log.moment content → Steps s t
+      comes leadership (frame f) answer shows taken when = absurd shows
+      comes leadership (tick now) answer (removed, answers, shown) taken when =
+          let ticked : Step node (Tick now) (Done removed) g.log.coordinator = subst (λ (x : Option Answer). EventStep node (Some (Tick now)) x g.log.coordinator) answers taken in
+          event_steps (Passes now) (IsRemoved removed) (Tick now) (Done removed) now when ticked (λ other. tick_as other node now (Done removed) g.log.coordinator ticked)
+          (λ so. (removed, restamped to_world g.log.coordinator, so, (refl, refl)))
+      comes leadership (image topics) answer (answers, shown) taken when =
+          let seen : Step node (Image (topics_of topics)) (Done 0) g.log.coordinator = subst (λ (x : Option Answer). EventStep node (Some (Image (topics_of topics))) x g.log.coordinator) answers taken in
+          event_steps (Sees (topics_of topics)) IsDone (Image (topics_of topics)) (Done 0) s.log.moment when seen (λ other. image_as other node (topics_of topics) (Done 0) g.log.coordinator seen)
+          (λ so. (restamped to_world g.log.coordinator, so, (refl, refl)))
+      comes leadership leads answer (answers, shown) taken when = quiet taken.1 when
+
+      by_fate : (at : Logged) (fate : Fate) → Applies s.log at fate g.log → Shows fate at outcome → Steps s t
+      by_fate (Ok e) (Taken answer) takes shows = comes e.leadership e.content answer shows takes.step takes.moment
+      by_fate (Err fault) (Taken answer) takes shows = absurd takes
+      by_fate _ (PassedOver fault) passes shows =
+          quiet (ap (λ (x : LogState). x.coordinator) passes.becomes) (ap (λ (x : LogState). x.moment) passes.becomes)
+
       goes_steps : Steps s t
-      goes_steps = comes e.content refl g.answer g.shows g.applies.step g.applies.moment
+      goes_steps = by_fate place g.fate g.applies g.shows
 
   pub steps : (s t : ReplicaWorld) (act : ReplicaAct) (outcome : Outcome) → Follows s → In acts act
       → ((k : ℕ) (q : Request) → numbered s.requests k ≡ Some q → numbered requests k ≡ Some q) → ReplicaStep s act outcome t → Steps s t
   steps s t (Does act) outcome follows there grows (own, after, step, becomes) = does s follows outcome t act after own step becomes
   steps s t (Delivers k e) outcome follows there grows d = delivers_steps s follows outcome t k e d there (grows k d.request d.is_pooled)
   steps s t (Brings k e) outcome follows there grows b = brings_steps s follows outcome t k e b
-  steps s t (Goes e) outcome follows there grows g = goes_steps s follows outcome t e g
+  steps s t (Goes at) outcome follows there grows g = goes_steps s follows outcome t at g
 
   step_follows : (s t : ReplicaWorld) → Follows s → Steps s t → Follows t
   step_follows s t follows x =

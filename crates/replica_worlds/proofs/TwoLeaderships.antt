@@ -1,5 +1,5 @@
 -- A world over replicas in which a client joins under one leadership, and takes the reply under the next.
-use Rattle.std.proofs.Common.{◌≡◌, ℕ, Bool, true, false, List, [], ◌∷◌, map, nat_lt, Option, Some, None, is_some, inl, inr, refl, sym, ap, subst, ◌∙◌, arith}
+use Rattle.std.proofs.Common.{◌≡◌, ℕ, Bool, true, false, List, [], ◌∷◌, map, nat_lt, Option, Some, None, Ok, is_some, inl, inr, refl, sym, ap, subst, ◌∙◌, arith}
 use Rattle.std.specs.Option.{option_map}
 use Rattle.std.specs.FinMap as finite
 use Rattle.kip_msgs.specs.Values.{HeartbeatRequestValue, RequestHeaderValue, heartbeat_request}
@@ -22,6 +22,7 @@ use Rattle.replica_entries.specs.Values.{EntryValue, frame, image, leads}
 use Rattle.replica_snapshots.proofs.ImageLaws.{entry_for, image_of_topics, image_without_fault}
 use Rattle.coord_replica.specs.Entries.{stamp_under}
 use Rattle.coord_replica.specs.Faults.{fault_of_topics}
+use Rattle.coord_replica.specs.Applying as applying
 use Rattle.coord_replica.specs.Replicas.{LogState, log_opening}
 use Rattle.world_sim.specs.World.{Request, World, new_world, numbered, with_coordinator}
 use Rattle.world_sim.specs.Acts.{ActStep, Asks, Deliver, DeliversIf, Is, IsDone, IsRefused, IsReplied, IsSent, Outcome, Pools, Take, is_forgotten}
@@ -168,7 +169,7 @@ module _ (a : Answered) where
   Taken = over_log LedAgain.log (taking One (join_in One) (asked_by One) (world_of LedAgain))
 
   abbrev acts : List ReplicaAct
-  acts = Goes first_leads ∷ Goes topics_come ∷ Does (Asks 1 Join) ∷ Delivers 1 join_comes ∷ Goes second_leads ∷ Does (Take 1) ∷ []
+  acts = Goes (Ok first_leads) ∷ Goes (Ok topics_come) ∷ Does (Asks 1 Join) ∷ Delivers 1 join_comes ∷ Goes (Ok second_leads) ∷ Does (Take 1) ∷ []
 
   abbrev outcomes : List Outcome
   outcomes = IsDone ∷ IsDone ∷ IsSent 1 ∷ told ∷ IsDone ∷ Is (state_of (inside_of One)) ∷ []
@@ -180,7 +181,7 @@ module _ (a : Answered) where
   run = (
     Led,
     record {
-      answer = None;
+      fate = applying.Taken None;
       log = Led.log;
       applies = record { taken = refl; step = (refl, refl); applied = refl; leadership = refl; moment = refl };
       shows = (refl, refl);
@@ -189,7 +190,7 @@ module _ (a : Answered) where
     (
       Seen,
       record {
-        answer = Some (Done 0);
+        fate = applying.Taken (Some (Done 0));
         log = Seen.log;
         applies = record {
           taken = ap (option_map fault_of_topics) (image_without_fault TwoTopics two_are_images);
@@ -218,7 +219,7 @@ module _ (a : Answered) where
             remembered = a.remembered;
             answer = a.answer;
             log = log_here;
-            applies = record { taken = refl; step = joins; applied = refl; leadership = refl; moment = refl };
+            takes = record { taken = refl; step = joins; applied = refl; leadership = refl; moment = refl };
             after = AfterJoin;
             pools = pools_as all_joined Asked 0 log_there refl join a.answer told OneIsAnswered a.pools;
             becomes = refl;
@@ -226,7 +227,7 @@ module _ (a : Answered) where
           (
             LedAgain,
             record {
-              answer = None;
+              fate = applying.Taken None;
               log = LedAgain.log;
               applies = record { taken = refl; step = (refl, refl); applied = refl; leadership = refl; moment = refl };
               shows = (refl, refl);

@@ -1,6 +1,6 @@
 -- The world over replicas: one log, clients, and every message that was ever sent between them (ours). A client's message comes to the
 -- coordinator as an entry of the log, and its reply is what the log comes to there, whichever replica gives it. Leaderships come and go.
-use Rattle.std.specs.Prelude.{◌≡◌, ℕ, ◌<◌, false, List, [], ◌∷◌, Option, Some, None}
+use Rattle.std.specs.Prelude.{◌≡◌, ℕ, ◌<◌, false, List, [], ◌∷◌, Option, Some, None, Ok, Err}
 use Rattle.std.specs.List.{Contains}
 use Rattle.std.specs.declared.cmp.Ordering.TheVariants.{Less}
 use Rattle.kip_msgs.specs.Values.{RequestHeaderValue, HeartbeatRequestValue, heartbeat_request}
@@ -9,7 +9,7 @@ use Rattle.group_types.specs.declared.stamp.Stamp.{Stamp}
 use Rattle.group_types.specs.Stamp.{stamp_cmp}
 use Rattle.coord_node.specs.Coordinator.{Answer, Done}
 use Rattle.replica_entries.specs.Values.{ContentValue, EntryValue, FrameValue, frame, tick, image, leads}
-use Rattle.coord_replica.specs.Applying.{Applies}
+use Rattle.coord_replica.specs.Applying.{Applies, Fate, Logged, PassedOver, Taken, Takes}
 use Rattle.coord_replica.specs.Entries.{stamp_under}
 use Rattle.coord_replica.specs.Replicas.{LogState, log_opening}
 use Rattle.member_core.specs.Settings.{Settings}
@@ -44,13 +44,13 @@ over_log log w = record { log = log; clients = w.clients; requests = w.requests;
 abbrev pub new_replica_world : ℕ → List Settings → ReplicaWorld
 new_replica_world salt clients = over_log (log_opening salt) (new_world salt clients)
 
--- What happens. A client does something by itself; a request, or a commit, comes to the log as its next entry; or another entry does: time
--- passes, the topics change, or a leadership begins.
+-- What happens. A client does something by itself; a request, or a commit, comes to the log as its next entry, and is taken; or something
+-- else comes to the log: time passes, the topics change, a leadership begins, or what came is passed over.
 pub data ReplicaAct : Type 0 where
   Does : Act → ReplicaAct
   Delivers : ℕ → EntryValue → ReplicaAct
   Brings : ℕ → EntryValue → ReplicaAct
-  Goes : EntryValue → ReplicaAct
+  Goes : Logged → ReplicaAct
 
 -- nothing comes to the coordinator
 abbrev pub IsClients : Act → Type 0
@@ -79,7 +79,7 @@ pub record IsDelivered (s : ReplicaWorld) (k : ℕ) (e : EntryValue) (outcome : 
   pub remembered : is_forgotten s.log.coordinator heartbeat ≡ false
   pub answer : Answer
   pub log : LogState
-  pub applies : Applies s.log e (Some answer) log
+  pub takes : Takes s.log e (Some answer) log
   pub after : World
   pub pools : Pools (with_coordinator (world_of s) log.coordinator) request answer outcome after
   pub becomes : t ≡ over_log log after
@@ -93,30 +93,39 @@ pub record IsBrought (s : ReplicaWorld) (k : ℕ) (e : EntryValue) (outcome : Ou
   pub body : came.body ≡ commit.body
   pub answer : Answer
   pub log : LogState
-  pub applies : Applies s.log e (Some answer) log
+  pub takes : Takes s.log e (Some answer) log
   pub after : World
   pub answers : Answers (with_coordinator (world_of s) log.coordinator) answer outcome after
   pub becomes : t ≡ over_log log after
 
--- what an entry shows that no client sent
-abbrev pub Shows : ContentValue → Option Answer → Outcome → Type 0
-Shows (frame f) answer outcome = ⊥
-Shows (tick moment) answer outcome = (removed : ℕ) × (answer ≡ Some (Done removed)) × (outcome ≡ IsRemoved removed)
-Shows (image topics) answer outcome = (answer ≡ Some (Done 0)) × (outcome ≡ IsDone)
-Shows leads answer outcome = (answer ≡ None) × (outcome ≡ IsDone)
+-- what an entry shows that no client sent, and that is taken
+abbrev pub ShowsTaken : ContentValue → Option Answer → Outcome → Type 0
+ShowsTaken (frame f) answer outcome = ⊥
+ShowsTaken (tick moment) answer outcome = (removed : ℕ) × (answer ≡ Some (Done removed)) × (outcome ≡ IsRemoved removed)
+ShowsTaken (image topics) answer outcome = (answer ≡ Some (Done 0)) × (outcome ≡ IsDone)
+ShowsTaken leads answer outcome = (answer ≡ None) × (outcome ≡ IsDone)
 
-pub record GoesOn (s : ReplicaWorld) (e : EntryValue) (outcome : Outcome) (t : ReplicaWorld) : Type 0 where
-  pub answer : Option Answer
+abbrev pub ShowsRead : Logged → Option Answer → Outcome → Type 0
+ShowsRead (Ok e) answer outcome = ShowsTaken e.content answer outcome
+ShowsRead (Err fault) answer outcome = ⊥
+
+-- whatever is passed over shows nothing, also where a client sent it
+abbrev pub Shows : Fate → Logged → Outcome → Type 0
+Shows (Taken answer) at outcome = ShowsRead at answer outcome
+Shows (PassedOver fault) at outcome = outcome ≡ IsDone
+
+pub record GoesOn (s : ReplicaWorld) (at : Logged) (outcome : Outcome) (t : ReplicaWorld) : Type 0 where
+  pub fate : Fate
   pub log : LogState
-  pub applies : Applies s.log e answer log
-  pub shows : Shows e.content answer outcome
+  pub applies : Applies s.log at fate log
+  pub shows : Shows fate at outcome
   pub becomes : t ≡ over_log log (with_coordinator (world_of s) log.coordinator)
 
 abbrev pub ReplicaStep : ReplicaWorld → ReplicaAct → Outcome → ReplicaWorld → Type 0
 ReplicaStep s (Does act) outcome t = IsClients act × (after : World) × ActStep (world_of s) act outcome after × (t ≡ over_log s.log after)
 ReplicaStep s (Delivers k e) outcome t = IsDelivered s k e outcome t
 ReplicaStep s (Brings k e) outcome t = IsBrought s k e outcome t
-ReplicaStep s (Goes e) outcome t = GoesOn s e outcome t
+ReplicaStep s (Goes at) outcome t = GoesOn s at outcome t
 
 -- one act after the other
 abbrev pub ReplicaRun : ReplicaWorld → List ReplicaAct → List Outcome → ReplicaWorld → Type 0

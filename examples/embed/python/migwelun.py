@@ -52,6 +52,8 @@ SNAPSHOT_FAULTS: Dict[int, str] = {
     35: "there is more of something than a snapshot can say",
 }
 KINDS = ("frame", "tick", "topics", "leads")
+# Another place than the next, and a version that a later library knows: nothing is applied. What is refused otherwise is passed over.
+HELD_UP = (2, 12)
 KEYS, ID = 16, 16
 FIRST_ROOM = 4096
 # How many bytes a part of a snapshot has, about.
@@ -110,8 +112,9 @@ class Place(NamedTuple):
 
 
 class Applied(NamedTuple):
-    """An entry that was applied, by its kind: 'frame', 'tick', 'topics' or 'leads'. A frame has its connection, its number on that and its
-    reply, with the size, or None where the connection is to be closed; a tick has how many members it removed."""
+    """A place of the log that was applied, by the kind of its entry: 'frame', 'tick', 'topics' or 'leads'; or 'passed over', and `why`: then
+    nothing else has changed. A frame has its connection, its number on that and its reply, with the size, or None where the connection is to
+    be closed; a tick has how many members it removed."""
 
     kind: str
     leadership: int
@@ -119,6 +122,7 @@ class Applied(NamedTuple):
     frame: int
     reply: Optional[bytes]
     removed: int
+    why: Optional[str] = None
 
 
 class _Slot(ctypes.Structure):
@@ -290,13 +294,16 @@ class Replica(_Embedded):
             return self._proposed("propose_topics")
 
     def apply(self, place: int, entry: bytes) -> Applied:
-        """Applies the entry at a place of the log, of which the first is 1. Raises BadEntry where it isn't the next one."""
+        """Applies a place of the log, of which the first is 1. What is refused there is passed over. Raises BadEntry where it isn't the next
+        place, or the entry is of a version that a later library knows."""
         leadership, connection, frame = _U32(), _U32(), _U64()
         with self._lock:
             code = self._call("apply", place, entry, len(entry), *map(ctypes.byref, (leadership, connection, frame)))
-            if code not in (0, CLOSES):
+            if code in HELD_UP:
                 raise BadEntry(ENTRY_FAULTS[code])
             replies = self._take()
+        if code not in (0, CLOSES):
+            return Applied("passed over", leadership.value, 0, 0, None, 0, ENTRY_FAULTS[code])
         kind = KINDS[int.from_bytes(entry[2:4], "big")]
         numbers = (leadership.value, connection.value)
         if kind == "frame":

@@ -42,7 +42,12 @@ class Replicated(unittest.TestCase):
     FRAME = bytes.fromhex("00000000000000010000000700000000000000010000000000000000") + JOIN
     TICK = bytes.fromhex("0000000100000001000000000000afc8")
     LOG = (LEADS, TOPICS, FRAME, TICK)
-    APPLIED = [("leads", 1, 0, 0, None, 0), ("topics", 1, 0, 0, None, 0), ("frame", 1, 7, 1, REPLY, 0), ("tick", 1, 0, 0, None, 1)]
+    APPLIED = [
+        ("leads", 1, 0, 0, None, 0, None),
+        ("topics", 1, 0, 0, None, 0, None),
+        ("frame", 1, 7, 1, REPLY, 0, None),
+        ("tick", 1, 0, 0, None, 1, None),
+    ]
 
     def test_a_leader_proposes_and_applies(self) -> None:
         with migwelun.Replica(LIBRARY, 0) as it:
@@ -67,16 +72,30 @@ class Replicated(unittest.TestCase):
     def test_entries_are_refused(self) -> None:
         with migwelun.Replica(LIBRARY, 0) as it:
             self.assertRaisesRegex(migwelun.BadEntry, "lead", it.propose_tick, 0)
-            for place, entry, why in (
-                (2, self.LEADS, "place"),
-                (1, self.TICK, "leadership"),
-                (1, self.LEADS + b"\0", "left"),
-                (1, b"\0\1" + self.LEADS[2:], "version"),
-                (1, self.LEADS[:2] + b"\0\4" + self.LEADS[4:], "kind"),
-                (1, self.LEADS[:-1], "field"),
-            ):
+            for place, entry, why in ((2, self.LEADS, "place"), (1, b"\0\1" + self.LEADS[2:], "version")):
                 self.assertRaisesRegex(migwelun.BadEntry, why, it.apply, place, entry)
             self.assertEqual(it.place(), (0, 0, 0))
+
+    def test_refused_entries_are_passed_over(self) -> None:
+        """A late one of a leadership that is over, among others. The log goes on behind them as if they weren't there."""
+        refused = (
+            (self.TICK[:7] + b"\2" + self.TICK[8:], "leadership"),
+            (self.LEADS, "leadership"),
+            (self.TICK[:8] + bytes(8), "moment"),
+            (self.LEADS + b"\0", "left"),
+            (self.LEADS[:2] + b"\0\4" + self.LEADS[4:], "kind"),
+            (self.LEADS[:-1], "field"),
+            (self.TOPICS[:-4] + bytes(4), "partition"),
+            (b"", "field"),
+        )
+        with migwelun.Replica(LIBRARY, 0) as it:
+            found = [it.apply(1, self.LEADS), it.apply(2, self.TICK)]
+            for place, (entry, why) in enumerate(refused, 3):
+                passed = it.apply(place, entry)
+                self.assertEqual((passed[:6], why in str(passed.why)), (("passed over", 1, 0, 0, None, 0), True), passed)
+            self.assertEqual((found[1].removed, it.place()), (0, (2 + len(refused), 1, 45_000)))
+            later = self.FRAME[:20] + self.TICK[8:] + JOIN
+            self.assertEqual((it.apply(11, self.TOPICS), it.apply(12, later)), tuple(self.APPLIED[1:3]))
 
     def test_a_replica_is_restored_of_its_snapshot(self) -> None:
         with migwelun.Replica(LIBRARY, 0) as it, migwelun.Replica(LIBRARY, 5) as other:

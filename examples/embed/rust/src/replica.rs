@@ -10,7 +10,7 @@ pub struct Place {
     pub moment: u64,
 }
 
-/// An entry that was applied.
+/// A place of the log that was applied.
 #[derive(Clone, Debug, PartialEq, Eq)]
 pub enum Applied {
     /// A frame: the number of its leadership, of its connection under it and of itself on that, and what became of it.
@@ -19,6 +19,8 @@ pub enum Applied {
     Tick { removed: u64 },
     Topics,
     Leads { leadership: u32 },
+    /// The entry was refused, and nothing else has changed.
+    PassedOver { why: Error },
 }
 
 /// A replica of a log. One that leads proposes entries; each applies those that the log has, in their order, and answers only then.
@@ -91,15 +93,18 @@ impl Replica {
         self.proposed(code)
     }
 
-    /// Applies the entry at a place of the log, of which the first is 1.
+    /// Applies a place of the log, of which the first is 1. What is refused there is passed over. Nothing is applied where it isn't the next
+    /// place, where the entry is of a version that a later library knows, and where memory is short.
     pub fn apply(&mut self, place: u64, entry: &[u8]) -> Result<Applied, Error> {
         let (mut leadership, mut connection, mut frame) = (0, 0, 0);
         let code = unsafe {
             let (slot, bytes) = (&mut self.slot, entry.as_ptr());
             raw::migwelun_apply(slot, place, bytes, entry.len(), &mut leadership, &mut connection, &mut frame)
         };
-        if code != raw::CLOSES {
+        if code < raw::DONE || code == raw::OUT_OF_PLACE || code == raw::UNKNOWN_VERSION {
             done(code)?;
+        } else if code > raw::CLOSES {
+            return Ok(Applied::PassedOver { why: Error::BadEntry(code) });
         }
         let reply = crate::take(&mut self.slot, raw::migwelun_take);
         // (an entry's kind stands behind its version)

@@ -62,6 +62,12 @@ fn a_replica_applies_what_another_proposed() -> Result<(), Error> {
     }
     assert_eq!(follower.place(), Place { applied: 3, leadership: 1, moment: 0 });
     assert_eq!((follower.place(), follower.propose_tick(0)), (leader.place(), Err(Error::BadEntry(5))));
+    // The first leadership is over: what was proposed under it is passed over.
+    let tick = leader.propose_tick(6_000)?;
+    let leads = follower.lead()?;
+    follower.apply(4, &leads)?;
+    assert_eq!(follower.apply(5, &tick), Ok(Applied::PassedOver { why: Error::BadEntry(3) }));
+    assert_eq!(follower.place(), Place { applied: 5, leadership: 2, moment: 0 });
     Ok(())
 }
 

@@ -1,20 +1,18 @@
-use Rattle.std.proofs.Common.{List, ℕ, Result, Ok, Err}
-use Rattle.std.specs.Result.{IfOk}
-use Rattle.replica_entries.specs.Spelling.{SpellsEntry}
-use Rattle.replica_entries.specs.Values.{EntryValue}
-use Rattle.replica_entries.specs.Views.{entry_value}
-use Rattle.coord_replica.specs.declared.applied.Applied.{Applied}
-use Rattle.coord_replica.specs.Applying.{AppliesBytes, AppliesEntry}
-use Rattle.coord_replica.specs.Replicas.{ReplicaState, replica_state}
+use Rattle.std.proofs.Common.{arith}
+use Rattle.coord_replica.specs.Replicas.{log_of, replica_state}
+use Rattle.coord_replica.proofs.Places.{held_result, passed_result, taken_bytes}
 use Rattle.coord_replica.proofs.replica.Replica.apply.Goals as goal
 
--- an entry that was read of the bytes, and applied
-of_bytes : {E : Type 0} (result : Result Applied E) (old new : ReplicaState) (e : EntryValue) (bytes before after : List ℕ) → SpellsEntry e bytes
-    → IfOk result (λ what. AppliesEntry old e what new before after) → IfOk result (λ what. AppliesBytes old bytes what new before after)
-of_bytes (Ok what) old new e bytes before after spells applied = record { entry = e; spells = spells; applied = applied }
-of_bytes (Err fault) old new e bytes before after spells applied = tt
+pub returns-in-Ok-clause-applied : goal.returns-in-Ok-clause-applied
+returns-in-Ok-clause-applied c =
+    taken_bytes (replica_state c.args.self.now) (replica_state c.take.new.self) c.args.bytes.now c.in-Ok.applied c.args.out.now.items c.take.new.out.items c.in-Ok.ensures.taken
 
-pub returns-clause-applied : goal.returns-clause-applied
-returns-clause-applied c =
-    of_bytes c.apply_entry.result (replica_state c.args.self.now) (replica_state c.apply_entry.new.self) (entry_value c.in_ok-entry.entry) c.args.bytes.now c.args.out.now.items
-    c.apply_entry.new.out.items c.in_ok-entry.ensures.found c.apply_entry.ensures.applied
+pub returns-in-Err-clause-applied : goal.returns-in-Err-clause-applied
+returns-in-Err-clause-applied c =
+    passed_result c.pass_over.result c.args.self.now c.take.new.self c.pass_over.new.self c.args.bytes.now c.in-Err.fault c.args.out.now.items c.take.new.out.items
+    (λ i. omega (arith, c.type_inv.bytes i)) c.in-Err.ensures.refused c.in-Err.ensures.err.0 c.in-Err.ensures.err.1 c.pass_over.ensures.passed
+
+pub returns-in-Err-clause-held_up : goal.returns-in-Err-clause-held_up
+returns-in-Err-clause-held_up c =
+    held_result c.pass_over.result (log_of c.args.self.now) c.args.place c.args.bytes.now c.in-Err.fault (λ i. omega (arith, c.type_inv.bytes i))
+    c.in-Err.ensures.refused c.pass_over.ensures.held_up

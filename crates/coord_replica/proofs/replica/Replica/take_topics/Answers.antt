@@ -10,10 +10,10 @@ use Rattle.coord_replica.specs.Applying.{checked}
 use Rattle.coord_replica.specs.ReplicaView.{replica_view}
 use Rattle.coord_replica.specs.Replicas.{LogState, ReplicaValue, log_of}
 use Rattle.coord_replica.proofs.Refusals.{checked-ok, refusal_of-due}
-use Rattle.coord_replica.proofs.replica.Replica.apply_topics.Goals as goal
+use Rattle.coord_replica.proofs.replica.Replica.take_topics.Goals as goal
 
-pub returns-clause-applied : goal.returns-clause-applied
-returns-clause-applied c =
+pub returns-clause-taken : goal.returns-clause-taken
+returns-clause-taken c =
     let s : LogState = log_of (replica_view c.self.inside) in
     let e : EntryValue = record { leadership = c.args.leadership; content = image (entries_of c.args.topics.items) } in
     let passed : (c.args.leadership ≡ c.self.inside.leadership) × (c.self.inside.moment ≤ c.self.inside.moment) =
@@ -24,7 +24,7 @@ returns-clause-applied c =
     rw (← c.self.view_is)
     (λ bytes. record {
       answer = Some (Done 0);
-      applies = record {
+      takes = record {
         taken = refusal_of-due s e passed.0 passed.1 ∙ ap (option_map fault_of_topics) accepted.0;
         step = (
           refl,

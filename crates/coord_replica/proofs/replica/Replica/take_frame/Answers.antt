@@ -10,10 +10,10 @@ use Rattle.coord_replica.specs.ReplicaView.{replica_view}
 use Rattle.coord_replica.specs.Replicas.{LogState, ReplicaValue, log_of}
 use Rattle.coord_replica.proofs.Refusals.{checked-ok, refusal_of-due}
 use Rattle.coord_replica.proofs.Told.{told_under-frame}
-use Rattle.coord_replica.proofs.replica.Replica.apply_frame.Goals as goal
+use Rattle.coord_replica.proofs.replica.Replica.take_frame.Goals as goal
 
-pub returns-clause-applied : goal.returns-clause-applied
-returns-clause-applied c =
+pub returns-clause-taken : goal.returns-clause-taken
+returns-clause-taken c =
     let s : LogState = log_of (replica_view c.self.inside) in
     let e : EntryValue = record { leadership = c.args.leadership; content = frame (frame_value c.args.frame) } in
     let passed : (c.args.leadership ≡ c.self.inside.leadership) × (c.self.inside.moment ≤ c.args.frame.moment) =
@@ -23,7 +23,7 @@ returns-clause-applied c =
     rw (← c.self.view_is)
     (record {
       answer = Some answers.answer;
-      applies = record {
+      takes = record {
         taken = refusal_of-due s e passed.0 passed.1;
         step = subst (λ (stamp : Stamp). Step (coordinator_of c.self.inside.node) (Frame c.args.frame.body.now stamp c.args.frame.moment) answers.answer
             (coordinator_of c.answer.new.self))

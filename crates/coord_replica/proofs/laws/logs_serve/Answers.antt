@@ -1,0 +1,8 @@
+use Rattle.coord_replica.specs.Applying.{answers_given, entries_taken}
+use Rattle.coord_replica.specs.Entries.{events_of}
+use Rattle.coord_replica.proofs.Runs.{replicas_are_runs}
+use Rattle.coord_replica.proofs.laws.logs_serve.Goals as goal
+
+pub returns : goal.returns
+returns c = λ salt log fates s run.
+    c.coordinators_serve.ensures salt (events_of (entries_taken log fates)) (answers_given fates) s.coordinator (replicas_are_runs salt log fates s run).run
