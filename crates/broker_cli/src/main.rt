@@ -9,6 +9,7 @@ mod expiry;
 mod fault;
 mod options;
 mod serve;
+mod status;
 mod topic_words;
 
 use options::Asked;

@@ -12,6 +12,9 @@ use std::io;
 use std::net::Ipv4Addr;
 use topic_meta::Image;
 
+/// The greatest port.
+const MOST_PORT: u64 = 65_535;
+
 /// The most workers, and the most shards.
 const MOST_WORKERS: u64 = 64;
 
@@ -61,6 +64,8 @@ pub struct Options {
     pub idle: Option<u64>,
     /// Whether it is told of each connection that has closed.
     pub logs: bool,
+    /// The port of this machine's loopback address for the status, if it is served.
+    pub status: Option<u16>,
     /// The topics.
     pub image: Image,
     pub ghost workers_are: { (1 ≤ workers) × (workers ≤ 64) },
@@ -120,6 +125,12 @@ fn command<'a>(alloc: Global) -> Result<Command<'a>, AllocError> {
             "log",
             "Tells on standard error of each connection that has closed",
         ))?
+        .arg(value(
+            alloc,
+            "status",
+            "P",
+            "Serves a page, /groups and /metrics on this port of 127.0.0.1, 1 to 65535",
+        ))?
         .arg(topics(alloc))
 }
 
@@ -176,7 +187,7 @@ fn options_of(
     processors: usize,
 ) -> Result<Options, WordsFault> {
     let host = host_of(alloc, matches)?;
-    let port = number_of(matches, "port", 1, 65_535, 9_092)?;
+    let port = number_of(matches, "port", 1, MOST_PORT, 9_092)?;
     let usual_workers = (processors as u64).clamp(1, MOST_WORKERS);
     let workers = number_of(matches, "workers", 1, MOST_WORKERS, usual_workers)?;
     let shards = number_of(matches, "shards", 1, MOST_SHARDS, 8)?;
@@ -201,6 +212,7 @@ fn options_of(
         records,
         idle,
         logs: matches.get_flag("log"),
+        status: status_of(matches)?,
         image,
     })
 }
@@ -224,6 +236,14 @@ fn idle_of(matches: &ArgMatches<'_>) -> Result<Option<u64>, WordsFault>
         return Ok(None);
     }
     Ok(Some(number_of(matches, "idle", 1, MOST_SECONDS, 1)?))
+}
+
+/// The port for the status, if it is served.
+fn status_of(matches: &ArgMatches<'_>) -> Result<Option<u16>, WordsFault> {
+    if !matches.contains_id("status") {
+        return Ok(None);
+    }
+    Ok(Some(number_of(matches, "status", 1, MOST_PORT, 1)? as u16))
 }
 
 /// The number that is given for a word, from the least to the greatest, or the usual one if none is given.

@@ -4,6 +4,8 @@ ghost use Rattle.std.specs.Prelude.{◌≡◌, ◌+◌, ◌*◌, ◌≤◌, true
 use crate::desks::BrokerDesks;
 use crate::fault::BrokerFault;
 use crate::options::Options;
+use crate::status::{listen_if, run_beside, service_of};
+use broker_status::StatusServer;
 use broker_topics::{Topics, TopicsPlan};
 use coord_server::{
     Announce, ClockMoments, EndLog, NewShards, Plan, Runtime, Server, ServerFault, ShardsDesks,
@@ -23,11 +25,18 @@ const WITHOUT_END: u64 = u64::MAX;
 
 /// What is served by: the system, what is asked for, the topics, and where the ends of connections are noted.
 #[derive(Drop)]
-struct Setting<'a, R> {
-    rt: &'a R,
-    options: &'a Options,
-    topics: &'a Topics,
+pub struct Setting<'a, R> {
+    pub rt: &'a R,
+    pub options: &'a Options,
+    pub topics: &'a Topics,
     log: &'a EndLog,
+}
+
+/// What the broker listens on: for clients, and for its status.
+#[derive(Drop)]
+struct Sockets {
+    clients: TcpListener,
+    status: Option<StatusServer>,
 }
 
 /// Serves as it is asked to, until a signal ends the process. What is printed goes to the writer. A fault is written to `errors`, and so are
@@ -118,21 +127,24 @@ where
 {
     let keys = RandomState::new(setting.rt).map_err(BrokerFault::Keys)?;
     let (host, port) = (setting.options.host, setting.options.port);
-    let socket = match listen(setting.rt, SocketAddrV4::new(host, port)) {
-        Ok(socket) => socket,
-        Err(error) => return Err(BrokerFault::Port(host, port, error)),
+    let sockets = Sockets {
+        clients: match listen(setting.rt, SocketAddrV4::new(host, port)) {
+            Ok(socket) => socket,
+            Err(error) => return Err(BrokerFault::Port(host, port, error)),
+        },
+        status: listen_if(setting.rt, setting.options.status)?,
     };
     match ClockMoments::start(setting.rt) {
-        Ok(moments) => serve_socket(setting, keys, socket, &moments, writer),
+        Ok(moments) => serve_socket(setting, keys, sockets, &moments, writer),
         Err(error) => Err(BrokerFault::Clock(error)),
     }
 }
 
-/// Serves the connections of a socket over new shards, whose salt is the first moment. Prints that the broker listens once it serves.
+/// Serves the connections of sockets over new shards, whose salt is the first moment. Prints that the broker listens once it serves.
 fn serve_socket<R, W: Write>(
     setting: &Setting<'_, R>,
     keys: RandomState,
-    socket: TcpListener,
+    sockets: Sockets,
     moments: &ClockMoments<'_, R>,
     writer: &mut W,
 ) -> Result<(), BrokerFault>
@@ -146,7 +158,7 @@ where
         address: SocketAddrV4::new(setting.options.host, setting.options.port),
     };
     let new_shards = NewShards::new(setting.options.shards, first, keys);
-    serve_over::<Brand, Brand, R, _>(setting, new_shards, socket, moments, listening)?;
+    serve_over::<Brand, Brand, R, _>(setting, new_shards, sockets, moments, listening)?;
     Ok(())
 }
 
@@ -161,11 +173,11 @@ where
         .generate(setting.rt, setting.rt.alloc(), records, moment)
 }
 
-/// Serves the connections of a socket over new shards, which it gives their topics.
+/// Serves the connections of sockets over new shards, which it gives their topics.
 fn serve_over<A, C, R, N>(
     setting: &Setting<'_, R>,
     new_shards: NewShards,
-    socket: TcpListener,
+    sockets: Sockets,
     moments: &ClockMoments<'_, R>,
     announce: N,
 ) -> Result<u64, ServerFault>
@@ -197,7 +209,12 @@ where
         plan: plan_of(setting.options),
         log: setting.log,
     };
-    server.serve_sockets(socket, announce)
+    let Sockets { clients, status } = sockets;
+    let Some(status) = status else {
+        return server.serve_sockets(clients, announce);
+    };
+    let service = service_of(setting, &shards)?;
+    run_beside(setting.rt, status, service, move || server.serve_sockets(clients, announce))
 }
 
 /// How large the broker is: as many workers as are asked for, and an expiry worker; and after what silence a connection is closed.

@@ -11,38 +11,40 @@ const MOST_LOOKS: usize = 4_096;
 
 /// A member of a group.
 #[derive(Drop)]
-pub(crate) struct FoundMember {
-    pub(crate) id: String,
-    pub(crate) instance: Option<String>,
-    pub(crate) rack: Option<String>,
-    pub(crate) epoch: i32,
-    pub(crate) names: Vec<String>,
+pub struct FoundMember {
+    pub id: String,
+    pub instance: Option<String>,
+    pub rack: Option<String>,
+    pub epoch: i32,
+    pub names: Vec<String>,
     /// What it has, in the order of the topics' ids and the indexes.
-    pub(crate) has: Vec<Partition>,
+    pub has: Vec<Partition>,
     /// What it is to have, in the same order.
-    pub(crate) wants: Vec<Partition>,
+    pub wants: Vec<Partition>,
 }
 
 /// A group besides its members.
 #[derive(Clone, Copy)]
-pub(crate) struct FoundGroup {
-    pub(crate) state: &'static str,
-    pub(crate) epoch: i32,
-    pub(crate) target_epoch: i32,
+pub struct FoundGroup {
+    pub state: &'static str,
+    pub epoch: i32,
+    pub target_epoch: i32,
+    /// How many members it has.
+    pub members: usize,
 }
 
 /// Reads a group, some members at a time.
 #[derive(Drop)]
-pub(crate) struct DescribeReader<'r> {
+pub struct DescribeReader<'r> {
     alloc: Global,
     name: &'r str,
     /// The rank of the next member.
     next: usize,
     /// No member is left.
     pub(crate) is_done: bool,
-    pub(crate) room: Room,
+    pub room: Room,
     /// None: there is no such group.
-    pub(crate) group: Option<FoundGroup>,
+    pub group: Option<FoundGroup>,
     members: Vec<FoundMember>,
     /// How many members ask for `range`, and for `uniform`.
     range: usize,
@@ -104,7 +106,7 @@ impl<'r> DescribeReader<'r> {
     }
 
     /// The members that were read.
-    pub(crate) fn into_members(self) -> Vec<FoundMember> {
+    pub fn into_members(self) -> Vec<FoundMember> {
         self.members
     }
 
@@ -155,7 +157,7 @@ impl<'r> DescribeReader<'r> {
     }
 
     /// The assignor that most members ask for; `uniform` if as many ask for one as for the other.
-    pub(crate) fn assignor(&self) -> &'static str {
+    pub fn assignor(&self) -> &'static str {
         let most = if self.uniform < self.range {
             AssignorName::Range
         } else {
@@ -176,6 +178,7 @@ impl NodeReader for DescribeReader<'_> {
                 state: state_of(group),
                 epoch: group.epoch().as_i32(),
                 target_epoch: group.target().epoch().as_i32(),
+                members: group.members(),
             });
         }
         let mut looks = 0usize;

@@ -1,5 +1,5 @@
 //! How much a reply may hold.
-ghost use Rattle.std.specs.Prelude.{◌≡◌, IfOk, option_map, string_bytes};
+ghost use Rattle.std.specs.Prelude.{◌≡◌, false, IfOk, option_map, string_bytes};
 ghost use Rattle.std.specs.Option.{option_copied};
 
 use std::alloc::{AllocError, Global};
@@ -12,7 +12,7 @@ const ENTRY: usize = 64;
 
 /// The room that is left in a reply. What finds no room is left out, and the reply isn't sent.
 #[derive(Clone, Copy)]
-pub(crate) struct Room {
+pub struct Room {
     left: usize,
     is_passed: bool,
 }
@@ -20,8 +20,15 @@ pub(crate) struct Room {
 impl Room {
     /// All of it.
     pub(crate) fn new() -> Room {
+        Room::of(MOST_BYTES)
+    }
+
+    /// The room of this number of bytes.
+    pub fn of(left: usize) -> Room
+        ensures { result ≡ record { left = left; is_passed = false } }
+    {
         Room {
-            left: MOST_BYTES,
+            left,
             is_passed: false,
         }
     }

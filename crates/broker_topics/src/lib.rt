@@ -16,6 +16,7 @@ mod held;
 mod init_producer_id;
 mod limits;
 mod list_offsets;
+mod looks;
 mod metadata;
 mod offset_for_leader_epoch;
 mod partition;
