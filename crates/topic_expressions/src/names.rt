@@ -29,7 +29,7 @@ fn matched_by<'a>(
 
 /// Those of the names that a regular expression matches as a whole, in their order (KIP-848, "SubscribedTopicRegex").
 ///
-/// Faults: `Refused` if it is longer than 1,000 bytes, or no regular expression; memory.
+/// Faults: `Refused` if it is longer than 1,000 bytes, no regular expression, or over 256 KiB when compiled; memory.
 pub fn names_matched<'a>(
     alloc: Global,
     expression: &str,

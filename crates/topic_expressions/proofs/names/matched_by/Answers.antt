@@ -1,4 +1,4 @@
-use Rattle.std.proofs.Common.{◌≡◌, ◌∙◌, ap}
+use Rattle.std.proofs.Common.{◌∙◌}
 use Rattle.topic_expressions.proofs.NameLemmas.{one_more, no_more}
 use Rattle.topic_expressions.proofs.names.matched_by.Goals as goal
 use Rattle.topic_expressions.proofs.names.matched_by.Goals.{then-is_match+in_ok-push, else-is_match}

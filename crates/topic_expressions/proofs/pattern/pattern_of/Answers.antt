@@ -1,6 +1,5 @@
-use Rattle.std.proofs.Common.{◌≡◌, refl, ◌∙◌}
+use Rattle.std.proofs.Common.{refl, ◌∙◌}
 use Rattle.regex.specs.Names.{names_of}
-use Rattle.topic_expressions.specs.Expressions.{whole, IsReadAs}
 use Rattle.topic_expressions.proofs.pattern.pattern_of.Goals as goal
 
 pub returns-clause-read : goal.returns-clause-read
@@ -16,5 +15,6 @@ returns-clause-read c =
       source = c.in_ok-regex.ensures.source ∙ c.as_str.ensures.value ∙ c.in_ok-text.ensures;
       config = c.in_ok-regex.ensures.config;
       read = c.in_ok-regex.ensures.read;
+      small = c.in_ok-regex.ensures.small;
       pattern = refl;
     }
