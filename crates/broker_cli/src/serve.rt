@@ -214,7 +214,12 @@ where
         return server.serve_sockets(clients, announce);
     };
     let service = service_of(setting, &shards)?;
-    run_beside(setting.rt, status, service, move || server.serve_sockets(clients, announce))
+    run_beside(
+        setting.rt,
+        status,
+        service,
+        move || server.serve_sockets(clients, announce),
+    )
 }
 
 /// How large the broker is: as many workers as are asked for, and an expiry worker; and after what silence a connection is closed.

@@ -3,45 +3,29 @@ ghost use Rattle.std.specs.Prelude.{◌≡◌, IfOk, OnErr};
 ghost use Rattle.broker_topics.specs.Answers.{Appends};
 
 use crate::answer::{GroupsRequest, put};
-use crate::described::{DescribeReader, FoundGroup, FoundMember};
+use crate::described::{FoundGroup, FoundMember};
 use crate::fault::Unanswered;
 use crate::room::{Room, text_of};
 use crate::state::DEAD;
+use crate::view::GroupsView;
 use broker_messages::{
     AssignedTopic, ConsumerGroupDescribeReply, ConsumerGroupDescribeRequest, DescribedGroup,
     DescribedMember, OPERATIONS_NOT_TOLD,
 };
-use broker_topics::{Topic, TopicsAnswer};
+use broker_topics::{Topics, TopicsAnswer};
 use coord_node::{Code, NameSet, Partition};
 use std::alloc::{AllocError, Global};
-use std::collections::BTreeMap;
 use std::sync::Wait;
 use std::sync::ledger::Ledger;
 use uuid::Uuid;
 
-/// The most times that one group is looked at.
-const MOST_READS: usize = 131_072;
-
 /// The member type of the consumer protocol.
 const CONSUMER: i8 = 1;
 
-/// The names of topics, by their ids.
-type TopicNames<'t> = BTreeMap<Uuid, &'t str>;
-
-fn topic_names(alloc: Global, topics: &[Topic]) -> Result<TopicNames<'_>, AllocError> {
-    let mut names = BTreeMap::new(alloc);
-    for topic in topics {
-        if names.insert(topic.id, topic.name.as_str()).is_err() {
-            return Err(AllocError);
-        }
-    }
-    Ok(names)
-}
-
 /// The name of the topic with an id; empty if it isn't known.
-fn name_of<'t>(names: &TopicNames<'t>, id: &Uuid) -> &'t str {
-    match names.get(id) {
-        Some(name) => *name,
+fn name_of<'t>(topics: &'t Topics, id: &Uuid) -> &'t str {
+    match topics.topic_of(id) {
+        Some(topic) => topic.name.as_str(),
         None => "",
     }
 }
@@ -74,18 +58,18 @@ struct NamedGroup {
 /// The topics of partitions that are in the order of their topics' ids.
 fn named_topics(
     alloc: Global,
-    names: &TopicNames<'_>,
+    topics: &Topics,
     partitions: &[Partition],
 ) -> Result<Vec<NamedTopic>, AllocError> {
-    let mut topics: Vec<NamedTopic> = Vec::new(alloc);
+    let mut named: Vec<NamedTopic> = Vec::new(alloc);
     for partition in partitions {
-        match topics.last_mut() {
+        match named.last_mut() {
             Some(topic) if topic.id == partition.topic => topic.partitions.push(partition.index)?,
             _ => {
-                let name = String::from_str(alloc, name_of(names, &partition.topic))?;
+                let name = String::from_str(alloc, name_of(topics, &partition.topic))?;
                 let mut partitions = Vec::new(alloc);
                 partitions.push(partition.index)?;
-                topics.push(NamedTopic {
+                named.push(NamedTopic {
                     id: partition.topic,
                     name,
                     partitions,
@@ -93,19 +77,19 @@ fn named_topics(
             }
         }
     }
-    Ok(topics)
+    Ok(named)
 }
 
 /// The members, with the names of their topics.
 fn named_members(
     alloc: Global,
-    names: &TopicNames<'_>,
+    topics: &Topics,
     found: Vec<FoundMember>,
 ) -> Result<Vec<NamedMember>, AllocError> {
     let mut members = Vec::with_capacity(alloc, found.len())?;
     for member in found {
-        let has = named_topics(alloc, names, &member.has)?;
-        let wants = named_topics(alloc, names, &member.wants)?;
+        let has = named_topics(alloc, topics, &member.has)?;
+        let wants = named_topics(alloc, topics, &member.wants)?;
         members.push(NamedMember { member, has, wants })?;
     }
     Ok(members)
@@ -207,24 +191,19 @@ impl<A: Ledger, C: Ledger, G> GroupsRequest<'_, A, C, G> {
         &self,
         rt: &R,
         alloc: Global,
-        names: &TopicNames<'_>,
         name: &str,
         room: &mut Room,
     ) -> Result<NamedGroup, AllocError> {
-        let mut reader = DescribeReader::new(alloc, name, *room);
-        let shard = self.shards.shard_of(name);
-        for _ in 0..MOST_READS {
-            if reader.is_done {
-                break;
-            }
-            self.shards.read(rt, shard, &mut reader)?;
-        }
+        let view = GroupsView {
+            shards: self.shards,
+        };
+        let reader = view.described(rt, alloc, name, *room)?;
         *room = reader.room;
         Ok(NamedGroup {
             name: String::from_str(alloc, name)?,
             group: reader.group,
             assignor: reader.assignor(),
-            members: named_members(alloc, names, reader.into_members())?,
+            members: named_members(alloc, self.topics, reader.into_members())?,
         })
     }
 
@@ -235,13 +214,12 @@ impl<A: Ledger, C: Ledger, G> GroupsRequest<'_, A, C, G> {
         alloc: Global,
         group_ids: &[&str],
     ) -> Result<Vec<NamedGroup>, Unanswered> {
-        let names = topic_names(alloc, self.topics.topics())?;
         let mut room = Room::new();
         let mut named = NameSet::new(alloc);
         let mut found = Vec::new(alloc);
         for group_id in group_ids {
             if room.take(group_id.len()) && named.insert(alloc, group_id)? {
-                found.push(self.found_group(rt, alloc, &names, group_id, &mut room)?)?;
+                found.push(self.found_group(rt, alloc, group_id, &mut room)?)?;
             }
         }
         if room.is_passed() {

@@ -33,7 +33,12 @@ pub fn metrics_of(alloc: Global, report: &Report<'_>) -> Result<String, AllocErr
 fn write_metrics(text: &mut String, report: &Report<'_>) -> Result<(), AllocError> {
     let rebalancing = report.groups.iter().filter(|group| !group.is_settled);
     let all = report.groups.len().saturating_add(report.more_groups);
-    write_one(text, "broker_up_seconds", "Seconds since the broker began.", report.up_seconds)?;
+    write_one(
+        text,
+        "broker_up_seconds",
+        "Seconds since the broker began.",
+        report.up_seconds,
+    )?;
     write_one(text, "broker_groups", "Groups that there are.", all as u64)?;
     write_one(
         text,
@@ -61,7 +66,11 @@ fn write_members(text: &mut String, report: &Report<'_>) -> Result<(), AllocErro
     write_head(text, "broker_group_members", "Members of a group.")?;
     for group in &report.groups {
         let members = group.members.len().saturating_add(group.more_members);
-        writeln!(text, "broker_group_members{{group=\"{}\"}} {members}", Label(group.name))?;
+        writeln!(
+            text,
+            "broker_group_members{{group=\"{}\"}} {members}",
+            Label(group.name)
+        )?;
     }
     Ok(())
 }

@@ -47,6 +47,13 @@ pub struct Report<'a> {
     pub groups: Vec<GroupReport<'a>>,
 }
 
+/// What is told of the only broker.
+fn broker_reports(alloc: Global, broker: &str) -> Result<Vec<BrokerReport<'_>>, AllocError> {
+    let mut told = Vec::with_capacity(alloc, 1)?;
+    told.push(BrokerReport { node: NODE, broker })?;
+    Ok(told)
+}
+
 /// What is told of a topic whose logs end there.
 fn topic_report<'a>(
     alloc: Global,
@@ -105,12 +112,10 @@ pub fn report_of<'a>(
 ) -> Result<Report<'a>, AllocError>
     ensures { IfOk result (λ told. map group_told told.groups.items ≡ map group_facts found.now.groups.items) }
 {
-    let mut coordinators = Vec::new(alloc);
-    coordinators.push(BrokerReport { node: NODE, broker })?;
     let told = topic_reports(alloc, topics.topics(), &found.ends)?;
     Ok(Report {
         up_seconds,
-        coordinators,
+        coordinators: broker_reports(alloc, broker)?,
         more_groups: found.all.saturating_sub(found.groups.len()),
         more_topics: topics.topics().len().saturating_sub(told.len()),
         lacks_offsets: !found.has_all_offsets,

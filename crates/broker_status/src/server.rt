@@ -6,13 +6,12 @@ use mio::net::TcpListener;
 use mio::{Events, Interest, Poll, Token};
 use std::alloc::{AllocGlobal, Global};
 use std::collections::hash_map::RandomState;
-use std::io;
 use std::net::{Net, SocketAddr};
 use std::random::RandomSource;
 use std::sync::Wait;
 use std::sync::atomic::{AtomicBool, Ordering};
-use std::thread;
 use std::time::{Clock, Duration};
+use std::{io, thread};
 
 /// The most connections. The oldest one gives way to a further one.
 const MOST_VISITS: usize = 64;
@@ -50,7 +49,8 @@ impl StatusServer {
     {
         let mut listener = TcpListener::bind(rt, address)?;
         let poll = Poll::new(rt)?;
-        poll.registry().register(&mut listener, LISTENER, Interest::READABLE)?;
+        poll.registry()
+            .register(&mut listener, LISTENER, Interest::READABLE)?;
         Ok(StatusServer {
             alloc: rt.alloc(),
             listener,
@@ -88,7 +88,12 @@ impl StatusServer {
                 return;
             };
             let both = Interest::READABLE | Interest::WRITABLE;
-            if self.poll.registry().register(&mut stream, VISIT, both).is_err() {
+            if self
+                .poll
+                .registry()
+                .register(&mut stream, VISIT, both)
+                .is_err()
+            {
                 return;
             }
             if MOST_VISITS <= self.visits.len() {

@@ -82,12 +82,21 @@ impl<'a, A: Ledger, C: Ledger, G, R: Wait + Clock> StatusService<'a, A, C, G, R>
     fn report(&self, are_metrics: bool) -> Result<Answer, AllocError> {
         let (alloc, topics) = (self.reader.alloc, self.reader.topics);
         let found = self.reader.read()?;
-        let report = report_of(alloc, topics, &found, self.broker.as_str(), self.up_seconds())?;
+        let report = report_of(
+            alloc,
+            topics,
+            &found,
+            self.broker.as_str(),
+            self.up_seconds(),
+        )?;
         if are_metrics {
             let kind = HeaderValue::from_static("text/plain; version=0.0.4; charset=utf-8");
             return Answer::text(kind, metrics_of(alloc, &report)?.into_bytes());
         }
-        Answer::text(HeaderValue::from_static("application/json"), json_of(alloc, &report)?)
+        Answer::text(
+            HeaderValue::from_static("application/json"),
+            json_of(alloc, &report)?,
+        )
     }
 }
 
@@ -105,7 +114,11 @@ fn add_fields(response: &mut Response) -> Result<(), AllocError> {
 impl<'a, A: Ledger, C: Ledger, G, R: Wait + Clock> Service for StatusService<'a, A, C, G, R> {
     ghost answers = { λ old _ response new. IsGuarded response × (new ≡ old) };
 
-    fn call(&mut self, request: &Request<Bytes>, response: &mut Response) -> Result<(), AllocError> {
+    fn call(
+        &mut self,
+        request: &Request<Bytes>,
+        response: &mut Response,
+    ) -> Result<(), AllocError> {
         let answer = if *request.method() == Method::GET || *request.method() == Method::HEAD {
             match self.answer(request.uri().path()) {
                 Ok(answer) => answer,
