@@ -6,7 +6,7 @@ use coord_shards::NodeReader;
 use std::alloc::{AllocError, Global};
 
 /// How many partitions are looked at under one lock.
-const MOST_LOOKS: usize = 4_096;
+const MOST_LOOKS: usize = 1_024;
 
 /// An offset that is committed for a partition.
 #[derive(Clone, Copy)]

@@ -1,13 +1,13 @@
 //! What a group is like, read from its node.
 
 use crate::room::{Room, copy_of, length_of};
-use crate::state::state_of;
+use crate::state::{is_settled, state_if};
 use coord_node::{AssignorName, Group, Node, PartSet, Partition, Record};
 use coord_shards::NodeReader;
 use std::alloc::{AllocError, Global};
 
 /// About how many members and partitions are looked at under one lock.
-const MOST_LOOKS: usize = 4_096;
+const MOST_LOOKS: usize = 1_024;
 
 /// A member of a group.
 #[derive(Drop)]
@@ -46,6 +46,8 @@ pub struct DescribeReader<'r> {
     /// None: there is no such group.
     pub group: Option<FoundGroup>,
     members: Vec<FoundMember>,
+    /// Whether each member that was looked at is settled.
+    are_settled: bool,
     /// How many members ask for `range`, and for `uniform`.
     range: usize,
     uniform: usize,
@@ -100,6 +102,7 @@ impl<'r> DescribeReader<'r> {
             room,
             group: None,
             members: Vec::new(alloc),
+            are_settled: true,
             range: 0,
             uniform: 0,
         }
@@ -142,11 +145,11 @@ impl<'r> DescribeReader<'r> {
         }
     }
 
-    /// Adds a member, and gives about how much was looked at.
+    /// Adds a member, if there is room for it, and gives about how much was looked at.
     fn add(&mut self, group: &Group, id: &str, record: &Record) -> Result<usize, AllocError> {
+        self.are_settled = self.are_settled && is_settled(group, id, record);
         let texts = length_of(record.instance()).saturating_add(length_of(record.rack()));
         if !self.room.take(texts.saturating_add(id.len())) {
-            self.is_done = true;
             return Ok(1);
         }
         self.count(record);
@@ -154,6 +157,23 @@ impl<'r> DescribeReader<'r> {
         let looks = member.has.len().saturating_add(member.wants.len());
         self.members.push(member)?;
         Ok(looks.saturating_add(1))
+    }
+
+    /// Reads some members.
+    fn read_members(&mut self, group: &Group) -> Result<(), AllocError> {
+        let mut looks = 0usize;
+        for _ in 0..MOST_LOOKS {
+            let Some((id, record)) = group.records().member_at(self.next) else {
+                self.is_done = true;
+                return Ok(());
+            };
+            looks = looks.saturating_add(self.add(group, id.as_str(), record)?);
+            self.next = self.next.saturating_add(1);
+            if MOST_LOOKS < looks {
+                return Ok(());
+            }
+        }
+        Ok(())
     }
 
     /// The assignor that most members ask for; `uniform` if as many ask for one as for the other.
@@ -173,26 +193,13 @@ impl NodeReader for DescribeReader<'_> {
             self.is_done = true;
             return Ok(());
         };
-        if self.group.is_none() {
-            self.group = Some(FoundGroup {
-                state: state_of(group),
-                epoch: group.epoch().as_i32(),
-                target_epoch: group.target().epoch().as_i32(),
-                members: group.members(),
-            });
-        }
-        let mut looks = 0usize;
-        for _ in 0..MOST_LOOKS {
-            let Some((id, record)) = group.records().member_at(self.next) else {
-                self.is_done = true;
-                return Ok(());
-            };
-            looks = looks.saturating_add(self.add(group, id.as_str(), record)?);
-            self.next = self.next.saturating_add(1);
-            if self.is_done || MOST_LOOKS < looks {
-                return Ok(());
-            }
-        }
+        self.read_members(group)?;
+        self.group = Some(FoundGroup {
+            state: state_if(group, self.are_settled),
+            epoch: group.epoch().as_i32(),
+            target_epoch: group.target().epoch().as_i32(),
+            members: group.members(),
+        });
         Ok(())
     }
 }

@@ -5,10 +5,11 @@ use crate::described::DescribeReader;
 use crate::names::NameReader;
 use crate::room::Room;
 use broker_topics::Topic;
-use coord_shards::Shards;
+use coord_shards::{NodeReader, Shards};
 use std::alloc::{AllocError, Global};
 use std::sync::Wait;
 use std::sync::ledger::Ledger;
+use std::thread::yield_now;
 
 /// The most times that one shard or one group is looked at.
 const MOST_READS: usize = 131_072;
@@ -20,6 +21,17 @@ pub struct GroupsView<'a, A: Ledger, C: Ledger, G> {
 }
 
 impl<A: Ledger, C: Ledger, G> GroupsView<'_, A, C, G> {
+    /// Has a reader look at the node of a shard. Before that it lets other threads run, which may wait for the shard.
+    fn look<R: Wait, V: NodeReader>(
+        &self,
+        rt: &R,
+        shard: usize,
+        reader: &mut V,
+    ) -> Result<(), AllocError> {
+        yield_now();
+        self.shards.read(rt, shard, reader)
+    }
+
     /// The names of up to `most` groups, as far as there is room.
     pub fn names<R: Wait>(
         &self,
@@ -35,7 +47,7 @@ impl<A: Ledger, C: Ledger, G> GroupsView<'_, A, C, G> {
                 if reader.is_done {
                     break;
                 }
-                self.shards.read(rt, shard, &mut reader)?;
+                self.look(rt, shard, &mut reader)?;
             }
         }
         Ok(reader)
@@ -55,7 +67,7 @@ impl<A: Ledger, C: Ledger, G> GroupsView<'_, A, C, G> {
             if reader.is_done {
                 break;
             }
-            self.shards.read(rt, shard, &mut reader)?;
+            self.look(rt, shard, &mut reader)?;
         }
         Ok(reader)
     }
@@ -75,7 +87,7 @@ impl<A: Ledger, C: Ledger, G> GroupsView<'_, A, C, G> {
             if reader.is_done {
                 break;
             }
-            self.shards.read(rt, shard, &mut reader)?;
+            self.look(rt, shard, &mut reader)?;
         }
         Ok(reader)
     }

@@ -4,10 +4,10 @@ ghost use Rattle.broker_status.specs.Members.{member_facts, member_told};
 ghost use Rattle.broker_status.specs.Groups.{group_facts, group_told};
 
 use crate::found::FoundStatus;
-use crate::lag::{MOST_SHOWN, TopicLag, lags_of};
+use crate::lag::{MOST_SHOWN, lags_of};
 use crate::member_report::{MemberReport, member_report};
 use broker_groups::{CommittedOffset, FoundMember};
-use broker_topics::Topics;
+use broker_topics::{Topic, Topics};
 use serde::Serialize;
 use std::alloc::{AllocError, Global};
 use std::collections::BTreeMap;
@@ -63,25 +63,36 @@ fn offsets_of(
     Ok(by_index)
 }
 
-impl<'a> GroupReport<'a> {
-    /// Adds how far the group is with a topic.
-    fn add(
-        &mut self,
-        alloc: Global,
-        lag: &TopicLag<'a>,
-        offsets: &[CommittedOffset],
-    ) -> Result<(), AllocError>
-        ensures { self.new ≡ record self.old { committed = self.new.committed; lag = self.new.lag; offsets = self.new.offsets } }
-    {
+/// How far a group is with topics, by their names.
+#[derive(Drop)]
+struct Progress<'a> {
+    committed: BTreeMap<&'a str, usize>,
+    lag: BTreeMap<&'a str, u64>,
+    offsets: BTreeMap<&'a str, BTreeMap<i32, i64>>,
+}
+
+/// How far a group is with the topics that it has committed offsets of.
+fn progress_of<'a>(
+    alloc: Global,
+    topics: &'a [Topic],
+    ends: &[Vec<u64>],
+    offsets: &[CommittedOffset],
+) -> Result<Progress<'a>, AllocError> {
+    let mut progress = Progress {
+        committed: BTreeMap::new(alloc),
+        lag: BTreeMap::new(alloc),
+        offsets: BTreeMap::new(alloc),
+    };
+    for lag in lags_of(alloc, topics, ends, offsets)? {
         let name = lag.topic.name.as_str();
-        self.committed.insert(name, lag.committed)?;
-        self.lag.insert(name, lag.lag)?;
+        progress.committed.insert(name, lag.committed)?;
+        progress.lag.insert(name, lag.lag)?;
         if lag.topic.count() <= MOST_SHOWN {
             let by_index = offsets_of(alloc, lag.place, offsets)?;
-            self.offsets.insert(name, by_index)?;
+            progress.offsets.insert(name, by_index)?;
         }
-        Ok(())
     }
+    Ok(progress)
 }
 
 /// What is told of a group. Fails for want of memory.
@@ -94,7 +105,8 @@ pub(crate) fn group_report<'a>(
     ensures { IfOk result (λ told. group_told told ≡ group_facts found.now) }
 {
     let group = found.group;
-    let mut told = GroupReport {
+    let progress = progress_of(alloc, topics.topics(), ends, &found.offsets)?;
+    Ok(GroupReport {
         name: found.name.as_str(),
         state: group.state,
         epoch: group.epoch,
@@ -103,12 +115,8 @@ pub(crate) fn group_report<'a>(
         assignor: found.assignor,
         members: member_reports(alloc, topics, &found.members)?,
         more_members: group.members.saturating_sub(found.members.len()),
-        committed: BTreeMap::new(alloc),
-        lag: BTreeMap::new(alloc),
-        offsets: BTreeMap::new(alloc),
-    };
-    for lag in lags_of(alloc, topics.topics(), ends, &found.offsets)? {
-        told.add(alloc, &lag, &found.offsets)?;
-    }
-    Ok(told)
+        committed: progress.committed,
+        lag: progress.lag,
+        offsets: progress.offsets,
+    })
 }

@@ -11,7 +11,7 @@ use std::random::RandomSource;
 use std::sync::Wait;
 use std::sync::atomic::{AtomicBool, Ordering};
 use std::time::{Clock, Duration};
-use std::{io, thread};
+use std::{io, mem, thread};
 
 /// The most connections. The oldest one gives way to a further one.
 const MOST_VISITS: usize = 64;
@@ -106,15 +106,12 @@ impl StatusServer {
         }
     }
 
-    /// Goes on with each connection, and closes those that are at their end or late.
+    /// Goes on with each connection, and closes those that are at their end or late, or for which there is no memory.
     fn go_on<R: Clock, S: Service>(&mut self, clock: &R, service: &mut S) {
-        let mut place = 0;
-        for _ in 0..self.visits.len() {
-            let visit = &mut self.visits[place];
+        let none = Vec::new(self.alloc);
+        for mut visit in mem::replace(&mut self.visits, none) {
             if visit.go_on(clock, service) && !visit.is_late(clock) {
-                place += 1;
-            } else {
-                drop(self.visits.remove(place));
+                let _ = self.visits.push(visit);
             }
         }
     }

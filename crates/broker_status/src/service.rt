@@ -1,5 +1,7 @@
 //! The answers to HTTP requests.
-ghost use Rattle.broker_status.specs.Answers.{IsGuarded};
+ghost use Rattle.std.specs.Prelude.{◌≡◌, ◌++◌, OnOk};
+ghost use Rattle.http_server.specs.Response.{fields_of};
+ghost use Rattle.broker_status.specs.Answers.{IsGuarded, guards};
 
 use crate::found::StatusReader;
 use crate::json::json_of;
@@ -101,7 +103,9 @@ impl<'a, A: Ledger, C: Ledger, G, R: Wait + Clock> StatusService<'a, A, C, G, R>
 }
 
 /// The fields that each response has: the page loads nothing but what this server has, and a connection has one request.
-fn add_fields(response: &mut Response) -> Result<(), AllocError> {
+fn add_fields(response: &mut Response) -> Result<(), AllocError>
+    ensures { OnOk result (fields_of response.new ≡ fields_of response.old ++ guards) }
+{
     let policy = HeaderValue::from_static(
         "default-src 'none'; style-src 'unsafe-inline'; script-src 'unsafe-inline'; connect-src 'self'",
     );
