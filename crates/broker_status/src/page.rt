@@ -125,7 +125,7 @@ function stripOf(group, topic) {
   }
   const committed = group.committed[topic.name] || 0;
   const lag = committed ? `lag ${group.lag[topic.name]} · ${committed} of ${topic.partitions} committed` : "nothing committed";
-  const label = element("span", "", element("b", "", topic.name), element("br"), element("small", "quiet", topic.end_offsets ? "" : ` end ${topic.end_offset}`), element("br"), element("small", "quiet", ` ${lag}`));
+  const label = element("span", "", element("b", "", topic.name), element("br"), element("small", "quiet", topic.end_offsets ? "" : ` end ${topic.end_offset}`), topic.end_offsets ? "" : element("br"), element("small", "quiet", ` ${lag}`));
   return element("div", "topic", label, strip);
 }
 
