@@ -63,12 +63,15 @@ where
     requires { F.pre serve }
 {
     let stop = AtomicBool::new(false);
+    let is_over = &stop;
     let (_, served) = thread::join(
         rt,
-        || status.run(rt, &mut service, &stop),
-        || {
+        move || status.run(rt, &mut service, is_over),
+        move || -> Result<u64, ServerFault>
+            requires { F.pre serve }
+        {
             let served = serve();
-            stop.store(true, Ordering::SeqCst);
+            is_over.store(true, Ordering::SeqCst);
             served
         },
     );
