@@ -1,5 +1,5 @@
 -- Heartbeats of version 1 (KIP-848, "ConsumerGroupHeartbeatRequest"): their encoding, and the request of version 0 that means the same.
-use Rattle.std.specs.Prelude.{◌≡◌, ℕ, pos, List, [], ◌∷◌, ◌++◌, Option, Some, None, unwrap_or, map}
+use Rattle.std.specs.Prelude.{◌≡◌, ℕ, pos, Bool, true, false, List, [], ◌∷◌, ◌++◌, Option, Some, None, unwrap_or, map}
 use Rattle.std.specs.Borrow.{Bor}
 use Rattle.flex_wire.specs.Spelling.{int16, int32, compact_string, compact_nullable_string, nullable_string, FitsNullableText, tagged_fields}
 use Rattle.flex_wire.specs.Composed.{nullable_array}
@@ -39,6 +39,11 @@ pub record SpellsHeartbeat1 (head : RequestHeaderValue) (v : HeartbeatRequestVal
   pub regex : FitsNullableText expression
   pub bytes : body ≡ heartbeat_1_header_fields head ++ heartbeat_request_1_fields v expression
 
+-- The body is a heartbeat of version 1 with this regular expression, or it is none at all.
+abbrev pub IsWhole : Option (List ℕ) → List ℕ → Bool → Type 0
+IsWhole expression body true = (header : RequestHeaderValue) × (v : HeartbeatRequestValue) × SpellsHeartbeat1 header v expression body
+IsWhole expression body false = (header : RequestHeaderValue) (v : HeartbeatRequestValue) (regex : Option (List ℕ)) → ¬ SpellsHeartbeat1 header v regex body
+
 -- texts as the lists of their bytes
 abbrev pub texts : List (Bor (List ℕ)) → List (List ℕ)
 texts names = map (λ name. name.now) names
@@ -74,6 +79,17 @@ pub record IsTranslation (further : List (List ℕ)) (body written : List ℕ) :
   pub only : (r : RequestValue) → SpellsRequest r written →
       (header : RequestHeaderValue) × (v : HeartbeatRequestValue) × (regex : Option (List ℕ)) × SpellsHeartbeat1 header v regex body × (r ≡ translated further header v regex)
 
+-- No request means the same: the body is no such heartbeat, or its names and the further ones have no encoding.
+abbrev pub HasNoTranslation : List (List ℕ) → List ℕ → Type 0
+HasNoTranslation further body =
+    (header : RequestHeaderValue) (v : HeartbeatRequestValue) (regex : Option (List ℕ)) →
+    SpellsHeartbeat1 header v regex body → ¬ FitsRequest (translated further header v regex)
+
+-- What has been appended for a body: its translation, or nothing if it has none.
+abbrev pub AppendsTranslation : List (List ℕ) → List ℕ → Bool → List ℕ → List ℕ → Type 0
+AppendsTranslation further body true old new = (written : List ℕ) × IsTranslation further body written × (new ≡ old ++ written)
+AppendsTranslation further body false old new = HasNoTranslation further body × (new ≡ old)
+
 -- The heartbeat with the further names has been appended.
 pub record HasWritten (further : List (List ℕ)) (r : RequestValue) (old new : List ℕ) : Type 0 where
   pub header : RequestHeaderValue
@@ -81,3 +97,22 @@ pub record HasWritten (further : List (List ℕ)) (r : RequestValue) (old new : 
   pub is : r ≡ heartbeat_request header value
   pub fits : FitsRequest (heartbeat_request header (with_names further value))
   pub items : new ≡ old ++ request_body (heartbeat_request header (with_names further value))
+
+-- That, or nothing: the request is no heartbeat that has an encoding with them.
+abbrev pub Writes : List (List ℕ) → RequestValue → Bool → List ℕ → List ℕ → Type 0
+Writes further r true old new = HasWritten further r old new
+Writes further r false old new =
+    ((header : RequestHeaderValue) (v : HeartbeatRequestValue) → r ≡ heartbeat_request header v → ¬ FitsRequest (heartbeat_request header (with_names further v)))
+    × (new ≡ old)
+
+-- The same of a body of version 0.
+abbrev pub WritesBody : List (List ℕ) → List ℕ → Bool → List ℕ → List ℕ → Type 0
+WritesBody further body true old new = (r : RequestValue) × SpellsRequest r body × HasWritten further r old new
+WritesBody further body false old new =
+    ((header : RequestHeaderValue) (v : HeartbeatRequestValue) → SpellsRequest (heartbeat_request header v) body → ¬ FitsRequest (heartbeat_request header (with_names further v)))
+    × (new ≡ old)
+
+-- The body is a request, or it is no heartbeat of version 0.
+abbrev pub IsRequest : List ℕ → Bool → Type 0
+IsRequest body true = (r : RequestValue) × SpellsRequest r body
+IsRequest body false = (header : RequestHeaderValue) (v : HeartbeatRequestValue) → ¬ SpellsRequest (heartbeat_request header v) body

@@ -6,7 +6,6 @@ ghost use Rattle.broker_messages.specs.Faults.{message_fault};
 
 use crate::head::ReplyHead;
 use flex_wire::WireFault;
-use kip_msgs::MsgFault;
 use std::alloc::AllocFailed;
 use thiserror::Error;
 
@@ -60,17 +59,6 @@ impl From<WireFault> for MessageFault {
         match fault {
             WireFault::NoMemory => MessageFault::NoMemory,
             other => MessageFault::Wire(other),
-        }
-    }
-}
-
-impl From<MsgFault> for MessageFault {
-    fn from(fault: MsgFault) -> MessageFault {
-        match fault {
-            MsgFault::Wire(fault) => MessageFault::Wire(fault),
-            MsgFault::UnknownApi | MsgFault::UnknownVersion => MessageFault::OtherMessage,
-            MsgFault::LeftOver => MessageFault::LeftOver,
-            MsgFault::NoMemory => MessageFault::NoMemory,
         }
     }
 }

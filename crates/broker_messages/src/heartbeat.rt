@@ -1,14 +1,13 @@
 //! ConsumerGroupHeartbeat in version 1 (KIP-848): a heartbeat of version 0 and a regular expression over topic names.
 
-ghost use Rattle.std.specs.Prelude.{◌≡◌, ℕ, List, ◌++◌, OnOk, OnErr};
+ghost use Rattle.std.specs.Prelude.{◌≡◌, ℕ, List, IfOk, OnErr};
 ghost use Rattle.std.specs.Option.{option_copied};
 
 mod reading;
 mod writing;
 
-use crate::fault::MessageFault;
 pub use reading::read_heartbeat_1;
-use std::alloc::Global;
+use std::alloc::{AllocError, Global};
 
 /// A heartbeat of version 1 that has been cut at its regular expression. What stands after the expression has not been read.
 #[derive(Clone, Copy)]
@@ -22,7 +21,7 @@ pub struct Heartbeat1<'a> {
 }
 
 impl<'a> Heartbeat1<'a> {
-    ghost use Rattle.broker_messages.specs.Heartbeat.{IsTranslation, expression_of, texts};
+    ghost use Rattle.broker_messages.specs.Heartbeat.{AppendsTranslation, IsWhole, expression_of, texts};
     ghost use Rattle.broker_messages.specs.Front.{IsCut};
 
     /// The regular expression, if there is one: null and the empty text are none (KIP-848).
@@ -35,24 +34,35 @@ impl<'a> Heartbeat1<'a> {
         }
     }
 
+    /// Whether all of the body is a heartbeat: what comes after its regular expression too. Fails for want of memory.
+    pub fn is_whole(&self, alloc: Global) -> Result<bool, AllocError>
+        ensures { IfOk result (λ is_whole. (body : List ℕ) → IsCut self.now body
+            → IsWhole (option_copied self.now.subscribed_topic_regex) body is_whole) }
+    {
+        writing::is_request(alloc, self)
+    }
+
     /// Appends the body of the heartbeat of version 0 that means the same, without the size in front of it: the further names take the
     /// place of the regular expression, and are left out if there is none. What the body has after its expression is looked at only if
-    /// there is one. So if the body is no heartbeat, what is appended is no request.
+    /// there is one. So if there is none and the body is no heartbeat, what is appended is no request.
     ///
-    /// Faults: memory; if there is an expression, those of `kip_msgs::read_request`, and `TooLong` for a further name of over 32,767
-    /// bytes and for too many names. After a fault nothing has changed.
+    /// Tells whether there is such a heartbeat. There is none if what comes after an expression is malformed, if a further name has over
+    /// 32,767 bytes, and if there are too many names. Then, and if memory is short, nothing has changed.
     pub fn put_as_version_0(
         &self,
         alloc: Global,
         further: &[&str],
         out: &mut Vec<u8>,
-    ) -> Result<(), MessageFault>
-        ensures ok { (body : List ℕ) → IsCut self.now body → OnOk result ((written : List ℕ)
-            × IsTranslation (texts further.now) body written × (out.new.items ≡ out.old.items ++ written)) }
+    ) -> Result<bool, AllocError>
+        ensures ok { IfOk result (λ is_written. (body : List ℕ) → IsCut self.now body
+            → AppendsTranslation (texts further.now) body is_written out.old.items out.new.items) }
         ensures err { OnErr result (out.new.items ≡ out.old.items) }
     {
         match self.expression() {
-            None => writing::put_without_expression(out, self),
+            None => {
+                writing::put_without_expression(out, self)?;
+                Ok(true)
+            }
             Some(_) => writing::put_with_names(alloc, out, self, further),
         }
     }

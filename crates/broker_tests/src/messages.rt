@@ -46,10 +46,11 @@ request 001200040000000100026331 = UnknownVersion(ReplyHead { api: ApiVersions, 
 # more elements than there are bytes
 request 0003000000000001ffff7fffffff = Metadata 0 #1 None: Wire(Short)
 
-# librdkafka 2.14.2: a steady heartbeat, one with an expression and no match, one with two, and one of which the rest is missing
+# librdkafka 2.14.2: a steady heartbeat, one with an expression and no match, one with two, one that lacks its last byte, and one of which the rest is missing
 heartbeat 004400010000001000026331000b6772c3b6c39f6520cea9176644673830707067524a573664514d7a342f6a716451000000010000ffffffff0000000000 = 004400000000001000026331000b6772c3b6c39f6520cea9176644673830707067524a573664514d7a342f6a716451000000010000ffffffff00000000
 heartbeat 004400010000000300026331000267175a50412f38334861526d4f32624242544a3067385567000000000000000493e00109285e6f72642e2a29000100 = (^ord.*) 004400000000000300026331000267175a50412f38334861526d4f32624242544a3067385567000000000000000493e001000100
 heartbeat 004400010000000300026331000267175a50412f38334861526d4f32624242544a3067385567000000000000000493e00109285e6f72642e2a29000100 orders ordinary = (^ord.*) 004400000000000300026331000267175a50412f38334861526d4f32624242544a3067385567000000000000000493e003076f7264657273096f7264696e617279000100
+heartbeat 004400010000000300026331000267175a50412f38334861526d4f32624242544a3067385567000000000000000493e00109285e6f72642e2a290001 orders = (^ord.*) no heartbeat
 heartbeat 00440001000000030002633100 = Wire(Short)
 heartbeat 004400000000000300026331 = OtherMessage
 "#;
@@ -170,9 +171,8 @@ fn tell_heartbeat(
         further.push(name)?;
     }
     let mut written = Vec::new(alloc);
-    match heartbeat.put_as_version_0(alloc, &further, &mut written) {
-        Ok(()) => put_hex(out, &written),
-        Err(MessageFault::NoMemory) => Err(AllocError),
-        Err(fault) => write!(out, "{fault:?}"),
+    if heartbeat.put_as_version_0(alloc, &further, &mut written)? {
+        return put_hex(out, &written);
     }
+    out.push_str("no heartbeat")
 }
