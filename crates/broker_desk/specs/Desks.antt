@@ -4,7 +4,7 @@ use Rattle.group_types.specs.declared.stamp.Stamp.{Stamp}
 use Rattle.coord_node.specs.Coordinator.{Answer, Replied, Closes}
 use Rattle.link_futures.specs.Desks.{Answering}
 use Rattle.broker_requests.specs.Bodies.{IsHeartbeat1, IsOther}
-use Rattle.broker_requests.specs.Translations.{MeansTheSame, IsRefusedAs, IsNoHeartbeat1}
+use Rattle.broker_requests.specs.Translations.{MeansTheSame, IsRefusedAs, MeansNothing}
 use Rattle.broker_requests.specs.Refusals.{IsRefusalTo}
 use Rattle.broker_desk.specs.Answers.{IsOwnAnswer}
 
@@ -32,10 +32,10 @@ pub record RefusesExpression {D : Type 0} (d : D) (body : List ℕ) (answer : An
   pub replied : answer ≡ Replied frame
   pub same : e ≡ d
 
--- One that is no heartbeat after all: it closes, and the coordinator's desk is as it was.
-pub record ClosesOnNone {D : Type 0} (d : D) (body : List ℕ) (answer : Answer) (e : D) : Type 0 where
+-- One that no heartbeat of version 0 means the same as: it closes, and the coordinator's desk is as it was.
+pub record ClosesOnNone {D : Type 0} (names : List (List ℕ)) (d : D) (body : List ℕ) (answer : Answer) (e : D) : Type 0 where
   pub heartbeat_1 : IsHeartbeat1 body
-  pub none : IsNoHeartbeat1 body
+  pub none : MeansNothing names body
   pub closes : answer ≡ Closes
   pub same : e ≡ d
 
@@ -50,7 +50,7 @@ abbrev pub BrokerAnswer : {D : Type 0} → Answering D → List (List ℕ) → A
 BrokerAnswer answers names d body stamp answer e =
     AnswersAsIs answers d body stamp answer e
     ⊎ (AnswersTranslation answers names d body stamp answer e
-    ⊎ (RefusesExpression d body answer e ⊎ (ClosesOnNone d body answer e ⊎ AnswersByItself d body answer e)))
+    ⊎ (RefusesExpression d body answer e ⊎ (ClosesOnNone names d body answer e ⊎ AnswersByItself d body answer e)))
 
 -- Where memory is short, the coordinator's desk is as it was, or as that leaves it where it lacks memory.
 abbrev pub BrokerLack : {D : Type 0} → (D → D → Type 0) → D → D → Type 0

@@ -3,7 +3,7 @@ use Rattle.std.specs.Prelude.{◌≡◌, ℕ, List, Option, Some}
 use Rattle.kip_msgs.specs.Values.{RequestHeaderValue, HeartbeatRequestValue}
 use Rattle.broker_messages.specs.Heartbeat.{SpellsHeartbeat1, expression_of}
 use Rattle.regex.specs.Patterns.{Re}
-use Rattle.topic_expressions.specs.Expressions.{IsReadAs, IsRefused, matched}
+use Rattle.topic_expressions.specs.Expressions.{IsReadAs, matched}
 
 -- This holds of the body's regular expression, if the body is a heartbeat that has one.
 abbrev pub OnExpression : List ℕ → (List ℕ → Type 0) → Type 0
@@ -14,7 +14,3 @@ OnExpression body P =
 -- Of these names, those are the ones that the body's expression matches as a whole.
 abbrev pub AreMatched : List (List ℕ) → List ℕ → List (List ℕ) → Type 0
 AreMatched names body further = OnExpression body (λ expression. (re : Re) × IsReadAs expression re × (further ≡ matched re names))
-
--- The body's expression is none.
-abbrev pub HasNoExpression : List ℕ → Type 0
-HasNoExpression body = OnExpression body IsRefused

@@ -3,7 +3,7 @@ ghost use Rattle.std.specs.Prelude.{◌≡◌, ◌++◌, ℕ, List, Option, IfOk
 ghost use Rattle.std.specs.Option.{option_copied};
 ghost use Rattle.regex.specs.Patterns.{Re};
 ghost use Rattle.flex_wire.specs.Spelling.{int32};
-ghost use Rattle.broker_messages.specs.Front.{IsFront};
+ghost use Rattle.broker_messages.specs.Front.{IsFront, IsCut};
 ghost use Rattle.broker_messages.specs.Heartbeat.{expression_of};
 ghost use Rattle.topic_expressions.specs.Expressions.{texts, matched, IsReadAs, IsRefused};
 ghost use Rattle.broker_requests.specs.Translations.{IsTranslatedAs};
@@ -30,7 +30,7 @@ pub enum Translation {
     Request(Vec<u8>),
     /// The regular expression is none. The reply that says so has this correlation id.
     Refusal(i32),
-    /// The body is no heartbeat.
+    /// No heartbeat of version 0 means the same: the body is no heartbeat, or the names have no encoding.
     NoHeartbeat,
 }
 
@@ -54,7 +54,7 @@ fn further<'a, T: TopicNames>(
     ensures matched { IfOk result (λ found. (expression : List ℕ) → expression_of (option_copied heartbeat.now.subscribed_topic_regex) ≡ Some expression
         → (re : Re) × IsReadAs expression re × (texts found.items ≡ matched re (T.names topics.now))) }
     ensures refused { result ≡ Err ExpressionFault.Refused
-        → (expression : List ℕ) → expression_of (option_copied heartbeat.now.subscribed_topic_regex) ≡ Some expression → IsRefused expression }
+        → (expression : List ℕ) × (expression_of (option_copied heartbeat.now.subscribed_topic_regex) ≡ Some expression) × IsRefused expression }
 {
     let Some(expression) = heartbeat.expression() else {
         return Ok(Vec::new(alloc));
@@ -63,10 +63,20 @@ fn further<'a, T: TopicNames>(
     names_matched(alloc, expression, &names)
 }
 
+/// What takes the place of a heartbeat whose regular expression is none. It is refused if all of it is a heartbeat.
+fn refusal_of(alloc: Global, heartbeat: &Heartbeat1<'_>) -> Result<Translation, AllocError>
+    requires front { IsFront heartbeat.now.front.now }
+    requires expression { (expression : List ℕ) × (expression_of (option_copied heartbeat.now.subscribed_topic_regex) ≡ Some expression) × IsRefused expression }
+    ensures { IfOk result (λ translation. (names : List (List ℕ)) (body : List ℕ) → IsCut heartbeat.now body → IsTranslatedAs names body translation) }
+{
+    if heartbeat.is_whole(alloc)? {
+        return Ok(Translation::Refusal(correlation_id_of(heartbeat)));
+    }
+    Ok(Translation::NoHeartbeat)
+}
+
 /// What takes the place of a body that begins as a heartbeat of version 1: the heartbeat of version 0 that means the same, in which the names
-/// of the topics that its regular expression matches as a whole stand for it (KIP-848, "SubscribedTopicRegex").
-///
-/// Fails for want of memory, and if the body goes on as no heartbeat after a regular expression.
+/// of the topics that its regular expression matches as a whole stand for it (KIP-848, "SubscribedTopicRegex"). Fails for want of memory.
 pub fn translate<T: TopicNames>(
     alloc: Global,
     topics: &T,
@@ -82,13 +92,11 @@ pub fn translate<T: TopicNames>(
     let further = match further(alloc, topics, &heartbeat) {
         Ok(further) => further,
         Err(ExpressionFault::NoMemory) => return Err(AllocError),
-        Err(ExpressionFault::Refused) => {
-            return Ok(Translation::Refusal(correlation_id_of(&heartbeat)));
-        }
+        Err(ExpressionFault::Refused) => return refusal_of(alloc, &heartbeat),
     };
     let mut written = Vec::new(alloc);
-    match heartbeat.put_as_version_0(alloc, &further, &mut written) {
-        Ok(()) => Ok(Translation::Request(written)),
-        Err(_) => Err(AllocError),
+    if heartbeat.put_as_version_0(alloc, &further, &mut written)? {
+        return Ok(Translation::Request(written));
     }
+    Ok(Translation::NoHeartbeat)
 }
