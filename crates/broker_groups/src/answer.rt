@@ -7,7 +7,7 @@ use crate::fault::Unanswered;
 use crate::list_groups::list_groups;
 use crate::offset_fetch::offset_fetch;
 use broker_messages::{BrokerApi, PutFields, ReplyHead};
-use broker_topics::{Topics, TopicsAnswer, TopicsRequest, put_frame};
+use broker_topics::{LARGEST_REQUEST, Topics, TopicsAnswer, TopicsRequest, put_frame};
 use coord_shards::Shards;
 use std::alloc::{AllocError, Global};
 use std::sync::Wait;
@@ -36,8 +36,8 @@ pub(crate) fn put<M: PutFields>(
 }
 
 impl<A: Ledger, C: Ledger, G> GroupsRequest<'_, A, C, G> {
-    /// Answers the request: appends one frame, or nothing. Closes if the request can't be read or is of an API of topics, and if its reply
-    /// would be too long. Fails for want of memory, and nothing was appended then.
+    /// Answers the request: appends one frame, or nothing. Closes if the request can't be read or is of an API of topics, if it has more
+    /// than 1,048,576 bytes, and if its reply would be too long. Fails for want of memory, and nothing was appended then.
     pub fn answer<R: Wait>(
         &self,
         rt: &R,
@@ -63,6 +63,9 @@ impl<A: Ledger, C: Ledger, G> GroupsRequest<'_, A, C, G> {
         ensures ok { IfOk result (λ answer. Appends answer self.now.request.now.head.correlation_id out.old.items out.new.items) }
         ensures err { OnErr result (out.new.items ≡ out.old.items) }
     {
+        if self.request.rest.len() > LARGEST_REQUEST {
+            return Err(Unanswered::Closes);
+        }
         match self.request.head.api {
             BrokerApi::OffsetFetch => offset_fetch(rt, alloc, self, out),
             BrokerApi::ListGroups => list_groups(rt, alloc, self, out),

@@ -22,6 +22,9 @@ use uuid::Uuid;
 /// The most times that one group is looked at.
 const MOST_READS: usize = 131_072;
 
+/// Why nothing is told of a group.
+const TOO_MUCH: &str = "the request asks for too much";
+
 /// The member type of the consumer protocol.
 const CONSUMER: i8 = 1;
 
@@ -62,7 +65,7 @@ struct NamedMember {
     wants: Vec<NamedTopic>,
 }
 
-/// A group, with the names of its topics. Without a group there is none of the name.
+/// A group, with the names of its topics. Without a group there is none of the name, or nothing is told of it.
 #[derive(Drop)]
 struct NamedGroup {
     name: String,
@@ -152,11 +155,16 @@ fn described_member(alloc: Global, named: &NamedMember) -> Result<DescribedMembe
     })
 }
 
-/// What is told of a group that isn't there.
-fn absent(alloc: Global, group_id: &str) -> DescribedGroup<'_> {
+/// What is told of a group that isn't there, or of which nothing is told.
+fn untold<'a>(
+    alloc: Global,
+    group_id: &'a str,
+    code: Code,
+    message: &'a str,
+) -> DescribedGroup<'a> {
     DescribedGroup {
-        error_code: Code::GroupIdNotFound.number(),
-        error_message: Some("no such group"),
+        error_code: code.number(),
+        error_message: Some(message),
         group_id,
         group_state: DEAD,
         group_epoch: 0,
@@ -170,7 +178,8 @@ fn absent(alloc: Global, group_id: &str) -> DescribedGroup<'_> {
 /// What is told of a group.
 fn described_group(alloc: Global, named: &NamedGroup) -> Result<DescribedGroup<'_>, AllocError> {
     let Some(group) = named.group else {
-        return Ok(absent(alloc, named.name.as_str()));
+        let name = named.name.as_str();
+        return Ok(untold(alloc, name, Code::GroupIdNotFound, "no such group"));
     };
     let mut members = Vec::with_capacity(alloc, named.members.len())?;
     for member in &named.members {
@@ -197,6 +206,21 @@ fn described_groups(
     let mut groups = Vec::with_capacity(alloc, named.len())?;
     for group in named {
         groups.push(described_group(alloc, group)?)?;
+    }
+    Ok(groups)
+}
+
+/// What is told of groups in a request that asks for more than a reply may hold.
+fn refused_groups<'a>(
+    alloc: Global,
+    group_ids: &[&'a str],
+) -> Result<Vec<DescribedGroup<'a>>, AllocError> {
+    let mut named = NameSet::new(alloc);
+    let mut groups = Vec::new(alloc);
+    for group_id in group_ids {
+        if named.insert(alloc, group_id)? {
+            groups.push(untold(alloc, group_id, Code::InvalidRequest, TOO_MUCH))?;
+        }
     }
     Ok(groups)
 }
@@ -228,13 +252,13 @@ impl<A: Ledger, C: Ledger, G> GroupsRequest<'_, A, C, G> {
         })
     }
 
-    /// The groups that are named, each once.
+    /// The groups that are named, each once. None: they are more than a reply may hold.
     fn found_named<R: Wait>(
         &self,
         rt: &R,
         alloc: Global,
         group_ids: &[&str],
-    ) -> Result<Vec<NamedGroup>, Unanswered> {
+    ) -> Result<Option<Vec<NamedGroup>>, AllocError> {
         let names = topic_names(alloc, self.topics.topics())?;
         let mut room = Room::new();
         let mut named = NameSet::new(alloc);
@@ -245,9 +269,9 @@ impl<A: Ledger, C: Ledger, G> GroupsRequest<'_, A, C, G> {
             }
         }
         if room.is_passed() {
-            return Err(Unanswered::Closes);
+            return Ok(None);
         }
-        Ok(found)
+        Ok(Some(found))
     }
 }
 
@@ -264,9 +288,13 @@ pub(crate) fn describe<A: Ledger, C: Ledger, G, R: Wait>(
     let head = groups.request.head;
     let asked = ConsumerGroupDescribeRequest::read(alloc, head.version, groups.request.rest)?;
     let found = groups.found_named(rt, alloc, &asked.group_ids)?;
+    let told = match &found {
+        Some(found) => described_groups(alloc, found)?,
+        None => refused_groups(alloc, &asked.group_ids)?,
+    };
     let reply = ConsumerGroupDescribeReply {
         throttle_time_ms: 0,
-        groups: described_groups(alloc, &found)?,
+        groups: told,
     };
     put(alloc, &head.reply(), &reply, out)
 }

@@ -8,7 +8,7 @@ use crate::room::Room;
 use crate::state::state_of;
 use broker_messages::{ListGroupsReply, ListGroupsRequest, ListedGroup};
 use broker_topics::TopicsAnswer;
-use coord_node::Node;
+use coord_node::{Code, Node};
 use coord_shards::NodeReader;
 use std::alloc::{AllocError, Global};
 use std::sync::Wait;
@@ -19,6 +19,9 @@ const CONSUMER: &str = "consumer";
 
 /// About how many groups and members are looked at under one lock.
 const MOST_LOOKS: usize = 1_024;
+
+/// The most words of a filter: there are five states and two types.
+const MOST_WORDS: usize = 16;
 
 /// The most times that one shard is looked at.
 const MOST_READS: usize = 131_072;
@@ -129,7 +132,16 @@ impl<A: Ledger, C: Ledger, G> GroupsRequest<'_, A, C, G> {
     }
 }
 
-/// Answers a ListGroups.
+/// The answer to a request that asks for too much.
+fn refused(alloc: Global) -> ListGroupsReply<'static> {
+    ListGroupsReply {
+        throttle_time_ms: 0,
+        error_code: Code::InvalidRequest.number(),
+        groups: Vec::new(alloc),
+    }
+}
+
+/// Answers a ListGroups. One with too many words in a filter is refused, and so is one for which there are more groups than a reply may hold.
 pub(crate) fn list_groups<A: Ledger, C: Ledger, G, R: Wait>(
     rt: &R,
     alloc: Global,
@@ -141,15 +153,17 @@ pub(crate) fn list_groups<A: Ledger, C: Ledger, G, R: Wait>(
 {
     let head = groups.request.head;
     let asked = ListGroupsRequest::read(alloc, head.version, groups.request.rest)?;
+    if asked.states_filter.len() > MOST_WORDS || asked.types_filter.len() > MOST_WORDS {
+        return put(alloc, &head.reply(), &refused(alloc), out);
+    }
     let reader = groups.found_groups(rt, alloc)?;
     if reader.room.is_passed() {
-        return Err(Unanswered::Closes);
+        return put(alloc, &head.reply(), &refused(alloc), out);
     }
-    let groups = listed(alloc, &reader.found, &asked)?;
     let reply = ListGroupsReply {
         throttle_time_ms: 0,
-        error_code: 0,
-        groups,
+        error_code: Code::NoError.number(),
+        groups: listed(alloc, &reader.found, &asked)?,
     };
     put(alloc, &head.reply(), &reply, out)
 }

@@ -9,7 +9,7 @@ use crate::fault::Unanswered;
 use crate::room::{Room, copy_of, length_of, text_of};
 use broker_messages::{
     OffsetFetchReply, OffsetFetchReplyGroup, OffsetFetchReplyPartition, OffsetFetchReplyTopic,
-    OffsetFetchRequest, OffsetFetchRequestGroup, OffsetFetchRequestTopic,
+    OffsetFetchRequest, OffsetFetchRequestGroup,
 };
 use broker_topics::TopicsAnswer;
 use coord_node::{Code, Committed, Group, NameSet, Node};
@@ -17,6 +17,9 @@ use coord_shards::NodeReader;
 use std::alloc::{AllocError, Global};
 use std::sync::Wait;
 use std::sync::ledger::Ledger;
+
+/// How many partitions that are named are looked at under one lock.
+const MOST_LOOKS: usize = 4_096;
 
 /// What is committed for a partition.
 #[derive(Drop)]
@@ -41,11 +44,21 @@ struct FetchedGroup {
     topics: Vec<FetchedTopic>,
 }
 
-/// Reads what a group has committed.
+/// What is read of a group under one lock.
+#[derive(Clone, Copy)]
+enum Part<'r> {
+    /// All that it has committed.
+    All,
+    /// Whether its offsets are told, and these partitions of a topic.
+    Of(&'r str, &'r [i32]),
+}
+
+/// Reads what a group has committed, a part at a time.
 #[derive(Drop)]
 struct OffsetReader<'r> {
     alloc: Global,
     asked: &'r OffsetFetchRequestGroup<'r>,
+    part: Part<'r>,
     room: Room,
     found: FetchedGroup,
 }
@@ -112,55 +125,57 @@ fn metadata_length(committed: Option<&Committed>) -> usize {
 }
 
 impl OffsetReader<'_> {
-    /// Adds the partitions of a topic that are asked for.
+    /// Adds partitions of a topic, as long as there is room.
     fn add_topic(
         &mut self,
         group: Option<&Group>,
-        topic: &OffsetFetchRequestTopic<'_>,
+        name: &str,
+        indexes: &[i32],
     ) -> Result<(), AllocError> {
-        let mut partitions = Vec::new(self.alloc);
-        for index in &topic.partition_indexes {
-            let committed = committed_of(group, topic.name, *index);
-            if !self.room.take(metadata_length(committed)) {
+        for index in indexes {
+            if self.room.is_passed() {
                 return Ok(());
             }
-            partitions.push(partition_of(self.alloc, *index, committed)?)?;
+            self.add(name, *index, committed_of(group, name, *index))?;
         }
-        self.add(topic.name, partitions)
-    }
-
-    /// Adds the partitions of a topic.
-    fn add(&mut self, name: &str, partitions: Vec<FetchedPartition>) -> Result<(), AllocError> {
-        if !self.room.take(name.len()) {
-            return Ok(());
-        }
-        let name = String::from_str(self.alloc, name)?;
-        self.found.topics.push(FetchedTopic { name, partitions })?;
         Ok(())
     }
 
-    /// Adds all that a group has committed, a topic for each partition.
+    /// Adds all that a group has committed, as long as there is room.
     fn add_all(&mut self, group: &Group) -> Result<(), AllocError> {
         for place in group.offsets().in_order()? {
-            if !self.room.take(length_of(place.committed.metadata())) {
-                return Ok(());
-            }
-            let partition = partition_of(self.alloc, place.index, Some(place.committed))?;
-            self.add_at(place.name, partition)?;
+            self.add(place.name, place.index, Some(place.committed))?;
         }
         Ok(())
     }
 
     /// Adds a partition, to the last topic if that has the name.
-    fn add_at(&mut self, name: &str, partition: FetchedPartition) -> Result<(), AllocError> {
+    fn add(
+        &mut self,
+        name: &str,
+        index: i32,
+        committed: Option<&Committed>,
+    ) -> Result<(), AllocError> {
+        if !self.room.take(metadata_length(committed)) {
+            return Ok(());
+        }
+        let partition = partition_of(self.alloc, index, committed)?;
         match self.found.topics.last_mut() {
             Some(topic) if topic.name.as_str() == name => topic.partitions.push(partition)?,
-            _ => {
-                let mut partitions = Vec::new(self.alloc);
-                partitions.push(partition)?;
-                self.add(name, partitions)?;
-            }
+            _ => self.add_to_new(name, partition)?,
         }
+        Ok(())
+    }
+
+    /// Adds a partition to a topic of its own.
+    fn add_to_new(&mut self, name: &str, partition: FetchedPartition) -> Result<(), AllocError> {
+        if !self.room.take(name.len()) {
+            return Ok(());
+        }
+        let name = String::from_str(self.alloc, name)?;
+        let mut partitions = Vec::new(self.alloc);
+        partitions.push(partition)?;
+        self.found.topics.push(FetchedTopic { name, partitions })?;
         Ok(())
     }
 }
@@ -172,16 +187,10 @@ impl NodeReader for OffsetReader<'_> {
         if self.found.code != Code::NoError {
             return Ok(());
         }
-        let asked = self.asked;
-        match (&asked.topics, group) {
-            (Some(topics), _) => {
-                for topic in topics {
-                    self.add_topic(group, topic)?;
-                }
-                Ok(())
-            }
-            (None, Some(group)) => self.add_all(group),
-            (None, None) => Ok(()),
+        match (self.part, group) {
+            (Part::Of(name, indexes), _) => self.add_topic(group, name, indexes),
+            (Part::All, Some(group)) => self.add_all(group),
+            (Part::All, None) => Ok(()),
         }
     }
 }
@@ -236,20 +245,76 @@ impl<A: Ledger, C: Ledger, G> GroupsRequest<'_, A, C, G> {
         let mut reader = OffsetReader {
             alloc,
             asked,
+            part: Part::All,
             room: *room,
             found: FetchedGroup {
                 code: Code::NoError,
                 topics: Vec::new(alloc),
             },
         };
-        let shard = self.shards.shard_of(asked.group_id);
-        self.shards.read(rt, shard, &mut reader)?;
+        self.read_offsets(rt, &mut reader)?;
         *room = reader.room;
         Ok(reader.found)
     }
+
+    /// Reads all that is asked of a group, unless its offsets aren't told.
+    fn read_offsets<R: Wait>(
+        &self,
+        rt: &R,
+        reader: &mut OffsetReader<'_>,
+    ) -> Result<(), AllocError> {
+        let asked = reader.asked;
+        let shard = self.shards.shard_of(asked.group_id);
+        let Some(topics) = &asked.topics else {
+            return self.shards.read(rt, shard, reader);
+        };
+        reader.part = Part::Of("", &[]);
+        self.shards.read(rt, shard, reader)?;
+        for topic in topics {
+            for indexes in topic.partition_indexes.chunks(MOST_LOOKS) {
+                if reader.found.code != Code::NoError || reader.room.is_passed() {
+                    return Ok(());
+                }
+                reader.part = Part::Of(topic.name, indexes);
+                self.shards.read(rt, shard, reader)?;
+            }
+        }
+        Ok(())
+    }
+
+    /// What the groups have committed that are named, each once, as far as there is room.
+    fn fetched_named<'f, R: Wait>(
+        &self,
+        rt: &R,
+        alloc: Global,
+        asked: &'f [OffsetFetchRequestGroup<'f>],
+        room: &mut Room,
+    ) -> Result<Vec<(&'f str, FetchedGroup)>, AllocError> {
+        let mut named = NameSet::new(alloc);
+        let mut found = Vec::new(alloc);
+        for group in asked {
+            if named.insert(alloc, group.group_id)? {
+                let fetched = if room.take(group.group_id.len()) {
+                    self.fetched(rt, alloc, group, room)?
+                } else {
+                    refused(alloc)
+                };
+                found.push((group.group_id, fetched))?;
+            }
+        }
+        Ok(found)
+    }
 }
 
-/// Answers an OffsetFetch. A group that is named twice is answered once.
+/// What is told of a group in a request that asks for more than a reply may hold.
+fn refused(alloc: Global) -> FetchedGroup {
+    FetchedGroup {
+        code: Code::InvalidRequest,
+        topics: Vec::new(alloc),
+    }
+}
+
+/// Answers an OffsetFetch. A group that is named twice is answered once. If the reply would hold too much, each group is refused.
 pub(crate) fn offset_fetch<A: Ledger, C: Ledger, G, R: Wait>(
     rt: &R,
     alloc: Global,
@@ -262,19 +327,11 @@ pub(crate) fn offset_fetch<A: Ledger, C: Ledger, G, R: Wait>(
     let head = groups.request.head;
     let asked = OffsetFetchRequest::read(alloc, head.version, groups.request.rest)?;
     let mut room = Room::new();
-    let mut named = NameSet::new(alloc);
-    let mut found = Vec::new(alloc);
-    for group in &asked.groups {
-        if room.take(group.group_id.len()) && named.insert(alloc, group.group_id)? {
-            let fetched = groups.fetched(rt, alloc, group, &mut room)?;
-            found.push((group.group_id, fetched))?;
-        }
-    }
-    if room.is_passed() {
-        return Err(Unanswered::Closes);
-    }
+    let found = groups.fetched_named(rt, alloc, &asked.groups, &mut room)?;
+    let refusal = refused(alloc);
     let mut told = Vec::with_capacity(alloc, found.len())?;
     for (group_id, group) in &found {
+        let group = if room.is_passed() { &refusal } else { group };
         told.push(reply_group(alloc, group_id, group)?)?;
     }
     let reply = OffsetFetchReply {

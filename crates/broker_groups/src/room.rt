@@ -10,7 +10,7 @@ const MOST_BYTES: usize = 8_388_608;
 /// What an entry takes besides its texts: about its room in memory.
 const ENTRY: usize = 64;
 
-/// The room that is left in a reply. What finds no room is left out, and the reply isn't sent.
+/// The room that is left in a reply. What finds no room is left out, and the request is refused.
 #[derive(Clone, Copy)]
 pub(crate) struct Room {
     left: usize,

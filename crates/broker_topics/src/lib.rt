@@ -26,6 +26,6 @@ mod topics;
 pub use answer::answer_unknown_version;
 pub use frame::put_frame;
 pub use held::Held;
-pub use limits::MOST_WORKERS;
+pub use limits::{LARGEST_REQUEST, MOST_WORKERS};
 pub use request::{TopicsAnswer, TopicsRequest};
 pub use topics::{Topic, Topics, TopicsFault, TopicsPlan};

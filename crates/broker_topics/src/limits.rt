@@ -7,7 +7,7 @@ pub const MOST_WORKERS: usize = 64;
 pub(crate) const MOST_PARTITIONS: usize = 100_000;
 
 /// The most bytes of a request after its head, but for a Produce, so that what is made of it takes no more memory than a reply may.
-pub(crate) const LARGEST_REQUEST: usize = 1_048_576;
+pub const LARGEST_REQUEST: usize = 1_048_576;
 
 /// The most bytes of records in a reply to a Fetch, unless its first batch has more.
 pub(crate) const MOST_FETCHED: usize = 1_048_576;
