@@ -13,8 +13,7 @@ from typing import Dict, List, Optional, Sequence
 TOP = pathlib.Path(__file__).resolve().parents[2]
 RELAY = TOP / "broker/trials/relay.py"
 HOST = "127.0.0.1"
-START_SECONDS = 180
-END_SECONDS = 5
+START_SECONDS, END_SECONDS = 180, 5
 
 
 @dataclasses.dataclass(frozen=True)

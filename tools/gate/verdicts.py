@@ -10,13 +10,10 @@ from typing import Iterable, Optional, Set
 from gate import commands
 
 LINE = re.compile(r"fn (\S+): (.*)")
-# A function whose signature lets it wait or end the process is proved all the same.
-# A closure's own `requires` is what its callers give.
+# A function whose signature lets it wait or end the process is proved all the same. A closure's own `requires` is what its callers give.
 IS_PROVED = re.compile(r"proved(?: where its callers give what it asks)?(?:, may (?:abort|wait))*")
 CALLS = re.compile(r"it (?:calls|passes the blocks?) `[^`]+`(?: and `[^`]+`)*, which (?:is|are) not proved")
-WAITS_FOR = re.compile(
-    r"the borrow checker's part in its proof is not made yet.*a call of `[^`]+`(?:: `[^`]+`)?, which has no proof"
-)
+WAITS_FOR = re.compile(r"the borrow checker's part in its proof is not made yet.*a call of `[^`]+`(?:: `[^`]+`)?, which has no proof")
 # What is said of a text that cannot be read, where a statement that is only false reads well.
 MESSAGE = re.compile(r"(?:\./)?(\S+?):\d+:\d+: error: (?:(`[^`]*`): )?(.*)")
 UNREADABLE = re.compile(r"is not in scope|has no field|is no name|operand is missing|expected the end|cannot continue")
