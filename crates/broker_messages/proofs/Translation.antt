@@ -1,5 +1,5 @@
 -- What takes the place of a heartbeat of version 1: the request that means the same, and no request if it is none.
-use Rattle.std.proofs.Common.{◌≡◌, ℕ, Bool, true, false, List, ◌++◌, Option, Some, None, refl, sym, ap, subst, ◌∙◌}
+use Rattle.std.proofs.Common.{◌≡◌, ℕ, Bool, true, false, List, Option, Some, None, refl, sym, ap, subst, ◌∙◌}
 use Rattle.std.specs.Option.{option_copied}
 use Rattle.kip_msgs.specs.Values.{RequestHeaderValue, HeartbeatRequestValue, RequestValue, heartbeat_request, commit_request}
 use Rattle.kip_msgs.specs.Spelling.{request_body, FitsRequest, SpellsRequest}

@@ -1,8 +1,7 @@
 //! The heads of requests and replies: which API, which version, and the number that says which reply is to which request.
 
-ghost use Rattle.std.specs.Prelude.{◌≡◌, ◌≢◌, ◌++◌, IfOk, Err};
+ghost use Rattle.std.specs.Prelude.{◌≡◌, ◌≢◌, IfOk, Err};
 ghost use Rattle.broker_messages.specs.declared.head.ReplyHead.{ReplyHead};
-ghost use Rattle.flex_wire.specs.Spelling.{int32};
 ghost use Rattle.broker_messages.specs.Api.{IsSpoken};
 ghost use Rattle.broker_messages.specs.Head.{BeginsRequest};
 

@@ -1,7 +1,6 @@
 //! Whole bodies of replies.
 
-ghost use Rattle.std.specs.Prelude.{◌≡◌, ℕ, List, ◌++◌, OnOk, OnErr};
-ghost use Rattle.flex_wire.specs.Spelling.{int32};
+ghost use Rattle.std.specs.Prelude.{◌≡◌, OnOk, OnErr};
 ghost use Rattle.broker_messages.specs.Head.{GoesOn, AddsReply};
 
 use crate::fault::MessageFault;

@@ -1,5 +1,5 @@
 -- What the number at the front of bytes is.
-use Rattle.std.proofs.Common.{◌≡◌, ◌≢◌, ℕ, ℤ, pos, List, ◌++◌, Result, Ok, Err, sym, ap, ◌∙◌, rules, append_assoc}
+use Rattle.std.proofs.Common.{◌≡◌, ◌≢◌, ℕ, ℤ, pos, List, ◌++◌, Result, Ok, sym, ap, ◌∙◌, rules, append_assoc}
 use Rattle.std.specs.Prelude.{FitsSigned}
 use Rattle.std.specs.Int.{w16}
 use Rattle.flex_wire.specs.Spelling.{int16, int32}

@@ -1,10 +1,9 @@
 -- The size of a refusal.
-use Rattle.std.proofs.Common.{◌≡◌, ◌++◌, ℕ, ℤ, pos, List, length, refl, sym, ap, ◌∙◌, rules}
+use Rattle.std.proofs.Common.{◌≡◌, ◌++◌, ℕ, ℤ, pos, length, refl, sym, ap, rules}
 use Rattle.std.specs.Prelude.{FitsSigned}
 use Rattle.std.specs.Int.{w32}
 use Rattle.flex_wire.specs.Spelling.{int32, signed, varint, varint_groups, compact_string, compact_nullable_string, tagged_fields}
 use Rattle.kip_msgs.specs.Spelling.{FitsReply, reply_body, response_header_fields, heartbeat_reply_fields, nullable_struct}
-use Rattle.group_types.specs.Frames.{frame_of}
 use Rattle.broker_requests.specs.Refusals.{refusal_to, IsRefusalTo}
 
 pub length-refusal : (id : ℤ) → length (reply_body (refusal_to id)) ≡ 49

@@ -1,6 +1,5 @@
 -- A body that means nothing, and one that is refused.
-use Rattle.std.proofs.Common.{◌≡◌, ◌++◌, ℕ, ℤ, pos, Bool, true, false, List, [], Option, Some, subst}
-use Rattle.std.specs.Option.{option_copied}
+use Rattle.std.proofs.Common.{◌≡◌, ℕ, ℤ, pos, Bool, true, false, List, [], Option, Some, subst}
 use Rattle.kip_msgs.specs.Values.{RequestHeaderValue, HeartbeatRequestValue}
 use Rattle.broker_messages.specs.declared.api.BrokerApi.TheVariants.{ConsumerGroupHeartbeat}
 use Rattle.broker_messages.specs.Head.{BeginsRequest}

@@ -3,7 +3,7 @@
 ghost use Rattle.std.specs.Prelude.{◌≡◌};
 
 use crate::bells::Bells;
-use crate::limits::{MOST_PARTITIONS, MOST_WORKERS};
+use crate::limits::MOST_PARTITIONS;
 use crate::partition::Partition;
 use std::alloc::{AllocError, AllocFailed, Global};
 use std::collections::BTreeMap;

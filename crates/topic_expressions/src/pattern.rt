@@ -1,5 +1,5 @@
 //! The pattern of an expression.
-ghost use Rattle.std.specs.Prelude.{◌≡◌, ◌++◌, codes, string_bytes, IfOk, IfErr};
+ghost use Rattle.std.specs.Prelude.{◌≡◌, string_bytes, IfOk, IfErr};
 ghost use Rattle.regex.specs.Patterns.{default_config};
 ghost use Rattle.regex.specs.Strings.{regex_pattern, regex_source, regex_config, IsReadFromSource};
 ghost use Rattle.regex.specs.Sources.{IsRefusal};

@@ -1,6 +1,6 @@
 //! The heartbeat of version 0 that means the same, written.
 
-ghost use Rattle.std.specs.Prelude.{◌≡◌, List, [], ◌++◌, option_map, unwrap_or, Ok, None, OnOk, OnErr, IfOk, IfSome};
+ghost use Rattle.std.specs.Prelude.{◌≡◌, [], ◌++◌, option_map, unwrap_or, Ok, None, OnOk, OnErr, IfOk, IfSome};
 ghost use Rattle.flex_wire.specs.Writing.{AppendsUpTo};
 ghost use Rattle.kip_msgs.specs.Spelling.{FitsRequest};
 ghost use Rattle.kip_msgs.specs.Writable.{IsShort, IsWritableArray, IsWritableHeartbeatRequest};

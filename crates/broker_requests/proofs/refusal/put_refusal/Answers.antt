@@ -1,4 +1,4 @@
-use Rattle.std.proofs.Common.{◌++◌, pos, rules, ◌≡◌, to_z, of_z}
+use Rattle.std.proofs.Common.{◌++◌, pos}
 use Rattle.flex_wire.specs.Spelling.{int32}
 use Rattle.kip_msgs.specs.Spelling.{reply_body}
 use Rattle.broker_requests.specs.Refusals.{refusal_to}
