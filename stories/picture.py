@@ -5,7 +5,7 @@ from __future__ import annotations
 import dataclasses
 import pathlib
 from typing import Iterator, Sequence
-from xml.sax.saxutils import escape
+from html import escape
 
 from stories import events
 from stories.names import Partition, printable, shortened
@@ -210,7 +210,7 @@ class Picture:
         bottom = self.draw_legend(self.end + 58)
         width, height = number(self.width), number(bottom)
         yield f'<svg xmlns="http://www.w3.org/2000/svg" width="{width}" height="{height}" viewBox="0 0 {width} {height}" role="img">'
-        yield f"<title>{escape(printable(self.title))}</title>"
+        yield f"<title>{escape(printable(self.title), quote=False)}</title>"
         yield f"<style>{STYLE}</style>"
         box = f'width="{number(self.width - 1)}" height="{number(bottom - 1)}"'
         yield f'<rect x="0.5" y="0.5" {box} rx="8" fill="{GROUND}" stroke="{EDGE}"/>'

@@ -4,7 +4,7 @@ from __future__ import annotations
 
 import math
 from typing import Sequence, Tuple
-from xml.sax.saxutils import escape
+from html import escape
 
 Point = Tuple[float, float]
 GROUND, SLATE = "#fcfcfd", "#4a5361"
@@ -54,11 +54,11 @@ class Canvas:
     def along(self, x: float, y: float, words: str, kind: str) -> None:
         """A text that goes down from y."""
         place = f"translate({number(x)} {number(y)}) rotate(90)"
-        self.elements.append(f'<text transform="{place}" class="{kind}" dy="-1">{escape(words)}</text>')
+        self.elements.append(f'<text transform="{place}" class="{kind}" dy="-1">{escape(words, quote=False)}</text>')
 
     def spans(self, x: float, y: float, parts: Sequence[tuple[str, str]], anchor: str = "start") -> None:
         side = "" if anchor == "start" else f' text-anchor="{anchor}"'
-        inner = [f'<tspan class="{kind}"{" dx=" + chr(34) + "4" + chr(34) if at else ""}>{escape(words)}</tspan>' for at, (words, kind) in enumerate(parts)]
+        inner = [f'<tspan class="{kind}"{" dx=" + chr(34) + "4" + chr(34) if at else ""}>{escape(words, quote=False)}</tspan>' for at, (words, kind) in enumerate(parts)]
         self.elements.append(f'<text x="{number(x)}" y="{number(y)}"{side}>{"".join(inner)}</text>')
 
     def arrow(self, source: Point, target: Point, color: str, width: float, dash: str = "") -> None:

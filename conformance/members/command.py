@@ -143,7 +143,7 @@ def serve(faults: Optional[pathlib.Path]) -> int:
     try:
         brought = Faults(faults)
     except (OSError, BadFault) as why:
-        print(f"conformance members: --faults: {why}", file=sys.stderr)
+        print(f"conformance members: --faults: {getattr(why, 'strerror', None) or why}", file=sys.stderr)
         return NO_CLIENT
     stage = Stage(Coordinator([topic(ORDERS, 4), topic(BILLS, 2)], SERVED_INTERVAL_MS), Record(MOST_SERVED), brought)
     print(stage.address, flush=True)
