@@ -65,7 +65,7 @@ def so_far(writer: Optional[Writer], lines: Container[str]) -> Iterator[str]:
 def tell_capture(document: str) -> int:
     made = parser("tell-capture", document)
     made.add_argument("file", metavar="FILE", help="the recording; - is standard input, for what the broker writes")
-    made.add_argument("topics", metavar="NAME:UUID:COUNT", nargs="*", help="topics, if the recording names none")
+    made.add_argument("topics", metavar="TOPIC", nargs="*", help="topics, NAME:COUNT or NAME:UUID:COUNT, if the recording names none")
     made.add_argument("--group", metavar="GROUP", help="this group alone")
     made.add_argument("--all", action="store_true", help="heartbeats that bring nothing new, too")
     made.add_argument("--strict", action="store_true", help="the status is 1 if two members hold the same partition")

@@ -8,7 +8,7 @@ import subprocess
 from typing import Iterator, NamedTuple, Optional
 
 from conformance.rules.fields import Reader, Unreadable
-from conformance.rules.lines import BadLine, image_of
+from conformance.rules.lines import BadLine, id_of, image_of
 from conformance.rules.messages import Commit, Heartbeat, read_commit_reply, read_heartbeat_reply, read_request
 from stories.events import Place
 from stories.names import Image, Partition
@@ -130,9 +130,10 @@ class Recording:
 
     def add_topics(self, words: list[str]) -> None:
         try:
-            self.topics.update(image_of([part for word in words for part in word.split(":")]))
+            parts = (word.split(":") for word in words)
+            self.topics.update(image_of([it for name, *rest in parts for it in (name, *[str(id_of(name))] * (len(rest) == 1), *rest)]))
         except BadLine as wrong:
-            raise NoScript(f'{" ".join(words)} isn\'t like "NAME:UUID:COUNT": {wrong}') from None
+            raise NoScript(f'{" ".join(words)} isn\'t like "NAME:COUNT" or "NAME:UUID:COUNT": {wrong}') from None
 
     def asked(self, seen: Seen) -> object:
         """The exchange that a request begins; of Metadata, its version."""

@@ -17,6 +17,7 @@ from typing import Any, Callable, Dict, Iterable, List, NamedTuple, Optional, Se
 
 from .decode import Fields
 from .ending import guarded
+from .lines import HELP
 
 SEED = 848
 RUN_SECONDS = 60
@@ -204,7 +205,7 @@ def answer(tool: Tool, words: Sequence[str]) -> int:
         try:
             printed = player.line(line)
         except ValueError:
-            print(f"bad line {number}", file=sys.stderr)
+            print(f"bad line {number}{HELP[tool.name.partition('-')[0]]}", file=sys.stderr)
             return 2
         if printed is not None:
             print(printed)

@@ -8,6 +8,9 @@ from .limits import LONGEST_STRING, MOST_PARTITIONS, MOST_TOPIC_PARTITIONS, MOST
 from .world import Refused, World
 
 INT32, INT64, UINT64 = (1 << 31) - 1, (1 << 63) - 1, (1 << 64) - 1
+# What ends the line that tells of a bad one, by the subcommand.
+HELP = dict.fromkeys(("reply", "run"), ": --explain says why (a story isn't a script; tools/write-run makes one of it)")
+HELP["frame"] = ": --explain says why"
 # How much of a word is shown in a reason.
 SHOWN = 40
 
@@ -97,6 +100,11 @@ def topic_of(word):
     if not re.fullmatch(f"[0-9a-fA-F]{{32}}|{hyphens}|{{{hyphens}}}|urn:uuid:{hyphens}", word):
         raise BadLine(f"{shown(word)} isn't a UUID")
     return uuid.UUID(word).bytes
+
+
+def id_of(name):
+    """The id of a topic that is given without one: the same at each start (RFC 9562, "UUID Version 5")."""
+    return uuid.uuid5(uuid.NAMESPACE_DNS, name)
 
 
 def image_of(words):

@@ -156,7 +156,7 @@ def why_not_told(script: pathlib.Path, program: Optional[str]) -> Optional[str]:
     try:
         stories = [told(script, reading.output_in(str(stored))), told(script, output(script, program))]
     except reading.NoScript as wrong:
-        line = error.read_text().split()[-1] if error.is_file() else None
+        line = error.read_text().split()[2].rstrip(":") if error.is_file() else None
         return None if f"{script}, line {line}: " in str(wrong) else str(wrong)
     if error.is_file():
         return "a bad line is told"

@@ -21,6 +21,8 @@ import dataclasses
 import re
 from typing import Iterator, List, Tuple
 
+from rules import lines
+
 ESCAPE = re.compile(rb"\\(?:x([0-9a-f]{2})|([rtn])|\((\d+),(.*?)\))")
 LETTERS = {b"r": b"\r", b"t": b"\t", b"n": b"\n"}
 
@@ -62,7 +64,7 @@ def rows_of(text: bytes, words: Tuple[str, ...]) -> Iterator[Row]:
             before, printed = (before, printed) if arrow != b"\n" else (b"", b"")
         elif mark == b"-":
             # The lines before it are done, it is told by its number, and nothing else is done.
-            told = b"bad line %d\n" % (before.count(b"\n") + 1)
+            told = b"bad line %d%s\n" % (before.count(b"\n") + 1, lines.HELP[words[0]].encode())
             yield Row(f"bad line: {rest.decode()}", words, before + unescaped(rest) + b"\n" + before, printed, told, 2)
         elif mark == b"#":
             row = Row(rest.decode(), words)

@@ -16,7 +16,8 @@ UNPROVED = "--unproved"
 # What the launcher's own help is, below the program's.
 OWN_HELP = f"""
 Before these words, ./coord takes:
-  {UNPROVED}  Compiles the program without proofs, in minutes, and runs that"""
+  {UNPROVED}  Compiles the program without proofs, in minutes, and runs that
+  broker      Runs the broker; its words are in ./coord broker --help"""
 
 
 def main(words: List[str]) -> int:
@@ -27,7 +28,7 @@ def main(words: List[str]) -> int:
     words = words[1:] if name == sources.BROKER else words
     kept = sources.program(tree, name, is_proved)
     is_there, state = kept.is_current(), "proved" if is_proved else unproved.STATE
-    told = answered(tree, words, is_there, state) if name == sources.COORD else None
+    told = answered(tree, name, words, is_there, state)
     if told is not None:
         return told
     if not is_there:
@@ -46,19 +47,21 @@ def main(words: List[str]) -> int:
     return os.execv(kept.file, [name, *words])
 
 
-def answered(tree: crates.Tree, words: List[str], is_there: bool, state: str) -> Optional[int]:
+def answered(tree: crates.Tree, name: str, words: List[str], is_there: bool, state: str) -> Optional[int]:
     """Answers words that run nothing, and gives the status; None where the program has to be asked."""
     signal.signal(signal.SIGPIPE, signal.SIG_DFL)
     helps = answers.of_help(tree.root)
     if words[:1] and words[0] in answers.VERSION:
-        print(f"{helps['--version',]}, {state if is_there else 'not built'}")
+        print(f"{helps['--version',].replace(sources.COORD, name)}, {state if is_there else 'not built'}")
         return 0
-    text = answers.of(helps, words)
+    text = answers.of(helps, words) if name == sources.COORD else answers.of_broker(tree.root, words)
     is_help = text == helps["--help",]
     if text is None or is_there and not is_help:
         return None
-    print(text, *[OWN_HELP] * is_help, sep="\n", file=sys.stderr)
-    return 2
+    # The broker prints its help on standard output.
+    is_printed = name == sources.BROKER and not text.startswith("error: ")
+    print(text, *[OWN_HELP] * is_help, sep="\n", file=sys.stdout if is_printed else sys.stderr)
+    return 0 if is_printed else 2
 
 
 def has_toolchain(tree: crates.Tree) -> bool:

@@ -1,8 +1,8 @@
 """What the program says of words that run nothing: help, and what it refuses. No program is needed for it, so a typo is told at once, and not after a
 build.
 
-The helps, with the subcommands and options in them, are those of the cases that the program is compared with. What is refused here is told in the
-program's words, which are clap's; cases/command-line/words.rows has them. What isn't refused here may still be refused by the program.
+The helps, with the subcommands and options in them, are those that the programs are compared with. What is refused here is told in the program's
+words, which are clap's; cases/command-line/words.rows has them. What isn't refused here may still be refused by the program.
 """
 
 import pathlib
@@ -13,9 +13,9 @@ from gate import rows
 from packages import options
 from rules import lines
 
-CASES = "cases/command-line/help.rows"
+CASES, BROKER_HELP = "cases/command-line/help.rows", "crates/broker_cli/stdout"
 HELP, VERSION = ("-h", "--help"), ("-V", "--version")
-RANGE = re.compile(r"(\d+) to (\d+)")
+RANGE, HOST = re.compile(r"(\d+) to (\d+)"), re.compile(r"(?!(0+\.){3}0+$)(\d{1,3}\.){3}\d{1,3}")
 MORE = "For more information, try '--help'."
 # How alike two words are of which one may have been meant for the other.
 ALIKE = 0.7
@@ -34,8 +34,19 @@ def of_help(root: str) -> Answers:
 
 def of(answers: Answers, words: Sequence[str]) -> Optional[str]:
     """What the program says of these words where they run nothing, or None where they may."""
+    return told_by(lambda: look(answers, [escaped(it) for it in words]))
+
+
+def of_broker(root: str, words: Sequence[str]) -> Optional[str]:
+    """What the broker says of these words where they run nothing: its help, or one line."""
+    text = pathlib.Path(root, BROKER_HELP).read_text().rstrip("\n")
+    told = told_by(lambda: Words(options.read("coord-broker", text), text).read([escaped(it) for it in words]))
+    return told if told in (None, text) else told.partition("\n")[0]
+
+
+def told_by(read: Callable[[], None]) -> Optional[str]:
     try:
-        look(answers, [escaped(it) for it in words])
+        read()
     except Told as why:
         return str(why)
     return None
@@ -90,8 +101,8 @@ class Words:
             said = f"the argument '{spelled(self.known[one])}' cannot be used with '{spelled(self.known[other])}'"
             raise Told(refused(said, usage(f"{self.help.command} {spelled(self.known[one])}")))
         for name in self.known:
-            self.look_at_number(name)
-        refuse_topics(self.others)
+            self.look_at(name)
+        refuse_topics(self.others, r"(?!\.\.?:)([a-zA-Z0-9._-]{1,249})" if "--listen" in self.known else r"([^:\s\\]*)")
 
     def other(self, word: str) -> None:
         if not self.after:
@@ -118,9 +129,11 @@ class Words:
             raise Told(refused(f"invalid value '{value}' for '{spelled(it)}'{choices}", MORE))
         self.values[name] = value
 
-    def look_at_number(self, name: str) -> None:
+    def look_at(self, name: str) -> None:
         """The range of an option's number is in what its help says."""
         span, value = RANGE.search(self.known[name].about), self.values.get(name)
+        if name == "--listen" and value is not None and not HOST.fullmatch(value):
+            raise Told(refused(f"'{value}' is no IPv4 address that clients can be told"))
         if span and value is not None and not (re.fullmatch(r"\+?[0-9]{1,20}", value, re.ASCII) and int(span[1]) <= int(value) <= int(span[2])):
             raise Told(refused(f"'{name}' wants a number from {span[1]} to {span[2]}"))
 
@@ -144,14 +157,13 @@ def refuse_option(word: str, known: Sequence[str], now: str, then: Callable[[str
     raise Told(refused(f"unexpected argument '{word}' found", *[tip] * bool(found or is_value), usage(then(found[-1]) if found else now)))
 
 
-def refuse_topics(words: Sequence[str]) -> None:
-    ids: Dict[str, bytes] = {}
-    for word in words:
-        found = re.fullmatch(r"([^:\s\\]*):(.*):([^:]*)", word)
-        try:
-            name, topic, count = lines.name_of(found[1]), lines.topic_of(found[2]), lines.number_of(found[3], lines.INT32)
-        except (TypeError, lines.BadLine):
-            raise Told(refused(f"'{word}' is no topic NAME:UUID:COUNT")) from None
+def refuse_topics(words: Sequence[str], names: str) -> None:
+    topics, ids = [topic_of(word, names) for word in words], {}
+    total = sum(count for _, _, count in topics)
+    if len(topics) > lines.MOST_TOPICS or total > lines.MOST_PARTITIONS:
+        most = f"{lines.MOST_TOPICS} topics and {lines.MOST_PARTITIONS} partitions"
+        raise Told(refused(f"an image has at most {most}, and this one has {len(topics)} and {total}"))
+    for name, topic, count in topics:
         if not 1 <= count <= lines.MOST_TOPIC_PARTITIONS:
             raise Told(refused(f"topic {name} has {count} partitions, and a topic has 1 to {lines.MOST_TOPIC_PARTITIONS}"))
         if name in ids:
@@ -159,6 +171,15 @@ def refuse_topics(words: Sequence[str]) -> None:
         for other in (it for it, its_id in ids.items() if its_id == topic):
             raise Told(refused(f"topics {other} and {name} have the same id"))
         ids[name] = topic
+
+
+def topic_of(word: str, names: str) -> Tuple[str, bytes, int]:
+    found = re.fullmatch(names + r":(?:(.*):)?([^:]*)", word)
+    try:
+        name, count = lines.name_of(found[1]), lines.number_of(found[3], lines.INT32)
+        return name, lines.id_of(name).bytes if found[2] is None else lines.topic_of(found[2]), count
+    except (TypeError, lines.BadLine):
+        raise Told(refused(f"'{word}' is no topic NAME:COUNT or NAME:UUID:COUNT")) from None
 
 
 def escaped(word: str) -> str:

@@ -1,15 +1,11 @@
 //! The topics that words name.
-ghost use Rattle.std.specs.Prelude.{◌≡◌};
-ghost use Rattle.uuid.specs.Uuid.{version_num};
-
 use crate::fault::WordsFault;
 use scenario_text::command_line::escaped;
 use scenario_text::fault::LineFault;
 use scenario_text::topic_reasons::of_list;
-use scenario_text::topics::topic_of;
+use scenario_text::topics::{topic_of, topic_without_id};
 use std::alloc::{AllocError, Global};
 use topic_meta::{Image, ImageFault, TopicEntry};
-use uuid::Uuid;
 
 /// The most characters of a topic's name (Kafka, "Topic names").
 const LONGEST_NAME: usize = 249;
@@ -54,26 +50,13 @@ fn topic_of_word(alloc: Global, word: &str) -> Result<TopicEntry, WordsFault> {
     }
     let entry = match rest.rsplit_once(':') {
         Some((id, count)) => topic_of(alloc, &[name, id, count]),
-        None => topic_of_count(alloc, name, rest),
+        None => topic_without_id(alloc, name, rest),
     };
     match entry {
         Ok(entry) => Ok(entry),
         Err(LineFault::NoMemory) => Err(WordsFault::NoMemory),
         Err(LineFault::BadLine) => Err(no_topic(alloc, word)),
     }
-}
-
-/// The topic with this name, an id that is derived from it, and this count.
-fn topic_of_count(alloc: Global, name: &str, count: &str) -> Result<TopicEntry, LineFault> {
-    let id = format!(in alloc; "{}", id_of(name))?;
-    topic_of(alloc, &[name, id.as_str(), count])
-}
-
-/// The id of a topic whose word has none: the same at each start (RFC 9562, "UUID Version 5", in the namespace of DNS names).
-fn id_of(name: &str) -> Uuid
-    ensures { version_num result ≡ 5 }
-{
-    Uuid::new_v5(&Uuid::NAMESPACE_DNS, name.as_bytes())
 }
 
 /// Whether a topic may have this name: 1 to 249 letters and digits of ASCII, dots, underscores and hyphens, and neither a dot nor two

@@ -65,8 +65,12 @@ fn do_lines<R: Read, W: Write, E: Write>(
     ensures { result ≤ 2 }
 {
     match command {
-        LineCommand::Frame(telling) => frame_lines(alloc, telling, reader, writer, faults),
-        LineCommand::Replies(api) => reply_frame_lines(alloc, api, reader, writer, faults),
+        LineCommand::Frame(telling, form) => frame_lines(
+            alloc, telling, form, reader, writer, faults,
+        ),
+        LineCommand::Replies(api, form) => reply_frame_lines(
+            alloc, api, form, reader, writer, faults,
+        ),
         LineCommand::Reply(telling) => match drawn(keys, faults) {
             Some(keys) => reply_lines(alloc, keys, telling, reader, writer, faults),
             None => 1,

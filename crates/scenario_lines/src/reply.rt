@@ -5,6 +5,7 @@ ghost use Rattle.scenario_text.specs.Runs.{RunsLines};
 use crate::replier::Replier;
 use scenario_text::command_line::Telling;
 use scenario_text::driver;
+use scenario_text::explain::SCRIPT_HELP;
 use std::alloc::Global;
 use std::collections::hash_map::RandomState;
 use std::io::{Read, Write};
@@ -26,5 +27,5 @@ pub fn reply_lines<R: Read, W: Write, E: Write>(
         (W.contents writer.old, W.contents writer.new) (E.contents faults.old, E.contents faults.new) result }
 {
     let replier = Replier::new(alloc, hasher);
-    driver::run(alloc, replier, telling, reader, writer, faults)
+    driver::run(alloc, replier, telling, SCRIPT_HELP, reader, writer, faults)
 }

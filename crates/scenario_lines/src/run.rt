@@ -5,6 +5,7 @@ ghost use Rattle.scenario_text.specs.Runs.{RunsScript};
 use crate::player::Player;
 use scenario_text::command_line::Telling;
 use scenario_text::driver;
+use scenario_text::explain::SCRIPT_HELP;
 use std::alloc::Global;
 use std::collections::hash_map::RandomState;
 use std::io::{Read, Write};
@@ -26,5 +27,5 @@ pub fn run_lines<R: Read, W: Write, E: Write>(
         (W.contents writer.old, W.contents writer.new) (E.contents faults.old, E.contents faults.new) result }
 {
     let player = Player::new(alloc, hasher);
-    driver::run(alloc, player, telling, reader, writer, faults)
+    driver::run(alloc, player, telling, SCRIPT_HELP, reader, writer, faults)
 }

@@ -9,26 +9,27 @@ use Rattle.kip_msgs.specs.Values.{RequestValue}
 use Rattle.kip_msgs.specs.Spelling.{SpellsRequest}
 use Rattle.kip_msgs.specs.Heads.{HasUnknownKey, HasUnknownVersion, HasFieldFault, HasLeftOver}
 use Rattle.group_types.specs.Frames.{IsFrame}
+use Rattle.scenario_text.specs.declared.page.TextForm.{TextForm}
 use Rattle.scenario_text.specs.Lines.{fed}
 use Rattle.scenario_text.specs.Reports.{line, request_lines, fault_line, HasFault, PutsReport}
 use Rattle.scenario_text.proofs.Pages.{one_put}
 
 -- bytes that are no frame
-pub unframed_put : (bytes before after : List ℕ) → ((body : List ℕ) → ¬ IsFrame body bytes)
-    → after ≡ before ++ fed (line (codes "fault") (codes "size" ∷ [])) → PutsReport bytes before after
-unframed_put bytes before after none put =
+pub unframed_put : (form : TextForm) (bytes before after : List ℕ) → ((body : List ℕ) → ¬ IsFrame body bytes)
+    → after ≡ before ++ fed (line (codes "fault") (codes "size" ∷ [])) → PutsReport form bytes before after
+unframed_put form bytes before after none put =
     record { lines = line (codes "fault") (codes "size" ∷ []) ∷ []; report = inr (none, refl); put = one_put before after (line (codes "fault") (codes "size" ∷ [])) put }
 
 -- the frame of a request
-pub request_put : (body bytes before after : List ℕ) (v : RequestValue) → IsFrame body bytes → SpellsRequest v body
-    → after ≡ before ++ flat_map fed (request_lines v) → PutsReport bytes before after
-request_put body bytes before after v framed spells put =
-    record { lines = request_lines v; report = inl (body, framed, inl (v, spells, refl)); put = put }
+pub request_put : (form : TextForm) (body bytes before after : List ℕ) (v : RequestValue) → IsFrame body bytes → SpellsRequest v body
+    → after ≡ before ++ flat_map fed (request_lines form v) → PutsReport form bytes before after
+request_put form body bytes before after v framed spells put =
+    record { lines = request_lines form v; report = inl (body, framed, inl (v, spells, refl)); put = put }
 
 -- the frame of a body that has a fault
-pub fault_put : (body bytes before after : List ℕ) (fault : MsgFault) → IsFrame body bytes → HasFault fault body
-    → after ≡ before ++ fed (fault_line fault) → PutsReport bytes before after
-fault_put body bytes before after fault framed has put =
+pub fault_put : (form : TextForm) (body bytes before after : List ℕ) (fault : MsgFault) → IsFrame body bytes → HasFault fault body
+    → after ≡ before ++ fed (fault_line fault) → PutsReport form bytes before after
+fault_put form body bytes before after fault framed has put =
     record { lines = fault_line fault ∷ []; report = inl (body, framed, inr (fault, has, refl)); put = one_put before after (fault_line fault) put }
 
 -- a fault that reading gives is the body's

@@ -2,6 +2,7 @@
 ghost use Rattle.std.specs.Prelude.{◌≡◌, ◌↔◌};
 ghost use Rattle.scenario_text.specs.Statuses.{IsForMemory};
 
+use crate::page::TextForm;
 use crate::service::{self, Service};
 use clap::error::ErrorKind;
 use clap::{Arg, ArgAction, ArgMatches, Command};
@@ -34,10 +35,10 @@ pub enum Subcommand {
 pub enum LineCommand {
     /// Answer their request frames.
     Reply(Telling),
-    /// Print what is in their request frames.
-    Frame(Telling),
-    /// Print what is in their frames of replies to requests of the API.
-    Replies(Api),
+    /// Print what is in their request frames, with texts in this form.
+    Frame(Telling, TextForm),
+    /// Print what is in their frames of replies to requests of the API, with texts in this form.
+    Replies(Api, TextForm),
     /// Play their script.
     Run(Telling),
 }
@@ -64,7 +65,7 @@ pub enum CommandLineFault {
     #[error("error: '--{0}' wants a number from 1 to {1}\n")]
     OutOfRange(&'static str, u64),
     /// The word is no topic.
-    #[error("error: '{0}' is no topic NAME:UUID:COUNT\n")]
+    #[error("error: '{0}' is no topic NAME:COUNT or NAME:UUID:COUNT\n")]
     NoTopic(String),
     /// The topics make no image, and the text says why.
     #[error("error: {0}\n")]
@@ -199,10 +200,15 @@ fn version_or_refusal(error: clap::Error) -> Result<Subcommand, CommandLineFault
 
 /// Which frames the words of `frame` ask for.
 fn frames_of(matches: &ArgMatches<'_>) -> LineCommand {
+    let form = if matches.get_flag("text") {
+        TextForm::Quoted
+    } else {
+        TextForm::Hex
+    };
     match matches.get_str("replies") {
-        Some("commit") => LineCommand::Replies(Api::Commit),
-        Some(_) => LineCommand::Replies(Api::Heartbeat),
-        None => LineCommand::Frame(telling_of(matches)),
+        Some("commit") => LineCommand::Replies(Api::Commit, form),
+        Some(_) => LineCommand::Replies(Api::Heartbeat, form),
+        None => LineCommand::Frame(telling_of(matches), form),
     }
 }
 
@@ -253,8 +259,17 @@ fn frame_command<'a>(alloc: Global) -> Result<Command<'a>, AllocError> {
     let explain = explain(alloc).conflicts_with("replies")?;
     let frame = Command::new(alloc, "frame")
         .about("Prints the fields of the request frames on standard input")
-        .arg(explain)?;
-    frame.arg(replies(alloc))
+        .arg(explain)?
+        .arg(replies(alloc))?;
+    frame.arg(text(alloc))
+}
+
+/// The word by which texts are printed as text.
+fn text<'a>(alloc: Global) -> Arg<'a> {
+    Arg::new(alloc, "text")
+        .long("text")
+        .help("Prints texts between quotes, in place of their bytes in hex")
+        .action(ArgAction::SetTrue)
 }
 
 /// The word by which frames are those of replies.

@@ -61,14 +61,15 @@ pub trait LineWorker {
     fn why_bad(&self, line: &[u8]) -> Result<String, AllocError>;
 }
 
-/// Does the lines of the reader in order and prints what they answer, up to the first that can't be done. A fault is told, and behind it
-/// the reasons, where they are wanted.
+/// Does the lines of the reader in order and prints what they answer, up to the first that can't be done. A fault is told, and after it
+/// the reasons, if they are wanted. If they aren't, `help` ends the line that tells of a bad one.
 ///
 /// Gives the program's status: 0 where all lines are done, 2 at a bad line, 1 after the other faults and where memory was out for a reason.
 pub fn run<L: LineWorker + Drop, R: Read, W: Write, E: Write>(
     alloc: Global,
     mut worker: L,
     telling: Telling,
+    help: &str,
     reader: &mut R,
     writer: &mut W,
     faults: &mut E,
@@ -78,22 +79,24 @@ pub fn run<L: LineWorker + Drop, R: Read, W: Write, E: Write>(
 {
     let mut reasons = Reasons::new(alloc, telling, worker.notes());
     let done = do_lines(alloc, &mut worker, &mut reasons, reader, writer);
-    let status = status_after(alloc, done, faults);
     match telling {
-        Telling::Numbers => status,
-        Telling::Reasons => reasons.tell(status, faults),
+        Telling::Numbers => status_after(alloc, done, help, faults),
+        Telling::Reasons => {
+            let status = status_after(alloc, done, "", faults);
+            reasons.tell(status, faults)
+        }
     }
 }
 
 /// The status of a run, whose fault is told.
-fn status_after<E: Write>(alloc: Global, done: Result<(), Fault>, faults: &mut E) -> u8
+fn status_after<E: Write>(alloc: Global, done: Result<(), Fault>, help: &str, faults: &mut E) -> u8
     ensures status { IsStatus (result_err done) result }
     ensures told { Grows (E.contents faults.old) (E.contents faults.new) }
     ensures quiet { result ≡ 0 → Keeps (E.contents faults.old) (E.contents faults.new) }
 {
     match done {
         Ok(()) => 0,
-        Err(fault) => tell(alloc, fault, faults),
+        Err(fault) => tell(alloc, fault, help, faults),
     }
 }
 
@@ -185,12 +188,12 @@ fn write<W: Write>(output: &mut Output, writer: &mut W) -> Result<(), Fault>
     output.write_to(writer).map_err(Fault::Write)
 }
 
-/// Writes the text of a fault, and gives its status. Where memory is short for the text, want of memory is the fault.
-fn tell<E: Write>(alloc: Global, fault: Fault, faults: &mut E) -> u8
+/// Writes the text of a fault, with help after that of a bad line, and gives its status. Where memory is short for the text, want of memory is the fault.
+fn tell<E: Write>(alloc: Global, fault: Fault, help: &str, faults: &mut E) -> u8
     ensures status { (result ≡ status_of fault) ⊎ (result ≡ 1) }
     ensures told { Grows (E.contents faults.old) (E.contents faults.new) }
 {
-    match format!(in alloc; "{fault}\n") {
+    match text_of(alloc, &fault, help) {
         Ok(text) => {
             let _ = write_whole(faults, text.as_bytes());
             fault.status()
@@ -198,6 +201,16 @@ fn tell<E: Write>(alloc: Global, fault: Fault, faults: &mut E) -> u8
         Err(_) => {
             let _ = write_whole(faults, b"out of memory\n");
             Fault::NoMemory.status()
+        }
+    }
+}
+
+/// The line that tells a fault.
+fn text_of(alloc: Global, fault: &Fault, help: &str) -> Result<String, AllocError> {
+    match fault {
+        Fault::BadLine(_) => format!(in alloc; "{fault}{help}\n"),
+        Fault::Read(_) | Fault::TooLong | Fault::Write(_) | Fault::NoMemory => {
+            format!(in alloc; "{fault}\n")
         }
     }
 }

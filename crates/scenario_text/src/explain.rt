@@ -9,6 +9,13 @@ use crate::output::write_whole;
 use std::alloc::{AllocError, Global};
 use std::io::Write;
 
+/// What helps with a bad line.
+pub const HELP: &str = ": --explain says why";
+
+/// What helps with a bad line of a script.
+pub const SCRIPT_HELP: &str =
+    ": --explain says why (a story isn't a script; tools/write-run makes one of it)";
+
 /// The reasons that are told behind a run, where they are wanted.
 #[derive(Drop)]
 pub struct Reasons<N> {

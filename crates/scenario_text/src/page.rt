@@ -1,13 +1,22 @@
 //! Lines of text that are being put together.
 ghost use Rattle.std.specs.Prelude.{◌≡◌, [], ◌∷◌, ◌++◌, codes, map, OnOk};
-ghost use Rattle.std.specs.List.{flat_map};
+ghost use Rattle.std.specs.List.{flat_map, list_all};
 ghost use Rattle.std.specs.Option.{option_copied};
 ghost use Rattle.scenario_text.specs.Lines.{fed};
-ghost use Rattle.scenario_text.specs.Reports.{text_word, nullable_word, behind_comma, commas, spaced, line};
+ghost use Rattle.scenario_text.specs.Reports.{is_plain, text_word, nullable_word, behind_comma, commas, spaced, line};
 
 use itoa::{Buffer, Integer};
 use std::alloc::{AllocError, Global};
 use std::marker::Model;
+
+/// How texts are printed.
+#[derive(Clone, Copy, Debug, PartialEq, Eq)]
+pub enum TextForm {
+    /// As `x` and the hex of their bytes.
+    Hex,
+    /// Between quotes, if each of their bytes may stand there, and else in hex.
+    Quoted,
+}
 
 /// Lines that are being put together, word by word. After an `Err` a part of a line may stand in it.
 #[derive(Drop)]
@@ -51,20 +60,25 @@ impl Page {
     }
 
     /// Puts the line of a text.
-    pub fn text(&mut self, key: &str, value: &str) -> Result<(), AllocError>
-        ensures { OnOk result (self.new ≡ self.old ++ fed (line key.now (text_word value.now ∷ []))) }
+    pub fn text(&mut self, form: TextForm, key: &str, value: &str) -> Result<(), AllocError>
+        ensures { OnOk result (self.new ≡ self.old ++ fed (line key.now (text_word form value.now ∷ []))) }
     {
         self.put(key)?;
-        self.text_word(value)?;
+        self.text_word(form, value)?;
         self.put("\n")
     }
 
     /// Puts the line of a text that may be null.
-    pub fn nullable(&mut self, key: &str, value: Option<&str>) -> Result<(), AllocError>
-        ensures { OnOk result (self.new ≡ self.old ++ fed (line key.now (nullable_word (option_copied value.entry) ∷ []))) }
+    pub fn nullable(
+        &mut self,
+        form: TextForm,
+        key: &str,
+        value: Option<&str>,
+    ) -> Result<(), AllocError>
+        ensures { OnOk result (self.new ≡ self.old ++ fed (line key.now (nullable_word form (option_copied value.entry) ∷ []))) }
     {
         self.put(key)?;
-        self.nullable_word(value)?;
+        self.nullable_word(form, value)?;
         self.put("\n")
     }
 
@@ -78,11 +92,11 @@ impl Page {
     }
 
     /// Puts the line of texts.
-    pub fn texts(&mut self, key: &str, values: &[&str]) -> Result<(), AllocError>
-        ensures { OnOk result (self.new ≡ self.old ++ fed (line key.now (map text_word (map (λ text. text.now) values.now)))) }
+    pub fn texts(&mut self, form: TextForm, key: &str, values: &[&str]) -> Result<(), AllocError>
+        ensures { OnOk result (self.new ≡ self.old ++ fed (line key.now (map (text_word form) (map (λ text. text.now) values.now)))) }
     {
         self.put(key)?;
-        self.text_words(values)?;
+        self.text_words(form, values)?;
         self.put("\n")
     }
 
@@ -119,30 +133,42 @@ impl Page {
     }
 
     /// Puts a text as a word.
-    pub fn text_word(&mut self, text: &str) -> Result<(), AllocError>
-        ensures { OnOk result (self.new ≡ self.old ++ codes " " ++ text_word text.now) }
+    pub fn text_word(&mut self, form: TextForm, text: &str) -> Result<(), AllocError>
+        ensures { OnOk result (self.new ≡ self.old ++ codes " " ++ text_word form text.now) }
     {
+        if form == TextForm::Quoted && is_plain(text) {
+            return self.quoted_word(text);
+        }
         let digits = hex::encode(self.alloc, text)?;
         self.put(" x")?;
         self.put(digits.as_str())
     }
 
+    /// Puts a text between quotes as a word.
+    fn quoted_word(&mut self, plain: &str) -> Result<(), AllocError>
+        ensures { OnOk result (self.new ≡ self.old ++ codes " " ++ codes "\"" ++ plain.now ++ codes "\"") }
+    {
+        self.put(" \"")?;
+        self.put(plain)?;
+        self.put("\"")
+    }
+
     /// Puts a text that may be null as a word.
-    pub fn nullable_word(&mut self, text: Option<&str>) -> Result<(), AllocError>
-        ensures { OnOk result (self.new ≡ self.old ++ codes " " ++ nullable_word (option_copied text.entry)) }
+    pub fn nullable_word(&mut self, form: TextForm, text: Option<&str>) -> Result<(), AllocError>
+        ensures { OnOk result (self.new ≡ self.old ++ codes " " ++ nullable_word form (option_copied text.entry)) }
     {
         match text {
-            Some(text) => self.text_word(text),
+            Some(text) => self.text_word(form, text),
             None => self.word("null"),
         }
     }
 
     /// Puts texts as words.
-    fn text_words(&mut self, texts: &[&str]) -> Result<(), AllocError>
-        ensures { OnOk result (self.new ≡ self.old ++ spaced (map text_word (map (λ text. text.now) texts.now))) }
+    fn text_words(&mut self, form: TextForm, texts: &[&str]) -> Result<(), AllocError>
+        ensures { OnOk result (self.new ≡ self.old ++ spaced (map (text_word form) (map (λ text. text.now) texts.now))) }
     {
         for text in texts {
-            self.text_word(text)?;
+            self.text_word(form, text)?;
         }
         Ok(())
     }
@@ -182,4 +208,11 @@ impl Page {
         }
         Ok(())
     }
+}
+
+/// Whether each byte of a text may stand between quotes.
+fn is_plain(text: &str) -> bool
+    ensures { result ≡ list_all is_plain text.now }
+{
+    text.bytes().all(|byte| 31 < byte && !matches!(byte, b'"' | b'\\' | 127 | 194))
 }

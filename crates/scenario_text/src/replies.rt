@@ -8,7 +8,7 @@ use crate::command_line::Telling;
 use crate::driver::{self, LineWorker};
 use crate::fault::LineFault;
 use crate::output::Output;
-use crate::page::Page;
+use crate::page::{Page, TextForm};
 use crate::reply_report::put_reply_report;
 use crate::{reasons, words};
 use kip_msgs::Api;
@@ -22,15 +22,24 @@ use std::io::{Read, Write};
 pub fn reply_frame_lines<R: Read, W: Write, E: Write>(
     alloc: Global,
     api: Api,
+    form: TextForm,
     reader: &mut R,
     writer: &mut W,
     faults: &mut E,
 ) -> u8
-    ensures { RunsLines DoesReplyFrameLine SpellsBytes (new_reply_reporter alloc api) Telling.Numbers (R.remaining reader.old)
+    ensures { RunsLines DoesReplyFrameLine SpellsBytes (new_reply_reporter alloc api form) Telling.Numbers (R.remaining reader.old)
         (W.contents writer.old, W.contents writer.new) (E.contents faults.old, E.contents faults.new) result }
 {
-    let reporter = ReplyReporter::new(alloc, api);
-    driver::run(alloc, reporter, Telling::Numbers, reader, writer, faults)
+    let reporter = ReplyReporter::new(alloc, api, form);
+    driver::run(
+        alloc,
+        reporter,
+        Telling::Numbers,
+        "",
+        reader,
+        writer,
+        faults,
+    )
 }
 
 /// Prints the report of each line's frame.
@@ -38,17 +47,19 @@ pub fn reply_frame_lines<R: Read, W: Write, E: Write>(
 struct ReplyReporter {
     alloc: Global,
     api: Api,
+    form: TextForm,
     page: Page,
 }
 
 impl ReplyReporter {
     /// Before the first line.
-    fn new(alloc: Global, api: Api) -> ReplyReporter
-        ensures { result ≡ new_reply_reporter alloc api }
+    fn new(alloc: Global, api: Api, form: TextForm) -> ReplyReporter
+        ensures { result ≡ new_reply_reporter alloc api form }
     {
         ReplyReporter {
             alloc,
             api,
+            form,
             page: Page::new(alloc),
         }
     }
@@ -68,13 +79,19 @@ impl LineWorker for ReplyReporter {
     /// Prints the report of the frame that the line spells in hex. A line that isn't one word of hex is a bad line.
     fn line(&mut self, line: &[u8], output: &mut Output) -> Result<(), LineFault>
         ensures printed { OnOk result (Prints (DoesReplyFrameLine self.old line.now self.new) output.old output.new) }
-        ensures report { OnOk result (PrintsReplyReport self.old.api line.now output.old output.new) }
+        ensures report { OnOk result (PrintsReplyReport self.old.api self.old.form line.now output.old output.new) }
         ensures err { OnErr result (output.new ≡ output.old) }
         ensures refused { result ≡ Err LineFault.BadLine → ¬ SpellsBytes line.now }
     {
         let bytes = words::bytes_of_line(self.alloc, line)?;
         self.page.clear();
-        put_reply_report(self.alloc, &mut self.page, self.api, bytes.as_slice())?;
+        put_reply_report(
+            self.alloc,
+            &mut self.page,
+            self.api,
+            self.form,
+            bytes.as_slice(),
+        )?;
         output.text(self.page.as_str())?;
         Ok(())
     }

@@ -5,7 +5,7 @@ ghost use Rattle.std.proofs.Props.{props};
 use crate::command_line::{CommandLineFault, escaped};
 use crate::fault::LineFault;
 use crate::topic_reasons::of_list;
-use crate::topics::topic_of;
+use crate::topics::{topic_of, topic_without_id};
 use clap::{Arg, ArgAction, ArgMatches, Command};
 use std::alloc::{AllocError, Global};
 use topic_meta::{Image, ImageFault, TopicEntry};
@@ -96,7 +96,7 @@ fn log<'a>(alloc: Global) -> Arg<'a> {
 fn topics<'a>(alloc: Global) -> Arg<'a> {
     Arg::new(alloc, "topics")
         .value_name("TOPIC")
-        .help("A topic, as NAME:UUID:COUNT")
+        .help("A topic, as NAME:COUNT or NAME:UUID:COUNT")
         .action(ArgAction::Append)
         .num_args(0..)
 }
@@ -204,18 +204,19 @@ fn no_image(
 }
 
 /// The topic of a word: its name, its id and how many partitions it has, cut at the first colon and the last. Its parts are what words
-/// of an `image` line may be.
+/// of an `image` line may be. With one colon its id is derived from its name.
 fn topic_of_word(alloc: Global, word: &str) -> Result<TopicEntry, CommandLineFault> {
     let Some((name, rest)) = word.split_once(':') else {
-        return Err(no_topic(alloc, word));
-    };
-    let Some((id, count)) = rest.rsplit_once(':') else {
         return Err(no_topic(alloc, word));
     };
     if name.is_empty() || word.contains(' ') || word.contains('\n') {
         return Err(no_topic(alloc, word));
     }
-    match topic_of(alloc, &[name, id, count]) {
+    let entry = match rest.rsplit_once(':') {
+        Some((id, count)) => topic_of(alloc, &[name, id, count]),
+        None => topic_without_id(alloc, name, rest),
+    };
+    match entry {
         Ok(entry) => Ok(entry),
         Err(LineFault::NoMemory) => Err(CommandLineFault::NoMemory),
         Err(LineFault::BadLine) => Err(no_topic(alloc, word)),

@@ -1,5 +1,6 @@
 //! The topics that words are.
 ghost use Rattle.std.specs.Prelude.{◌≡◌, ◌≢◌, List, [], ◌∷◌, map, IfOk};
+ghost use Rattle.uuid.specs.Uuid.{version_num};
 ghost use Rattle.topic_meta.specs.Images.{Entry, entry_of, entries_of};
 ghost use Rattle.scenario_text.specs.ImageWords.{IsImage, SpellImage, SpellTopics};
 
@@ -62,4 +63,17 @@ pub fn topic_of(alloc: Global, words: &[&str]) -> Result<TopicEntry, LineFault>
     let count = words::count_of(count).ok_or(LineFault::BadLine)?;
     let name = String::from_str(alloc, name)?;
     Ok(TopicEntry { name, id, count })
+}
+
+/// The topic of two words, its name and how many partitions it has. Its id is derived from its name.
+pub fn topic_without_id(alloc: Global, name: &str, count: &str) -> Result<TopicEntry, LineFault> {
+    let id = format!(in alloc; "{}", id_of(name))?;
+    topic_of(alloc, &[name, id.as_str(), count])
+}
+
+/// The id of a topic whose word has none: the same at each start (RFC 9562, "UUID Version 5", in the namespace of DNS names).
+fn id_of(name: &str) -> Uuid
+    ensures { version_num result ≡ 5 }
+{
+    Uuid::new_v5(&Uuid::NAMESPACE_DNS, name.as_bytes())
 }

@@ -31,6 +31,12 @@ $ frame --replies commit
 => throttle 0
 => part x74 1 113
 
+# frame prints texts between quotes
+$ frame --replies commit --text
+0000001600000008000000000002027402000000010071000000 => commit correlation 8
+=> throttle 0
+=> part \"t\" 1 113
+
 # run plays scripts
 $ run
 clock 0 => clock";
@@ -45,7 +51,7 @@ tick => removed 0
 clock 0
 tock
 tick
-! bad line 3
+! bad line 3: --explain says why (a story isn't a script; tools/write-run makes one of it)
 
 # of frame
 $ frame
@@ -54,7 +60,7 @@ $ frame
 req 00000000
 0
 00000000
-! bad line 2
+! bad line 2: --explain says why
 
 # of run
 $ run
@@ -64,14 +70,14 @@ clock 1 => clock
 clock 2 => clock
 req 00000000
 settle
-! bad line 4
+! bad line 4: --explain says why (a story isn't a script; tools/write-run makes one of it)
 
 # the first line
 $ run
 % 2
 tock
 clock 0
-! bad line 1
+! bad line 1: --explain says why (a story isn't a script; tools/write-run makes one of it)
 
 # with reasons it is the same line
 $ reply --explain

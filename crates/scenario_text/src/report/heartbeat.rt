@@ -7,7 +7,7 @@ ghost use Rattle.scenario_text.specs.Lines.{fed};
 ghost use Rattle.scenario_text.specs.Reports.{text_word, topic_word, nullable_words, spaced, line, member_lines, subscription_lines, heartbeat_lines};
 
 use super::put_head;
-use crate::page::Page;
+use crate::page::{Page, TextForm};
 use kip_msgs::{Array, HeartbeatRequest, RequestHeader, TopicPartitions};
 use std::alloc::AllocError;
 use uuid::Uuid;
@@ -15,51 +15,61 @@ use uuid::Uuid;
 /// Puts the lines of a heartbeat, a field each.
 pub(super) fn put_heartbeat(
     page: &mut Page,
+    form: TextForm,
     header: &RequestHeader<'_>,
     message: &HeartbeatRequest<'_>,
 ) -> Result<(), AllocError>
     ensures { OnOk result (page.new ≡ page.old
-        ++ flat_map fed (heartbeat_lines (request_header_value header.now) (heartbeat_request_value message.now))) }
+        ++ flat_map fed (heartbeat_lines form (request_header_value header.now) (heartbeat_request_value message.now))) }
 {
-    put_member(page, header, message)?;
-    put_subscription(page, message)
+    put_member(page, form, header, message)?;
+    put_subscription(page, form, message)
 }
 
 /// Puts the lines of the header and of who the member is.
 fn put_member(
     page: &mut Page,
+    form: TextForm,
     header: &RequestHeader<'_>,
     message: &HeartbeatRequest<'_>,
 ) -> Result<(), AllocError>
     ensures { OnOk result (page.new ≡ page.old
-        ++ flat_map fed (member_lines (request_header_value header.now) (heartbeat_request_value message.now))) }
+        ++ flat_map fed (member_lines form (request_header_value header.now) (heartbeat_request_value message.now))) }
 {
-    put_head(page, "heartbeat", header)?;
-    page.text("group", message.group_id)?;
-    page.text("member", message.member_id)?;
+    put_head(page, form, "heartbeat", header)?;
+    page.text(form, "group", message.group_id)?;
+    page.text(form, "member", message.member_id)?;
     page.number("epoch", message.member_epoch)?;
-    page.nullable("instance", message.instance_id)?;
-    page.nullable("rack", message.rack_id)
+    page.nullable(form, "instance", message.instance_id)?;
+    page.nullable(form, "rack", message.rack_id)
 }
 
 /// Puts the lines of what the member wants and owns.
-fn put_subscription(page: &mut Page, message: &HeartbeatRequest<'_>) -> Result<(), AllocError>
+fn put_subscription(
+    page: &mut Page,
+    form: TextForm,
+    message: &HeartbeatRequest<'_>,
+) -> Result<(), AllocError>
     ensures { OnOk result (page.new ≡ page.old
-        ++ flat_map fed (subscription_lines (heartbeat_request_value message.now))) }
+        ++ flat_map fed (subscription_lines form (heartbeat_request_value message.now))) }
 {
     page.number("timeout", message.rebalance_timeout_ms)?;
-    put_topics(page, &message.subscribed_topic_names)?;
-    page.nullable("assignor", message.server_assignor)?;
+    put_topics(page, form, &message.subscribed_topic_names)?;
+    page.nullable(form, "assignor", message.server_assignor)?;
     put_owned(page, &message.topic_partitions)
 }
 
 /// Puts the line of the subscribed topics' names.
-fn put_topics(page: &mut Page, names: &Option<Array<&str>>) -> Result<(), AllocError>
+fn put_topics(
+    page: &mut Page,
+    form: TextForm,
+    names: &Option<Array<&str>>,
+) -> Result<(), AllocError>
     ensures { OnOk result (page.new ≡ page.old
-        ++ fed (line (codes "topics") (nullable_words text_word (option_map (map (λ name. name.now)) names.now)))) }
+        ++ fed (line (codes "topics") (nullable_words (text_word form) (option_map (map (λ name. name.now)) names.now)))) }
 {
     match names {
-        Some(names) => page.texts("topics", names.as_slice()),
+        Some(names) => page.texts(form, "topics", names.as_slice()),
         None => page.word_line("topics", "null"),
     }
 }

@@ -17,8 +17,8 @@ returns c =
     on_ok_weaker c.put_codes.result
     (λ codes-put. two_lines_put c.args.page.now c.put_head.new.page c.number.new.self c.put_codes.new.page
     (reply_head_line (codes "commit") (response_header_value c.args.header.now)) (line (codes "throttle") (signed_decimal v.throttle_time_ms ∷ []))
-    (flat_map code_lines v.topics)
+    (flat_map (code_lines c.args.form) v.topics)
     c.in_ok-put_head.ensures
     (c.in_ok-number.ensures ∙ ap (λ z. c.put_head.new.page ++ fed (line (codes "throttle") (signed_decimal z ∷ []))) throttle)
-    (codes-put ∙ ap (λ (topics : List CommitReplyTopic). c.number.new.self ++ flat_map fed (flat_map code_lines (map commit_reply_topic_value topics))) c.as_slice.ensures))
+    (codes-put ∙ ap (λ (topics : List CommitReplyTopic). c.number.new.self ++ flat_map fed (flat_map (code_lines c.args.form) (map commit_reply_topic_value topics))) c.as_slice.ensures))
     c.put_codes.ensures

@@ -9,5 +9,5 @@ returns c =
     let v = heartbeat_reply_value c.args.message.now in
     on_ok_weaker c.put_member.result
     (lines_put c.args.page.now c.put_outcome.new.page c.put_member.new.page
-    (outcome_lines (response_header_value c.args.header.now) v) (member_lines v) c.in_ok-put_outcome.ensures)
+    (outcome_lines c.args.form (response_header_value c.args.header.now) v) (member_lines c.args.form v) c.in_ok-put_outcome.ensures)
     c.put_member.ensures

@@ -16,7 +16,7 @@ returns c =
     let interval : to_z w32 (of_z w32 v.heartbeat_interval_ms) ≡ v.heartbeat_interval_ms = search rules in
     on_ok_weaker c.put_assignment.result
     (λ last. three_lines_put c.args.page.now c.nullable.new.self c.number.new.self c.number-2.new.self c.put_assignment.new.page
-    (line (codes "member") (nullable_word v.member_id ∷ [])) (line (codes "epoch") (signed_decimal v.member_epoch ∷ []))
+    (line (codes "member") (nullable_word c.args.form v.member_id ∷ [])) (line (codes "epoch") (signed_decimal v.member_epoch ∷ []))
     (line (codes "interval") (signed_decimal v.heartbeat_interval_ms ∷ [])) (assignment ∷ [])
     c.in_ok-nullable.ensures
     (c.in_ok-number.ensures ∙ ap (λ z. c.nullable.new.self ++ fed (line (codes "epoch") (signed_decimal z ∷ []))) epoch)

@@ -11,7 +11,7 @@ use Rattle.scenario_text.proofs.reply_report.put_outcome.Goals as goal
 pub returns : goal.returns
 returns c =
     let v = heartbeat_reply_value c.args.message.now in
-    let message = line (codes "message") (nullable_word v.error_message ∷ []) in
+    let message = line (codes "message") (nullable_word c.args.form v.error_message ∷ []) in
     let throttle : to_z w32 (of_z w32 v.throttle_time_ms) ≡ v.throttle_time_ms = search rules in
     let code : to_z w16 (of_z w16 v.error_code) ≡ v.error_code = search rules in
     on_ok_weaker c.nullable.result

@@ -13,7 +13,7 @@ returns c =
     let code : to_z w16 (of_z w16 p.error_code) ≡ p.error_code = search rules in
     on_ok_weaker c.put-2.result
     (three_words_put c.args.page.now c.put.new.self c.text_word.new.self c.number_word.new.self c.number_word-2.new.self c.put-2.new.self
-    (codes "part") (text_word c.args.name.now) (signed_decimal p.partition_index) (signed_decimal p.error_code)
+    (codes "part") (text_word c.args.form c.args.name.now) (signed_decimal p.partition_index) (signed_decimal p.error_code)
     c.in_ok-put.ensures c.in_ok-text_word.ensures
     (c.in_ok-number_word.ensures ∙ ap (λ z. c.text_word.new.self ++ codes " " ++ signed_decimal z) index)
     (c.in_ok-number_word-2.ensures ∙ ap (λ z. c.number_word.new.self ++ codes " " ++ signed_decimal z) code))

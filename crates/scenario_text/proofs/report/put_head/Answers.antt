@@ -12,7 +12,7 @@ returns c =
     let correlation : to_z w32 (of_z w32 header.correlation_id) ≡ header.correlation_id = search rules in
     on_ok_weaker c.put-2.result
     (four_words_put c.args.page.now c.put.new.self c.word.new.self c.number_word.new.self c.word-2.new.self c.nullable_word.new.self c.put-2.new.self
-    c.args.name.now (codes "correlation") (signed_decimal header.correlation_id) (codes "client") (nullable_word header.client_id)
+    c.args.name.now (codes "correlation") (signed_decimal header.correlation_id) (codes "client") (nullable_word c.args.form header.client_id)
     c.in_ok-put.ensures c.in_ok-word.ensures
     (c.in_ok-number_word.ensures ∙ ap (λ z. c.word.new.self ++ codes " " ++ signed_decimal z) correlation)
     c.in_ok-word-2.ensures c.in_ok-nullable_word.ensures)

@@ -8,4 +8,4 @@ use Rattle.scenario_text.proofs.report.commit.put_offsets.Given as goal
 abbrev pub invariant-loop-topic : goal.invariant-loop-topic
 invariant-loop-topic l =
     l.page ≡ l.initial.page
-    ++ flat_map fed (flat_map part_lines (map commit_request_topic_value (take l.topic-index l.topics)))
+    ++ flat_map fed (flat_map (part_lines l.form) (map commit_request_topic_value (take l.topic-index l.topics)))

@@ -15,8 +15,8 @@ returns c =
     on_ok_weaker c.put-2.result
     (five_words_put c.args.page.now c.put.new.self c.text_word.new.self c.number_word.new.self c.number_word-2.new.self c.number_word-3.new.self
     c.nullable_word.new.self c.put-2.new.self
-    (codes "part") (text_word c.args.name.now) (signed_decimal p.partition_index) (signed_decimal p.committed_offset)
-    (signed_decimal p.committed_leader_epoch) (nullable_word p.committed_metadata)
+    (codes "part") (text_word c.args.form c.args.name.now) (signed_decimal p.partition_index) (signed_decimal p.committed_offset)
+    (signed_decimal p.committed_leader_epoch) (nullable_word c.args.form p.committed_metadata)
     c.in_ok-put.ensures c.in_ok-text_word.ensures
     (c.in_ok-number_word.ensures ∙ ap (λ z. c.text_word.new.self ++ codes " " ++ signed_decimal z) index)
     (c.in_ok-number_word-2.ensures ∙ ap (λ z. c.number_word.new.self ++ codes " " ++ signed_decimal z) offset)

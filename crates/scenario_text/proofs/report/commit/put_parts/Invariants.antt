@@ -8,4 +8,4 @@ use Rattle.scenario_text.proofs.report.commit.put_parts.Given as goal
 abbrev pub invariant-loop-partition : goal.invariant-loop-partition
 invariant-loop-partition l =
     l.page ≡ l.initial.page
-    ++ flat_map fed (map (part_line l.name) (map commit_request_partition_value (take l.partition-index l.partitions)))
+    ++ flat_map fed (map (part_line l.form l.name) (map commit_request_partition_value (take l.partition-index l.partitions)))

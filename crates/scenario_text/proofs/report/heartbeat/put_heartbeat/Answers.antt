@@ -9,5 +9,5 @@ returns c =
     let v = heartbeat_request_value c.args.message.now in
     on_ok_weaker c.put_subscription.result
     (lines_put c.args.page.now c.put_member.new.page c.put_subscription.new.page
-    (member_lines (request_header_value c.args.header.now) v) (subscription_lines v) c.in_ok-put_member.ensures)
+    (member_lines c.args.form (request_header_value c.args.header.now) v) (subscription_lines c.args.form v) c.in_ok-put_member.ensures)
     c.put_subscription.ensures

@@ -15,8 +15,8 @@ returns c =
     on_ok_weaker c.put_owned.result
     (λ last. three_lines_put c.args.page.now c.number.new.self c.put_topics.new.page c.nullable.new.self c.put_owned.new.page
     (line (codes "timeout") (signed_decimal v.rebalance_timeout_ms ∷ []))
-    (line (codes "topics") (nullable_words text_word v.subscribed_topic_names))
-    (line (codes "assignor") (nullable_word v.server_assignor ∷ [])) (owned ∷ [])
+    (line (codes "topics") (nullable_words (text_word c.args.form) v.subscribed_topic_names))
+    (line (codes "assignor") (nullable_word c.args.form v.server_assignor ∷ [])) (owned ∷ [])
     (c.in_ok-number.ensures ∙ ap (λ z. c.args.page.now ++ fed (line (codes "timeout") (signed_decimal z ∷ []))) timeout)
     c.in_ok-put_topics.ensures c.in_ok-nullable.ensures (one_put c.nullable.new.self c.put_owned.new.page owned last))
     c.put_owned.ensures
