@@ -1,4 +1,4 @@
-"""The rest of a Kafka broker, in front of `coord serve`: `python3 -m broker --help` says how to run it.
+"""A Kafka broker for stock consumers, in Python: `python3 -m broker --help` says how to run it.
 
     fields, records                   primitive fields, and record batches
     versions, frames, call, codes     which APIs are spoken, a request's header, a request with its connection, and error codes
@@ -6,7 +6,8 @@
     cluster                           the brokers, and which of them coordinates a group
     apis                              a module for each API that is answered
     heartbeats, commits               the messages that the coordinator answers, as far as they are read here
-    link, relay, embedded             a connection to the coordinator, a client's, and a coordinator in this process
+    link, relay                       a coordinator in this process, and a client's connection
+    rules, library                    the rules of the protocol in Python as a coordinator, and the C library
     acceptor, streams, room           the taking of connections in order, and bounds on how long streams may take and how much waits
     turns                             long work in pieces, so that nobody else waits for it
     output, record                    lines by a thread of their own, and the record of all frames
@@ -20,7 +21,7 @@
     feed, measures                    the news of such a log, and counts
     settings, members, balance        a cluster over etcd: its settings, its brokers, and how they share the leaderships
     etcd_cluster                      the same as a cluster and a coordinator
-    starter, command_line, __main__   the program
+    command_line, __main__            the program
 """
 
 import sys

@@ -1,4 +1,4 @@
-"""`python3 -m broker`: brokers in front of their coordinators, until a signal ends them."""
+"""`python3 -m broker`: a broker, until a signal ends it."""
 
 from __future__ import annotations
 
@@ -12,14 +12,11 @@ import socket
 import sys
 from typing import Callable, Iterator, List, Tuple
 
-from broker import starter
 from broker.acceptor import Work, listen, port_of, refuse, until_one_ends
 from broker.cluster import Cluster, Node
-from broker.command_line import EMBEDDED, RULES, UNPROVED, Options, Place, Shared, parse
-from broker.embedded import Embedded
+from broker.command_line import Options, Shared, parse
 from broker.etcd import Etcd
 from broker.etcd_cluster import EtcdCluster, Replicated, replica_of
-from broker.link import Coordinator
 from broker.log import Log
 from broker.machine import SALT, version_of
 from broker.members import number_of
@@ -27,13 +24,15 @@ from broker.offsets import Offsets
 from broker.output import STANDARD_ERROR, Output, say, to_file
 from broker.record import Record
 from broker.relay import serve_node
+from broker.rules import Rules
 from broker.serving import serve_while_member
 from broker.settings import Settings, log_of, settings_of, wanted
 from broker.status import Status
+from broker.trouble import Ended
 from broker.watch import Watch
 
 HOST = "127.0.0.1"
-# Each client's connection takes two files, the second to the coordinator.
+# More than clients' connections take, and those to etcd.
 WANTED_FILES = 10_000
 Tell = Callable[[str], None]
 
@@ -44,7 +43,7 @@ def main(words: List[str]) -> int:
     raise_file_limit()
     try:
         return asyncio.run(until_signalled(options))
-    except (OSError, starter.Ended) as why:
+    except (OSError, Ended) as why:
         say(str(why))
         return 1
     finally:
@@ -71,7 +70,7 @@ async def until_signalled(options: Options) -> int:
     loop = asyncio.get_running_loop()
 
     def failed(why: OSError) -> None:
-        # (Where the disk is full, lines are left out until it isn't.)
+        # (If the disk is full, lines are left out until it isn't.)
         if isinstance(why, BrokenPipeError):
             loop.call_soon_threadsafe(working.cancel)
 
@@ -89,16 +88,15 @@ async def until_signalled(options: Options) -> int:
 
 
 async def run(options: Options, tell: Tell) -> None:
-    """All of it, until a part ends, which raises. Ports are taken first, and coordinators started then."""
+    """All of it, until a part ends, which raises."""
     async with contextlib.AsyncExitStack() as stack:
-        name = "--port" if options.port is not None else "--advertise"
-        listeners = [stack.enter_context(listen_as_said(name, *address)) for address in addresses(options)]
+        listener = stack.enter_context(listener_of(options))
         status = None if options.status is None else stack.enter_context(listen_as_said("--status", HOST, options.status))
         record = stack.enter_context(recorded(options))
         if options.shared is None:
-            cluster, watch, works = await over_coordinators(options, listeners, record, tell, stack)
+            cluster, watch, works = over_rules(options, listener, record, tell)
         else:
-            cluster, watch, works = await over_etcd(options, options.shared, listeners[0], record, tell, stack)
+            cluster, watch, works = await over_etcd(options, options.shared, listener, record, tell, stack)
         works.append(watch.run())
         if status is not None:
             works.append(Status(cluster, watch).run(status))
@@ -113,32 +111,24 @@ def listen_as_said(option: str, host: str, port: int) -> socket.socket:
     except OSError as why:
         # (Python itself tells of the address again, after the system's reason.)
         reason = os.strerror(why.errno) if why.errno and why.errno > 0 else why.strerror
-        raise starter.Ended(f"{option}: {host}:{port}: {reason}") from None
+        raise Ended(f"{option}: {host}:{port}: {reason}") from None
 
 
-def addresses(options: Options) -> List[Tuple[str, int]]:
-    """Where clients connect."""
-    if options.port is None:
-        assert options.shared is not None
-        return [options.shared.advertise]
-    return [(HOST, options.port and options.port + number) for number in range(len(options.places) or 1)]
+def listener_of(options: Options) -> socket.socket:
+    """Listens where clients connect."""
+    if options.port is not None:
+        return listen_as_said("--port", HOST, options.port)
+    assert options.shared is not None
+    return listen_as_said("--advertise", *options.shared.advertise)
 
 
-async def over_coordinators(
-    options: Options, listeners: List[socket.socket], record: Record, tell: Tell, stack: contextlib.AsyncExitStack
-) -> Tuple[Cluster, Watch, List[Work]]:
-    """Brokers in front of a coordinator each, and what has to run for them."""
-    beside: List[Callable[[], Work]] = []
-    nodes = []
-    for number, (place, listener) in enumerate(zip(options.places, listeners)):
-        coordinator = await coordinator_at(place, options, beside, stack)
-        await coordinator.look()
-        nodes.append(Node(number, HOST, port_of(listener), coordinator))
-    cluster, watch = Cluster(nodes, options.topics, Log(options.rate, options.records), Offsets(), record=record), Watch(options.topics, tell)
-    for node, listener in zip(nodes, listeners):
-        tell(listening(node, listener))
-    serving = [serve_node(cluster, node, watch, listener) for node, listener in zip(nodes, listeners)]
-    return cluster, watch, [*(node.coordinator.run() for node in nodes), *(each() for each in beside), *serving]
+def over_rules(options: Options, listener: socket.socket, record: Record, tell: Tell) -> Tuple[Cluster, Watch, List[Work]]:
+    """A broker with the rules in Python, and what has to run for it."""
+    coordinator = Rules(options.topics, options.session)
+    node = Node(0, HOST, port_of(listener), coordinator)
+    cluster, watch = Cluster([node], options.topics, Log(options.rate, options.records), Offsets(), record=record), Watch(options.topics, tell)
+    tell(listening(node, listener))
+    return cluster, watch, [coordinator.run(), serve_node(cluster, node, watch, listener)]
 
 
 async def over_etcd(
@@ -187,25 +177,6 @@ def recorded(options: Options) -> Iterator[Record]:
             yield record
         finally:
             record.end()
-
-
-async def coordinator_at(
-    place: Place, options: Options, beside: List[Callable[[], Work]], stack: contextlib.AsyncExitStack
-) -> Coordinator:
-    """The coordinator at a place. If it is started it is ended with the stack; what has to run along with it is added to that list."""
-    if place == EMBEDDED:
-        embedded = Embedded(options.library, options.topics)
-        stack.callback(embedded.inside.close)
-        return embedded
-    if isinstance(place, tuple):
-        return Coordinator(*place)
-    if place == RULES:
-        program = await starter.start_rules(options.topics)
-    else:
-        program = await starter.start(options.program, options.topics, place != UNPROVED)
-    stack.push_async_callback(program.end)
-    beside.append(program.ended)
-    return program.coordinator
 
 
 if __name__ == "__main__":

@@ -46,9 +46,9 @@ def port_of(listener: socket.socket) -> int:
 
 
 async def accept(
-    listener: socket.socket, most: int, prepare: Callable[[Accepted], Awaitable[Optional[Work]]]
+    listener: socket.socket, most: int, prepare: Callable[[Accepted], Work]
 ) -> None:
-    """Accepts connections for ever. Each is prepared before the next is accepted; what that gives serves it. Where `most` are served, the
+    """Accepts connections for ever. Each is prepared before the next is accepted; what that gives serves it. If `most` are served, the
     next one waits unaccepted. When this is cancelled, all of them are."""
     door, room = Door(listener), asyncio.Semaphore(most)
     serving: Set[asyncio.Task[None]] = set()
@@ -62,15 +62,11 @@ async def accept(
             if room.locked():
                 say(f"{most} connections to port {port_of(listener)} are open: further ones wait")
             await room.acquire()
-            work = await prepare(await door.accept())
-            if work is None:
-                room.release()
-                continue
-            task = asyncio.ensure_future(work)
+            task = asyncio.ensure_future(prepare(await door.accept()))
             serving.add(task)
             task.add_done_callback(ended)
     finally:
-        # At the first cancellation a connection closes behind what was written to it, at the second at once.
+        # At the first cancellation a connection closes after what was written to it, at the second at once.
         for _ in range(2):
             for task in serving:
                 task.cancel()
@@ -142,7 +138,7 @@ class Door:
 
 def _opening_seconds(client: socket.socket) -> Optional[float]:
     """For how long a new connection may have been open for its client before it was for this system: the time from this side's answer to the
-    client's. None where the answer was sent again, which begins after a second. (Other systems than Linux don't tell.)"""
+    client's. None if the answer was sent again, which begins after a second. (Other systems than Linux don't tell.)"""
     if not sys.platform.startswith("linux"):
         return 0.0
     info = client.getsockopt(socket.IPPROTO_TCP, socket.TCP_INFO, INFO_SIZE)

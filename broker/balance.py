@@ -18,7 +18,7 @@ def targets(brokers: Collection[int], leaders: Mapping[int, int], parts: int, st
     for part in range(parts):
         able = [broker for broker in sorted(held) if part not in stopped.get(broker, ())]
         if part not in wanted and able:
-            # (Where one that has stopped leaves parts to others, they get more than their share.)
+            # (If one that has stopped leaves parts to others, they get more than their share.)
             wanted[part] = max(able, key=lambda broker: room[broker])
             room[wanted[part]] -= 1
     return wanted

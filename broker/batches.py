@@ -63,6 +63,6 @@ def end(part: int) -> str:
 
 
 def part_and_place(a_key: str) -> Tuple[int, int]:
-    """Raises ValueError where it is no key of a log."""
+    """Raises ValueError if it is no key of a log."""
     part, place = a_key[len(LOGS) :].split("/")
     return int(part), int(place)

@@ -1,9 +1,4 @@
-"""What the clients see: a cluster of brokers. There are as many as coordinators, and each passes on to its own. (Over etcd they are processes of
-their own: etcd_cluster.)
-
-Which coordinator has a group is a function of the group's id alone, as in Kafka, where it names the partition of the internal topic
-that the group's state lies in. So each group lives in one coordinator whole.
-"""
+"""What the clients see: a cluster of brokers. There is one here; over etcd there are several, each a process of its own (etcd_cluster)."""
 
 from __future__ import annotations
 
@@ -27,7 +22,7 @@ MOST_HELD = 64 << 20
 
 @dataclasses.dataclass
 class Node:
-    """One broker: its address for clients, the coordinator behind it, and how many connections are open."""
+    """One broker: its address for clients, its coordinator, and how many connections are open."""
 
     id: int
     host: str
@@ -48,12 +43,12 @@ class Cluster:
     record: Record = dataclasses.field(default_factory=Record)
     newest: Newest = dataclasses.field(default_factory=Newest)
 
-    # Whether a log has all that the coordinators answer, so that the watch and the offsets are fed by that.
+    # Whether a log has all that the coordinator answers, so that the watch and the offsets are fed by that.
     has_log = False
 
     def coordinator_of(self, group: str) -> Optional[Node]:
-        """None where nobody coordinates it now."""
-        return self.nodes[group_number(group, len(self.nodes))]
+        """None if nobody coordinates it now."""
+        return self.nodes[0]
 
     def nodes_here(self) -> List[Node]:
         """Those of this process."""
@@ -75,7 +70,7 @@ class Cluster:
         return ((topic, sorted(stored.entries)) for topic, stored in sorted(self.offsets.of_group(group).items()))
 
     def leader_of(self, partition: int) -> Optional[Node]:
-        """The partitions' leaders go round the nodes. (Every node has the records of all.) None where it isn't known for now."""
+        """The partitions' leaders go round the nodes. (Every node has the records of all.) None if it isn't known for now."""
         return self.nodes[partition % len(self.nodes)]
 
 
@@ -89,6 +84,6 @@ def java_hash(text: str) -> int:
 
 
 def group_number(group: str, count: int) -> int:
-    """Where Kafka puts a group among `count` partitions. (The magnitude of the least number is no number of Java's, and counts as 0.)"""
+    """Where Kafka puts a group among `count` partitions of its internal topic. (The magnitude of the least number is no number of Java's, and counts as 0.)"""
     number = java_hash(group)
     return 0 if number == -(1 << 31) else abs(number) % count

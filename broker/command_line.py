@@ -8,21 +8,20 @@ import math
 import os
 import pathlib
 import re
-from typing import Callable, List, NoReturn, Optional, Sequence, Tuple, Union
+from typing import Callable, List, NoReturn, Optional, Sequence, Tuple
 
 from broker import snapshots
 from broker.topics import Topic, Topics, read
 
 TOP = pathlib.Path(__file__).resolve().parents[1]
-LAUNCHER, LIBRARY = TOP / "coord", TOP / "out/libmigwelun.so"
+LIBRARY = TOP / "out/libmigwelun.so"
 MOST_RECORDS_A_SECOND = 10_000
 # etcd gives no lease of less than 2 s, as it is set up by default.
 PARTS, LEASE_SECONDS = range(1, 1_001), range(2, 61)
 SNAPSHOT_BYTES = range(64 << 10, (1 << 29) + 1)
-START, UNPROVED, RULES, EMBEDDED = None, "unproved", "rules", "embedded"
+# The seconds of a session with the rules in Python: that of the protocol, and the shortest one.
+SESSION, SHORTEST_SESSION = 45.0, 0.1
 Address = Tuple[str, int]
-# A coordinator's host and port, or the name of one that is to be started or is in this process.
-Place = Union[None, str, Address]
 
 
 @dataclasses.dataclass(frozen=True)
@@ -42,12 +41,11 @@ class Shared:
 
 @dataclasses.dataclass(frozen=True)
 class Options:
-    """Port 0 is any that is free, and None that of the address which clients are told. With several coordinators, broker K has the port behind
-    that of broker K - 1. Over etcd there is one broker, and no place."""
+    """The broker is one of a cluster over etcd, or, if that is None, has the rules in Python, with sessions of so many seconds. Port 0 is any that is
+    free, and None that of the address which clients are told."""
 
-    places: Sequence[Place]
     shared: Optional[Shared]
-    program: str
+    session: float
     library: str
     port: Optional[int]
     status: Optional[int]
@@ -65,52 +63,30 @@ class Parser(argparse.ArgumentParser):
 def parse(words: List[str]) -> Options:
     parser = _parser()
     given = parser.parse_args(words)
-    places, shared = given.places or [], _shared(parser, given)
+    shared = _shared(parser, given)
     if given.port is None and shared is None:
         parser.error("the following arguments are required: --port")
-    if given.port and given.port + len(places) - 1 > 65_535:
-        parser.error(f"--port {given.port} leaves no ports for {len(places)} brokers")
     try:
         topics = Topics(given.topics)
     except ValueError as why:
         parser.error(str(why))
-    return Options(places, shared, given.program, given.library, given.port, given.status, given.rate, given.records, given.record, topics)
+    return Options(shared, given.session, given.library, given.port, given.status, given.rate, given.records, given.record, topics)
 
 
 def _parser() -> Parser:
     parser = Parser(
         prog=os.environ.get("PROGRAM_NAME", "python3 -m broker"),
-        description="Plays the rest of a Kafka broker around a coordinator, so that stock consumers can use it.",
+        description="A broker for stock consumers, in Python: over the rules of the protocol, or one of several over etcd. `coord broker` is the proved one.",
     )
+    parser.add_argument("--start-rules", action="store_true", help="has the rules of the protocol in Python: at once, without a toolchain, and not proved")
     parser.add_argument(
-        "--coordinator", dest="places", action="append", type=_place, metavar="HOST:PORT",
-        help="where `coord serve` listens, with the same topics; several make as many brokers",
-    )
-    parser.add_argument(
-        "--start", dest="places", action="append_const", const=START, help="starts `coord serve` itself; may be repeated as well"
-    )
-    parser.add_argument(
-        "--start-unproved", dest="places", action="append_const", const=UNPROVED, help="the same program, compiled in some minutes and not proved"
-    )
-    parser.add_argument(
-        "--start-rules", dest="places", action="append_const", const=RULES,
-        help="starts the rules of the protocol in Python: at once, without a toolchain, and not proved",
-    )
-    parser.add_argument(
-        "--embedded", dest="places", action="append_const", const=EMBEDDED, help="has a coordinator in this process; may be repeated as well"
+        "--session", type=_real_of(SHORTEST_SESSION, SESSION), default=SESSION, metavar="SECONDS", help="with --start-rules: how long a member may be silent (%(default)g)"
     )
     _add_those_of_etcd(parser)
-    parser.add_argument(
-        "--library", default=str(LIBRARY), metavar="PATH", help="the library that --embedded and --etcd load (that of this repository or package)"
-    )
-    parser.add_argument(
-        "--program", default=str(LAUNCHER), metavar="PATH", help="the program coord that --start starts (that of this repository or package)"
-    )
-    parser.add_argument(
-        "--port", type=_port, help="clients' port of 127.0.0.1, the first of as many as brokers; 0 is a free one each; with --etcd by default that of --advertise, there"
-    )
+    parser.add_argument("--library", default=str(LIBRARY), metavar="PATH", help="with --etcd: the library (that of this repository or package)")
+    parser.add_argument("--port", type=_port, help="clients' port of 127.0.0.1; 0 is a free one; with --etcd by default that of --advertise, there")
     parser.add_argument("--status", type=_port, metavar="PORT", help="port of 127.0.0.1 for the page /, /groups and /metrics")
-    parser.add_argument("--rate", type=_rate, default=2.0, metavar="R", help="records a second in each partition (%(default)g)")
+    parser.add_argument("--rate", type=_real_of(0, MOST_RECORDS_A_SECOND), default=2.0, metavar="R", help="records a second in each partition (%(default)g)")
     parser.add_argument("--records", type=_records, default=0, metavar="N", help="records in each partition from the start (%(default)d)")
     parser.add_argument("--record", metavar="FILE", help="writes all frames to this file, with their times; broker/README.md has its form")
     parser.add_argument("topics", nargs="+", type=_topic, metavar="TOPIC", help="a topic, NAME:COUNT or NAME:UUID:COUNT; without a UUID its id is made from the name")
@@ -121,7 +97,7 @@ def _add_those_of_etcd(parser: Parser) -> None:
     parser.add_argument(
         "--etcd", type=_addresses, metavar="HOST:PORT,..", help="where etcd listens: this is one of several brokers, each with a replica of all groups"
     )
-    parser.add_argument("--advertise", type=_place, metavar="HOST:PORT", help="with --etcd: where clients reach this broker")
+    parser.add_argument("--advertise", type=_address, metavar="HOST:PORT", help="with --etcd: where clients reach this broker")
     parser.add_argument("--parts", type=_number_of(PARTS), metavar="N", help="with --etcd: into how many parts all groups are divided, each led by one broker")
     parser.add_argument(
         "--lease", type=_number_of(LEASE_SECONDS), default=3, metavar="SECONDS", help="with --etcd: seconds after which a broker that is gone leads nothing (%(default)d)"
@@ -135,19 +111,19 @@ def _add_those_of_etcd(parser: Parser) -> None:
 
 
 def _shared(parser: Parser, given: argparse.Namespace) -> Optional[Shared]:
-    """The options of a cluster over etcd, or None where there is a coordinator for each broker."""
-    if given.places:
+    """The options of a cluster over etcd, or None for a broker by itself."""
+    if given.start_rules:
         if given.etcd or given.advertise or given.parts:
-            parser.error("--etcd, --advertise and --parts go with none of --coordinator, --start, --start-unproved, --start-rules and --embedded")
+            parser.error("--etcd, --advertise and --parts don't go with --start-rules")
         return None
     if not given.etcd:
-        parser.error("wants --start-rules, --start-unproved, --start, --coordinator HOST:PORT, --embedded or --etcd HOST:PORT")
+        parser.error("wants --start-rules or --etcd HOST:PORT; `coord broker` is the broker that is proved")
     if not given.advertise or not given.parts:
         parser.error("--etcd wants --advertise HOST:PORT and --parts N")
     return Shared(given.etcd, given.advertise, given.parts, given.lease, given.snapshot_bytes, given.upgrade, given.keep_history)
 
 
-def _place(word: str) -> Address:
+def _address(word: str) -> Address:
     host, colon, port = word.rpartition(":")
     if not host or "/" in host or not colon or not re.fullmatch(r"\d{1,5}", port) or not 0 < int(port) < 65_536:
         raise argparse.ArgumentTypeError(f"{word!r} is no HOST:PORT")
@@ -156,7 +132,7 @@ def _place(word: str) -> Address:
 
 def _addresses(word: str) -> List[Address]:
     """Where etcd listens, also as the addresses that etcd itself prints."""
-    return [_place(re.sub("^http://(.*?)/?$", r"\1", each)) for each in word.split(",")]
+    return [_address(re.sub("^http://(.*?)/?$", r"\1", each)) for each in word.split(",")]
 
 
 def _number_of(numbers: range) -> Callable[[str], int]:
@@ -174,14 +150,17 @@ def _port(word: str) -> int:
     return int(word)
 
 
-def _rate(word: str) -> float:
-    try:
-        rate = float(word)
-    except ValueError:
-        rate = math.nan
-    if not 0 <= rate <= MOST_RECORDS_A_SECOND:
-        raise argparse.ArgumentTypeError(f"{word!r} is no number from 0 to {MOST_RECORDS_A_SECOND}")
-    return rate
+def _real_of(least: float, most: float) -> Callable[[str], float]:
+    def real(word: str) -> float:
+        try:
+            found = float(word)
+        except ValueError:
+            found = math.nan
+        if not least <= found <= most:
+            raise argparse.ArgumentTypeError(f"{word!r} is no number from {least:g} to {most:g}")
+        return found
+
+    return real
 
 
 def _records(word: str) -> int:

@@ -11,11 +11,11 @@ from typing import Any, Callable, Dict, Iterable, List, Optional, Set, Tuple
 
 from broker.acceptor import Work
 from broker.cluster import Cluster, Node, group_number
-from broker.embedded import module
 from broker.etcd import Etcd, Refused, Unanswered
 from broker.feed import Feed
 from broker.lease import Lease
-from broker.link import Connection, Coordinator, Link
+from broker.library import module
+from broker.link import Coordinator, Link
 from broker.log import Log
 from broker.measures import Measures
 from broker.members import Members
@@ -24,8 +24,8 @@ from broker.offsets import Committed, Offsets
 from broker.part import Part
 from broker.record import Record
 from broker.settings import Settings
-from broker.starter import Ended
 from broker.topics import Topics
+from broker.trouble import Ended
 from broker.watch import Watch
 
 
@@ -36,7 +36,7 @@ MOVE_SECONDS = 2.0
 
 
 class EtcdCluster(Cluster):
-    """`nodes` are those of the brokers that are there. Only this one has a coordinator behind it."""
+    """`nodes` are those of the brokers that are there. Only this one has a coordinator."""
 
     has_log = True
 
@@ -97,7 +97,7 @@ class EtcdCluster(Cluster):
         return sorted((topic.name, range(topic.count)) for topic in self.topics)
 
     def have_changed(self) -> None:
-        """Takes over who is there. (Where nobody is known to be, clients hear of this one alone.)"""
+        """Takes over who is there. (If nobody is known to be, clients hear of this one alone.)"""
         assert self.members is not None
         others = {number: each for number, each in self.members.brokers.items() if number != self.own.id}
         nodes = [Node(number, each.host, each.port, self.own.coordinator) for number, each in others.items()]
@@ -109,11 +109,9 @@ class EtcdCluster(Cluster):
 
 
 class Replicated(Coordinator):
-    """The parts of this process, as a coordinator: connections to it are numbered in the order in which they are opened, which is that of
-    the clients'."""
+    """The parts of this process, as a coordinator."""
 
     def __init__(self, etcd: Etcd, lease_seconds: int, snapshot_bytes: int) -> None:
-        super().__init__("etcd", 0)
         self._snapshot_bytes = snapshot_bytes
         self.etcd, self.lease, self.measures = etcd, Lease(etcd, lease_seconds), Measures()
         self.parts: List[Part] = []
@@ -124,7 +122,7 @@ class Replicated(Coordinator):
         return str(self.etcd)
 
     def make_parts(self, settings: Settings, library: str, cluster: EtcdCluster, watch: Watch) -> Members:
-        """Raises Ended where the library isn't there."""
+        """Raises Ended if the library isn't there."""
         tell: Callable[[str], None] = watch.tell
         for number in range(settings.parts):
             replica = replica_of(library, (settings.salt + number) % SALTS)
@@ -135,20 +133,13 @@ class Replicated(Coordinator):
         cluster.members = self.members = Members(self.lease, settings, cluster.own, self.parts, self.measures, cluster.have_changed)
         return self.members
 
-    async def connect(self, since: float) -> Optional[Connection]:
+    def connect(self, since: float) -> Link:
         self._opened += 1
-        return functools.partial(self._linked, self._opened, since)
-
-    async def _linked(self, number: int, since: float) -> Link:
-        return PartsLink(self, number, since)
+        return PartsLink(self, self._opened, since)
 
     @property
-    def is_there(self) -> bool:
+    def is_there(self) -> bool:  # type: ignore[override]
         return self.lease.is_held() and self.etcd.unanswered.why is None
-
-    @is_there.setter
-    def is_there(self, _: bool) -> None:
-        pass
 
     def troubles(self) -> List[str]:
         """What is wrong now, in words."""
@@ -170,12 +161,12 @@ class Replicated(Coordinator):
 
 
 class PartsLink(Link):
-    """One client's connection, to whichever parts its groups are of. Nothing ever arrives on it unasked, but its end."""
+    """One client's connection, to whichever parts its groups are of."""
 
     def __init__(self, coordinator: Replicated, number: int, since: float) -> None:
+        super().__init__()
         self._parts, self._number, self._since, self._frames = coordinator.parts, number, since, 0
         self._asked: Set[Part] = set()
-        self.arriving = asyncio.get_running_loop().create_future()
 
     async def ask(self, body: bytes, group: str) -> bytes:
         self._frames += 1
@@ -190,19 +181,14 @@ class PartsLink(Link):
         self._asked.add(part)
         return part
 
-    def end(self) -> None:
-        """The client's connection is closed."""
-        if not self.arriving.done():
-            self.arriving.set_result(None)
-
     def close(self) -> None:
         for part in self._asked:
             part.links.discard(self)
-        self.arriving.cancel()
+        super().close()
 
 
 def replica_of(library: str, salt: int) -> Any:
-    """A replica at the beginning of a log. Raises Ended where the library isn't there."""
+    """A replica at the beginning of a log. Raises Ended if the library isn't there."""
     try:
         return module().Replica(library, salt)
     except OSError as why:

@@ -18,7 +18,7 @@ from broker.turns import Pace, Turns
 from broker.versions import CONSUMER_GROUP_HEARTBEAT, OFFSET_COMMIT
 from broker.watch import Watch
 
-# Where a frame's body begins in its entry: behind version, kind, leadership, connection, number and moment.
+# Where a frame's body begins in its entry: after version, kind, leadership, connection, number and moment.
 BODY = 2 + 2 + 4 + 4 + 8 + 8
 # What came of a snapshot.
 RESTORED = object()

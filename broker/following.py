@@ -102,7 +102,7 @@ class Follower:
                 await asyncio.to_thread(self.replica.restore, whole)
                 break
             except ValueError as why:
-                # (Where the leader has written another one meanwhile, that is read.)
+                # (If the leader has written another one meanwhile, that is read.)
                 if last and last.value == value:
                     raise Stopped(f"the snapshot is refused: {why}") from None
                 value = last and last.value

@@ -29,7 +29,7 @@ class BadFrame(Exception):
 async def read_body(
     stream: asyncio.StreamReader, sizes: range = REQUEST_SIZES, held: Callable[[int], ContextManager[None]] = lambda _: contextlib.nullcontext()
 ) -> Optional[bytes]:
-    """The body of the next frame, or None where the stream ends before it. Raises BadFrame, and ConnectionError. Room is
+    """The body of the next frame, or None if the stream ends before it. Raises BadFrame, and ConnectionError. Room is
     held while it is read."""
     try:
         first = await stream.readexactly(SIZE)

@@ -12,7 +12,7 @@ from broker.turns import Pace
 
 # The member epochs that aren't counted: it joins, leaves, or is a static member that goes away for a while.
 JOIN, LEAVE, AWAY = 0, -1, -2
-# How a body of version 0 ends that says nothing new: null or -1 in each field behind the epoch, and no tags; and a reply to it, behind the
+# How a body of version 0 ends that says nothing new: null or -1 in each field after the epoch, and no tags; and a reply to it, after the
 # epoch and the interval.
 NOTHING_NEW, NOTHING_TOLD = bytes.fromhex("0000ffffffff00000000"), bytes.fromhex("ff00")
 # Partitions by their topics' ids and their indexes.
@@ -58,7 +58,7 @@ def steady(body: bytes, reply: bytes) -> Optional[Steady]:
     if not body.endswith(NOTHING_NEW) or not reply.endswith(NOTHING_TOLD) or reply[9:11] != b"\0\0":
         return None
     try:
-        # Behind the correlation id: the client's name, no tags, the group, the member and the epoch.
+        # After the correlation id: the client's name, no tags, the group, the member and the epoch.
         tags = 10 + max(0, int.from_bytes(body[8:10], "big", signed=True))
         group, its_size = tags + 2, body[tags + 1]
         member, member_size = group + its_size, body[group + its_size - 1]

@@ -45,7 +45,7 @@ Reply = Optional["asyncio.Future[Optional[bytes]]"]
 
 
 class Waiting(NamedTuple):
-    """A frame that waits to be put into the log; who waits for its reply, or for None where its connection is to be closed; and since when."""
+    """A frame that waits to be put into the log; who waits for its reply, or for None if its connection is to be closed; and since when."""
 
     body: bytes
     connection: int
@@ -249,7 +249,7 @@ class Leadership:
         self._measures.appended(len(entries), len(value), time.monotonic() - began)
 
     async def _until_answered(self, ask: Callable[[], Awaitable[Result]]) -> Result:
-        """What etcd answers, which is asked again until it does. Whoever has waited for long meanwhile gives up. Raises Deposed where the
+        """What etcd answers, which is asked again until it does. Whoever has waited for long meanwhile gives up. Raises Deposed if the
         leadership is over first."""
         while True:
             try:
@@ -263,7 +263,7 @@ class Leadership:
                 await self._unless_over(asyncio.sleep(AGAIN_SECONDS))
 
     async def _unless_over(self, work: Awaitable[Result]) -> Result:
-        """What the work gives. Raises Deposed where the leadership is over first."""
+        """What the work gives. Raises Deposed if the leadership is over first."""
         task = asyncio.ensure_future(work)
         try:
             await asyncio.wait({task, self._over}, return_when=asyncio.FIRST_COMPLETED)

@@ -16,9 +16,8 @@ from broker.measures import Measures
 from broker.part import LEADERS, Leader, Part
 from broker.settings import BROKERS, KEY, Settings, decoded
 from broker.snapshots import LAST
-from broker.starter import Ended
 from broker.streams import first_done, within
-from broker.trouble import Trouble
+from broker.trouble import Ended, Trouble
 
 # What is watched: CLUSTER, and behind it the logs.
 ALL, ALL_END = "migwelun/cluster/", "migwelun/log0"
@@ -133,7 +132,7 @@ class Members:
     # ---- what etcd has
 
     async def watch(self) -> None:
-        """Learns of all that changes, for ever. Raises Ended where the cluster is another one suddenly."""
+        """Learns of all that changes, for ever. Raises Ended if the cluster is another one suddenly."""
         while True:
             try:
                 await self._watch()
@@ -236,7 +235,7 @@ class Members:
         wanted = balance.targets(self.brokers, leaders, len(self._parts), stopped)
         is_member, calm = self.is_member(), time.monotonic() - self._moved
         for part in self._parts:
-            # (Where who is to lead it doesn't for long, whoever can does.)
+            # (If who is to lead it doesn't for long, whoever can does.)
             is_late = calm > 2 * self._lease.seconds
             part.want(is_member and not part.fault and part.leader is None and (is_late or wanted.get(part.number) == self.number))
         surplus = [part for part in self._parts if part.serves and wanted.get(part.number) != self.number]

@@ -13,7 +13,7 @@ MOST_BYTES = 1 << 20
 PIECE_BYTES = 1 << 16
 END_SECONDS = 2.0
 AGAIN_SECONDS = 1.0
-# A text, and data that stands behind it in hexadecimal.
+# A text, and data that stands after it in hexadecimal.
 Line = Tuple[str, bytes]
 Write = Callable[[bytes], None]
 
@@ -57,7 +57,7 @@ class Output:
     def line(self, text: str, data: bytes = b"") -> None:
         """Takes a line, or leaves it out. Never waits."""
         with self._changed:
-            # (What comes behind lines that were left out is left out, too, until these are told of.)
+            # (What comes after lines that were left out is left out, too, until these are told of.)
             if self._left_out or self._bytes + _size(text, data) > self._most_bytes:
                 self._left_out += 1
                 return

@@ -89,7 +89,7 @@ class Part:
     def arrived(self, place: int, value: bytes) -> None:
         """The log has this batch at a place."""
         self.follower.head = max(self.follower.head, place)
-        # (Where this broker leads, what isn't its own comes behind its leadership, and is read then.)
+        # (If this broker leads, what isn't its own comes after its leadership, and is read then.)
         if self._leadership is None:
             self.follower.arrived(place, value)
             self._wake.set()

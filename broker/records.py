@@ -36,7 +36,7 @@ def record_batch(base_offset: int, records: Sequence[Record], leader_epoch: int 
     body = b"".join(_record(record, record.timestamp - first, delta) for delta, record in enumerate(records))
     latest = max(record.timestamp for record in records)
     checked = struct.pack(">hiqqqhii", 0, last, first, latest, *NO_PRODUCER, len(records)) + body
-    # The length counts what stands behind it: leader epoch (4), magic (1), checksum (4) and what is checked.
+    # The length counts what stands after it: leader epoch (4), magic (1), checksum (4) and what is checked.
     return struct.pack(">qiibI", base_offset, 9 + len(checked), leader_epoch, MAGIC, crc32c(checked)) + checked
 
 

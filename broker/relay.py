@@ -1,7 +1,7 @@
 """One client's connection: its requests one after the other, each answered before the next is read.
 
-So replies have the order of the requests over all APIs. Beside it there is one connection to the node's coordinator. Where either side
-closes, the other is closed too, behind the replies before it.
+So replies have the order of the requests over all APIs. If the node's coordinator closes its side, the client's connection is closed too, after
+the replies before that.
 """
 
 from __future__ import annotations
@@ -17,7 +17,7 @@ from broker.call import Call
 from broker.cluster import Cluster, Node
 from broker.fields import Unreadable
 from broker.frames import BadFrame, Reply, framed_in_blocks, read_body, read_request
-from broker.link import Connection, CoordinatorClosed, Link
+from broker.link import CoordinatorClosed, Link
 from broker.output import say
 from broker.room import CutOff
 from broker.streams import close, first_done, taken
@@ -33,26 +33,18 @@ UNREAD_SECONDS = 60
 async def serve_node(cluster: Cluster, node: Node, watch: Watch, listener: socket.socket) -> None:
     """Serves a node's clients for ever.
 
-    The coordinator orders a member's heartbeats by their connections, in the order in which it accepted these. So the connections to it are
-    opened in the order in which the clients' were accepted, one after the other.
+    The coordinator orders a member's heartbeats by their connections, in the order in which these were accepted.
     """
 
-    async def prepare(it: Accepted) -> Optional[Work]:
-        client, address = it.socket, it.address
-        number = cluster.record.opened(f"{address[0]}:{address[1]}", f"{node.host}:{node.port}")
-        coordinator = await node.coordinator.connect(it.since)
-        if coordinator is None:
-            client.close()
-            cluster.record.closed(number)
-            return None
-        return relay(Relay(cluster, node, watch, number), client, coordinator, address)
+    def prepare(it: Accepted) -> Work:
+        number = cluster.record.opened(f"{it.address[0]}:{it.address[1]}", f"{node.host}:{node.port}")
+        return relay(Relay(cluster, node, watch, number), it.socket, node.coordinator.connect(it.since), it.address)
 
     await accept(listener, MOST_CONNECTIONS, prepare)
 
 
-async def relay(it: Relay, client: socket.socket, coordinator: Connection, address: Address) -> None:
+async def relay(it: Relay, client: socket.socket, link: Link, address: Address) -> None:
     """Serves a client until either side closes. Says why, unless it was the client."""
-    link = await coordinator()
     reader, writer = await asyncio.open_connection(sock=client)
     # What is written counts as taken once all of it is.
     writer.transport.set_write_buffer_limits(high=0)
@@ -81,7 +73,7 @@ class Relay:
         self.cluster, self.node, self.watch, self.number = cluster, node, watch, number
 
     async def serve(self, reader: asyncio.StreamReader, writer: asyncio.StreamWriter, link: Link) -> None:
-        """Answers requests until the client closes. Raises where anything else ends the connection."""
+        """Answers requests until the client closes. Raises if anything else ends the connection."""
         while True:
             reply = await self._reply(reader, writer, link)
             if reply is None:
@@ -90,7 +82,7 @@ class Relay:
             del reply
 
     async def _reply(self, reader: asyncio.StreamReader, writer: asyncio.StreamWriter, link: Link) -> Optional[Reply]:
-        """The reply to the next request, for which there is room until then; or None where the client has closed."""
+        """The reply to the next request, for which there is room until then; or None if the client has closed."""
         body = await self._next(reader, writer, link)
         if body is None:
             return None
@@ -99,17 +91,15 @@ class Relay:
             return await self._answer(body, link)
 
     async def _next(self, reader: asyncio.StreamReader, writer: asyncio.StreamWriter, link: Link) -> Optional[bytes]:
-        """The next request's body, or None where the client has closed. Raises Closed where the coordinator has."""
+        """The next request's body, or None if the client has closed. Raises Closed if the coordinator has."""
         reading = asyncio.ensure_future(read_body(reader, held=lambda size: self.cluster.room.held(writer, size)))
         try:
-            await first_done([reading, link.arriving], IDLE_SECONDS)
+            await first_done([reading, link.ended], IDLE_SECONDS)
             if reading.done():
                 return reading.result()
         finally:
             reading.cancel()
-        if not link.arriving.done():
-            raise Closed(f"it said nothing for {IDLE_SECONDS} s")
-        raise Closed("the coordinator closed its side" if link.arriving.result() is None else "the coordinator wasn't asked")
+        raise Closed("the coordinator closed its side" if link.ended.done() else f"it said nothing for {IDLE_SECONDS} s")
 
     async def _answer(self, body: bytes, link: Link) -> Reply:
         request = read_request(body, Pace(self.cluster.turns))

@@ -12,8 +12,8 @@ from typing import List, Tuple
 from broker.batches import MOST_BYTES
 from broker.etcd import Etcd, Message, NoRoom, Refused, Txn, Unanswered, created_at, get, modified_at, nothing_in, put
 from broker.log import Log
-from broker.starter import Ended
 from broker.topics import Topics
+from broker.trouble import Ended
 from broker.words import names_in_words
 
 KEY = "migwelun/cluster/settings"
@@ -53,7 +53,7 @@ class Settings:
 
 
 def decoded(value: bytes) -> Settings:
-    """Raises Ended where they aren't settings of this version."""
+    """Raises Ended if they aren't settings of this version."""
     try:
         fields = json.loads(value)
         return Settings(**{**fields, "topics": tuple(fields["topics"])})
@@ -68,7 +68,7 @@ def log_of(settings: Settings) -> Log:
 
 
 def wanted(parts: int, topics: Topics, rate: float, records: int, machine: str) -> Settings:
-    """Those of a cluster that begins now. Raises Ended where they are too long."""
+    """Those of a cluster that begins now. Raises Ended if they are too long."""
     words = tuple(sorted(topic.word() for topic in topics))
     own = Settings(parts, words, rate, records, secrets.randbits(64), int(time.time() * 1000), machine)
     if len(own.encoded()) > MOST_BYTES:
@@ -77,7 +77,7 @@ def wanted(parts: int, topics: Topics, rate: float, records: int, machine: str) 
 
 
 async def settings_of(etcd: Etcd, own: Settings, upgrades: bool = False) -> Settings:
-    """The cluster's settings, which are these where there are none. Waits until etcd is there. Raises Ended where they differ otherwise than by what
+    """The cluster's settings, which are these where there are none. Waits until etcd is there. Raises Ended if they differ otherwise than by what
     belongs to each cluster alone; or, at an upgrade, than by the version of the state machine, too, and no broker is there."""
     found = await _until_answered(etcd, [created_at(KEY, 0)], own)
     if found.succeeded:

@@ -23,7 +23,7 @@ REQUEST_SECONDS = 10
 UNREAD_SECONDS = 30
 # An event is sent at a change, and else once in EVENT_SECONDS, since times and ends of logs go on.
 LOOK_SECONDS, EVENT_SECONDS = 0.2, 1.0
-# How much longer than it takes to make an event is the pause behind it.
+# How much longer than it takes to make an event is the pause after it.
 PAUSES = 4
 TEXT, JSON = "text/plain; charset=utf-8", "application/json"
 METRICS = "text/plain; version=0.0.4; charset=utf-8"
@@ -48,7 +48,7 @@ class Status:
     async def run(self, listener: socket.socket) -> None:
         """Serves for ever."""
 
-        async def prepare(it: Accepted) -> Work:
+        def prepare(it: Accepted) -> Work:
             return self._serve(it.socket)
 
         # (The oldest ones may be at their end.)

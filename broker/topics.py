@@ -51,7 +51,7 @@ def id_of(name: str) -> uuid.UUID:
 
 
 class Topics:
-    """All topics, found by name or by id. Raises ValueError where they can't be a cluster's."""
+    """All topics, found by name or by id. Raises ValueError if they can't be a cluster's."""
 
     def __init__(self, topics: Sequence[Topic]) -> None:
         self.by_name: Dict[str, Topic] = {topic.name: topic for topic in topics}
@@ -60,6 +60,10 @@ class Topics:
             raise ValueError("two topics have the same name or the same id")
         if len(topics) > MOST_TOPICS or sum(topic.count for topic in topics) > MOST_PARTITIONS:
             raise ValueError(f"there are more than {MOST_TOPICS} topics or {MOST_PARTITIONS} partitions")
+
+    def put(self, topic: Topic) -> None:
+        """Takes a topic in place of the one of its name."""
+        self.by_name[topic.name] = self.by_id[topic.id] = topic
 
     def __iter__(self) -> Iterator[Topic]:
         return iter(self.by_name.values())

@@ -1,10 +1,14 @@
-"""Things that go wrong for a time, each said once when it begins and once when it ends."""
+"""What goes wrong: for good, or for a time, which is said once when it begins and once when it ends."""
 
 from __future__ import annotations
 
 from typing import Optional
 
 from broker.output import say
+
+
+class Ended(Exception):
+    """This broker can't start, or can't go on, and why."""
 
 
 class Trouble:

@@ -194,18 +194,24 @@ def read_topic(reader: Reader, version: int) -> tuple[Optional[str], bytes, int]
 
 
 def first_version(body: bytes, key: int, version: int) -> bytes:
-    """A request as the program reads it. Version 1 of heartbeats has a regular expression after the names, which has to be null."""
+    """A request as the program reads it. A heartbeat has no regular expression."""
     if key == COMMIT:
         return body[:2] + b"\0\x09" + body[4:]
     if version == 0:
         return body
+    first, expression = without_expression(body)
+    if expression:
+        raise Unreadable
+    return first
+
+
+def without_expression(body: bytes) -> tuple[bytes, Optional[str]]:
+    """A heartbeat of version 1 as version 0, and the regular expression that it has after the names."""
     reader = Reader(body)
     reader.take(8), reader.old_text(), reader.tags()
     reader.text(), reader.text(), reader.int(4), reader.text(True), reader.text(True), reader.int(4), reader.array(reader.text, True)
-    place = reader.at
-    if reader.text(True):
-        raise Unreadable
-    return body[:2] + b"\0\0" + body[4:place] + body[reader.at :]
+    place, expression = reader.at, reader.text(True)
+    return body[:2] + b"\0\0" + body[4:place] + body[reader.at :], expression
 
 
 class Flow:

@@ -1,6 +1,6 @@
 """The APIs. Each module has a function `answer`, which makes the reply to one request, in pieces.
 
-What stands behind a request's last field isn't looked at, as in Kafka's broker: librdkafka leaves three bytes there where it asks for the
+What stands after a request's last field isn't looked at, as in Kafka's broker: librdkafka leaves three bytes there where it asks for the
 metadata of all topics. The coordinator does look at the two APIs that are its own.
 """
 

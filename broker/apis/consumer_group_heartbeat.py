@@ -1,7 +1,7 @@
 """ConsumerGroupHeartbeat (key 68, versions 0 and 1): a member says that it lives and what it has, and is told what to have.
 
 The coordinator answers these. It speaks version 0, which goes on byte for byte. Version 1 differs in one field, a regular expression over
-topic names behind the names, so without one it goes on as version 0. The reply is the same in both.
+topic names after the names, so without one it goes on as version 0. The reply is the same in both.
 """
 
 from __future__ import annotations

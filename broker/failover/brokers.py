@@ -94,7 +94,7 @@ class Brokers(Programs):
     async def begin(self) -> None:
         for each in [*sum(self.wires, []), *self.gates]:
             await each.listen()
-        self.relay(self.ports.numbers[-1], [f"client:{door[1]}:{gate.port}" for door, gate in zip(self.doors, self.gates)])
+        self.relay(self.ports.numbers[-1], [f"{door[1]}:{gate.port}" for door, gate in zip(self.doors, self.gates)])
         await asyncio.gather(*map(self.start_one, range(BROKERS)))
 
     async def start_one(self, slot: int) -> None:
@@ -183,7 +183,7 @@ class Brokers(Programs):
         """The parts that can't be made again of what is in etcd: the last snapshot isn't whole, or the log doesn't go on after it."""
         found, last, pieces = [], self.snapshots(), self.etcds.pairs(PIECES)
         first = {part: self.etcds.first(batches.key(part, it.place + 1), batches.end(part)) for part, it in last.items()}
-        # (Where another one was named meanwhile, this one may be gone.)
+        # (If another one was named meanwhile, this one may be gone.)
         for part, it in self.snapshots().items():
             keys = [piece_key(part, it.place, number) for number in range(it.pieces)]
             whole = b"".join(pieces.get(key, b"") for key in keys)

@@ -45,7 +45,7 @@ def opened(port: int, path: str, seconds: float, body: Dict[str, Any]) -> Any:
 
 
 def call(port: int, path: str, seconds: float = ANSWER_SECONDS, **body: Any) -> Dict[str, Any]:
-    """What an etcd answers. Raises OSError where it doesn't, or refuses."""
+    """What an etcd answers. Raises OSError if it doesn't, or refuses."""
     try:
         with opened(port, path, seconds, body) as answer:
             found: Dict[str, Any] = json.load(answer)

@@ -187,7 +187,7 @@ async def held_back(it: Brokers, frames: List[bytes], by: str) -> Held:
             held.dropped.append(packets.but_the_first(port))
             packets.drop(held.dropped[-1])
         channel = await Channel.open((HOST, it.fronts[slot]), SHORT_SECONDS, port)
-        # (Where the system can't do it, they may come only as much later as they were held back.)
+        # (If the system can't do it, they may come only as much later as they were held back.)
         with contextlib.suppress(OSError):
             channel.writer.get_extra_info("socket").setsockopt(socket.IPPROTO_TCP, TCP_RTO_MAX_MS, 1_000)
         held.channels.append(channel)

@@ -11,7 +11,7 @@ import time
 from typing import Any, Counter, Deque, Dict, List, Optional, Set, Tuple
 
 from broker.batches import LOGS, decode, part_and_place
-from broker.embedded import module
+from broker.library import module
 from broker.failover.etcds import Etcds, call, opened, text
 from broker.failover.member import NOT_HERE
 from broker.settings import KEY

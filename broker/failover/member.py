@@ -89,7 +89,7 @@ class Member:
             await self.commit(self.channel)
 
     def takes(self, codes: List[int]) -> None:
-        """Takes note of an answer. Raises Gone where it came from a broker that doesn't coordinate the group."""
+        """Takes note of an answer. Raises Gone if it came from a broker that doesn't coordinate the group."""
         self.codes.update(codes)
         if {*codes} & {*NOT_HERE}:
             raise Gone

@@ -101,7 +101,7 @@ class Run(Crowd):
     async def until(self, holds: Callable[[], Union[bool, Awaitable[bool]]], what: str) -> None:
         began, waits_of = time.monotonic(), self.waits()
         while True:
-            # (Where one of ours has ended by a fault of its own, that is raised.)
+            # (If one of ours has ended by a fault of its own, that is raised.)
             for it in (it for it in self.played.values() if it.running.done()):
                 it.running.result()
             found = holds()
@@ -185,7 +185,7 @@ class Run(Crowd):
         took = max((it.moment - began for it in self.changes(began)), default=0.0)
         gaps = {it: self.gap(it, began) for it in GROUPS}
         slack = waits_of()
-        # (Where programs have to wait for the machine, it may take so much longer.)
+        # (If programs have to wait for the machine, it may take so much longer.)
         most = self.brokers.lease + fault.most + slack + self.slack
         for it, gap in gaps.items():
             self.want(fault.least <= gap <= most, f"{it} had no answer for {gap:.1f} s, where {fault.least:g} to {most:.1f} may be")

@@ -1,4 +1,4 @@
-"""How fast a broker over etcd is, compared with one that has a coordinator of its own."""
+"""How fast a broker over etcd is."""
 
 import pathlib
 import sys
@@ -26,14 +26,14 @@ def of_load(port: int, consumers: int, words: List[str]) -> str:
     return f"{rate:.0f}, {half / 1000:.1f}, {most / 1000:.1f}"
 
 
-def of_broker(folder: pathlib.Path, library: str, words: List[str], leads: int) -> Told:
-    """What a broker answers, once it leads so many parts."""
+def of_broker(folder: pathlib.Path, library: str, words: List[str]) -> Told:
+    """What a broker answers, once it leads all parts."""
     broker = Programs(folder)
     with Ports(1) as ports:
         words = [*words, "--library", library, "--port", str(ports[0]), TOPIC.word()]
         broker.start("broker", "listening", [sys.executable, "-B", "-m", "broker", *words])
         until = time.monotonic() + LEAD_SECONDS
-        while (folder / "broker.txt").read_text(encoding="utf-8").count("is led from here") < leads:
+        while (folder / "broker.txt").read_text(encoding="utf-8").count("is led from here") < PARTS:
             if time.monotonic() > until:
                 raise Failed(f"a broker alone doesn't lead all parts after {LEAD_SECONDS} s")
             time.sleep(0.1)
@@ -51,15 +51,14 @@ def over_etcd(folder: pathlib.Path, library: str, count: int) -> Told:
         took[-1] += time.monotonic()
     where = ",".join(f"{HOST}:{port}" for port in etcds.clients)
     found = {"one append": ", ".join(f"{1000 * sorted(took)[APPENDS * of // 100]:.1f}" for of in (50, 99))}
-    found.update(of_broker(folder, library, ["--etcd", where, "--advertise", f"{HOST}:1", "--parts", str(PARTS)], PARTS))
+    found.update(of_broker(folder, library, ["--etcd", where, "--advertise", f"{HOST}:1", "--parts", str(PARTS)]))
     etcds.end()
     return found
 
 
 def measure(folder: pathlib.Path, library: str) -> int:
-    found: Dict[str, Told] = {"--embedded": of_broker(folder, library, ["--embedded"], 0)}
-    found.update({f"--etcd, {count}": over_etcd(folder / str(count), library, count) for count in (1, 3)})
+    found: Dict[str, Told] = {f"{count} etcd": over_etcd(folder / str(count), library, count) for count in (1, 3)}
     print("Answers a second, and the milliseconds within which 50 and 99 of 100 came")
-    for name in ("", *found["--etcd, 1"]):
+    for name in ("", *found["1 etcd"]):
         print(f"{name:20}" + "".join(f"{told.get(name, '') if name else head:>22}" for head, told in found.items()))
     return 0

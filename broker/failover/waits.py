@@ -10,7 +10,7 @@ STEP_SECONDS, USUAL_SECONDS = 0.05, 0.01
 
 
 def of_processors(numbers: Iterable[int]) -> Dict[int, float]:
-    """For how many seconds each of these processes has waited for a processor: its thread that has most. (Where the system doesn't tell: 0.)"""
+    """For how many seconds each of these processes has waited for a processor: its thread that has most. (If the system doesn't tell: 0.)"""
     found = {}
     for number in numbers:
         found[number] = 0.0

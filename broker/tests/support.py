@@ -13,7 +13,7 @@ from unittest import mock
 from broker.acceptor import listen
 from broker.cluster import Cluster, Node
 from broker.frames import framed
-from broker.link import Coordinator
+from broker.link import Coordinator, CoordinatorClosed, Link
 from broker.log import Log
 from broker.offsets import Committed, Offsets
 from broker.output import STANDARD_ERROR
@@ -44,9 +44,9 @@ async def until(holds: Callable[[], Any]) -> None:
     await asyncio.wait_for(wait(), SECONDS)
 
 
-def small_cluster(coordinators: int = 1, rate: float = 1.0, clock: Callable[[], float] = lambda: 0.0, partitions: int = 2) -> Cluster:
+def small_cluster(nodes_there: int = 1, rate: float = 1.0, clock: Callable[[], float] = lambda: 0.0, partitions: int = 2) -> Cluster:
     """Nodes at ports from 9093 on, the topic `orders`, and offset 7 of orders[1] committed in group `g`."""
-    nodes = [Node(number, HOST, 9093 + number, Coordinator(HOST, 9)) for number in range(coordinators)]
+    nodes = [Node(number, HOST, 9093 + number, Coordinator()) for number in range(nodes_there)]
     cluster = Cluster(nodes, Topics([Topic("orders", ORDERS, partitions)]), Log(rate, 0, clock, 1_000_000), Offsets())
     cluster.offsets.store("g", "orders", 1, Committed(7, 0, "m"))
     return cluster
@@ -61,30 +61,30 @@ def run_alone(cluster: Cluster, work: Callable[[], Coroutine[Any, Any, Result]])
 # ---- a coordinator
 
 
-class Played:
-    """A coordinator that is played: it gives each frame's body, with the connection's number, to `answer`, and closes where that is None."""
+class Played(Coordinator):
+    """A coordinator that is played: it gives each request's body, with the connection's number, to `answer`, and closes if that is None."""
 
     def __init__(self, answer: Callable[[int, bytes], Optional[bytes]]) -> None:
         self.answer = answer
         self.bodies: List[Tuple[int, bytes]] = []
-        self.opened, self.ended = 0, asyncio.Event()
-        self.writers: List[asyncio.StreamWriter] = []
+        self.links: List[PlayedLink] = []
 
-    async def serve(self, reader: asyncio.StreamReader, writer: asyncio.StreamWriter) -> None:
-        number = self.opened
-        self.opened += 1
-        self.writers.append(writer)
-        with contextlib.suppress(asyncio.IncompleteReadError, OSError):
-            while True:
-                size = struct.unpack(">i", await reader.readexactly(4))[0]
-                body = await reader.readexactly(size)
-                self.bodies.append((number, body))
-                reply = self.answer(number, body)
-                if reply is None:
-                    break
-                writer.write(framed(reply))
-        writer.close()
-        self.ended.set()
+    def connect(self, since: float) -> Link:
+        self.links.append(PlayedLink(self, len(self.links)))
+        return self.links[-1]
+
+
+class PlayedLink(Link):
+    def __init__(self, coordinator: Played, number: int) -> None:
+        super().__init__()
+        self._coordinator, self._number = coordinator, number
+
+    async def ask(self, body: bytes, group: str) -> bytes:
+        self._coordinator.bodies.append((self._number, body))
+        reply = self._coordinator.answer(self._number, body)
+        if reply is None:
+            raise CoordinatorClosed("the coordinator closed the connection instead of an answer")
+        return reply
 
 
 def accept_all(_: int, body: bytes) -> bytes:
@@ -92,11 +92,11 @@ def accept_all(_: int, body: bytes) -> bytes:
     return body[4:8] + data("00 00000000 0000 00 02 'm' 00000001 00001388 ff 00")
 
 
-# ---- the front end
+# ---- a broker
 
 
 class Front:
-    """The front end over a played coordinator: its port, what it printed, and what it said on standard error."""
+    """A broker over a played coordinator: its port, what it printed, and what it said on standard error."""
 
     def __init__(self, port: int, coordinator: Played, lines: List[str], said: List[str], watch: Watch) -> None:
         self.port, self.coordinator, self.lines, self.said, self.watch = port, coordinator, lines, said, watch
@@ -119,7 +119,7 @@ class Client:
         self.writer.write(framed(data(text)))
 
     async def body(self, seconds: float = SECONDS) -> Optional[bytes]:
-        """The next reply's body, or None where the connection is closed."""
+        """The next reply's body, or None if the connection is closed."""
         try:
             size = struct.unpack(">i", await asyncio.wait_for(self.reader.readexactly(4), seconds))[0]
             return await asyncio.wait_for(self.reader.readexactly(size), seconds)
@@ -136,12 +136,11 @@ class Client:
 
 @contextlib.asynccontextmanager
 async def front(answer: Callable[[int, bytes], Optional[bytes]] = accept_all, cluster: Optional[Cluster] = None) -> AsyncIterator[Front]:
-    """A front end that runs until the block ends."""
+    """A broker over a played coordinator, which runs until the block ends."""
     played = Played(answer)
-    server = await asyncio.start_server(played.serve, HOST, 0)
     cluster = cluster or small_cluster()
     node = cluster.nodes[0]
-    node.coordinator = Coordinator(*server.sockets[0].getsockname()[:2])
+    node.coordinator = played
     lines: List[str] = []
     said: List[str] = []
     watch = Watch(cluster.topics, lines.append)
@@ -153,8 +152,7 @@ async def front(answer: Callable[[int, bytes], Optional[bytes]] = accept_all, cl
         finally:
             task.cancel()
             await asyncio.gather(task, return_exceptions=True)
-            server.close()
-            await close_all([*it.writers, *played.writers])
+            await close_all(it.writers)
 
 
 async def close_all(writers: List[asyncio.StreamWriter]) -> None:

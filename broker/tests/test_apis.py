@@ -60,13 +60,8 @@ class Apis(unittest.TestCase):
     def test_groups_over_three(self) -> None:
         self.assertEqual([(group, group_number(group, 3)) for group, _ in NUMBERS], NUMBERS)
 
-    def test_the_coordinator_of_a_group_is_named_by_its_hash(self) -> None:
-        # `hello` lies with the second of three, whose port is 9094.
-        reply = answer(small_cluster(3), "000a 0000 00000003 0001 'c' 0005 'hello'", node=2)
-        self.assertEqual(reply, data("00000003 0000 00000001 0009 '127.0.0.1' 00002386"))
-
     def test_other_nodes_refuse_the_group(self) -> None:
-        cluster = small_cluster(3)
+        cluster = small_cluster(2)
         asked = [
             "0044 0000 00000007 ffff 00 06 'hello' 01 00000000 00 00 0000ea60 02 07 'orders' 00 01 00",
             "0008 0009 00000008 ffff 00 06 'hello' 00000002 02 'm' 00 02 07 'orders' 02 00000001 0000000000000005 ffffffff 00 00 00 00",
@@ -75,9 +70,9 @@ class Apis(unittest.TestCase):
             "00000007 00 00000000 0010 26 'another broker coordinates this group' 00 00000000 00000000 ff 00",
             "00000008 00 00000000 02 07 'orders' 02 00000001 0010 00 00 00",
         ]
-        self.assertEqual([answer(cluster, text).hex() for text in asked], [data(text).hex() for text in refused])
+        self.assertEqual([answer(cluster, text, node=1).hex() for text in asked], [data(text).hex() for text in refused])
         with self.assertRaisesRegex(CoordinatorClosed, "it asked for the offsets of hello, which isn't coordinated from here"):
-            answer(cluster, "0009 0009 00000005 ffff 00 02 06 'hello' 02 'm' 00000002 00 00 01 00")
+            answer(cluster, "0009 0009 00000005 ffff 00 02 06 'hello' 02 'm' 00000002 00 00 01 00", node=1)
 
     def test_a_partition_may_have_no_leader_for_now(self) -> None:
         cluster = small_cluster(partitions=1)

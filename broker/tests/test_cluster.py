@@ -46,7 +46,7 @@ class Broker:
         return client
 
     async def named(self, client: Optional[Client] = None) -> Optional[str]:
-        """The coordinator that it names, or the code instead; or None where the connection is closed."""
+        """The coordinator that it names, or the code instead; or None if the connection is closed."""
         body = await (client or await self.client()).ask(FIND)
         if body is None:
             return None

@@ -17,7 +17,7 @@ from broker.measures import Measures
 from broker.members import Members, number_of
 from broker.part import LEADERS
 from broker.settings import BROKERS, KEY, Settings, settings_of, wanted
-from broker.starter import Ended
+from broker.trouble import Ended
 from broker.tests.played_etcd import DONE, LATE, LOST, NO_LEASE, PlayedEtcd, played_etcd, text_of, unpacked
 from broker.tests.support import HOST, until
 from broker.tests.test_part import TOPICS, Running, in_log, parts
@@ -109,7 +109,7 @@ class Cluster(unittest.IsolatedAsyncioTestCase):
         async with played_etcd() as (played, etcd):
             lease = Lease(etcd, 3)
             await lease.grant()
-            it = Members(lease, own(), Node(7, HOST, 1, Coordinator(HOST, 9)), [], Measures(), lambda: None)
+            it = Members(lease, own(), Node(7, HOST, 1, Coordinator()), [], Measures(), lambda: None)
             await it._is_shown(b"first")
             played.fate = once_late(PUT, BROKERS, MANY)
             with self.assertRaises(Unanswered):

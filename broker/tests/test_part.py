@@ -131,7 +131,7 @@ class Running:
         await asyncio.gather(*self.tasks, return_exceptions=True)
 
     async def ask(self, body: str, since: Optional[float] = None) -> Optional[str]:
-        """The reply, or None where the connection is closed. It wasn't open before a moment, or is new."""
+        """The reply, or None if the connection is closed. It wasn't open before a moment, or is new."""
         since = time.monotonic() if since is None else since
         try:
             return (await asyncio.wait_for(self.part.ask(body.encode(), 1, 1, since), SECONDS)).decode()

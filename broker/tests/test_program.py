@@ -1,9 +1,7 @@
-"""The program as it is run, with the coordinator itself behind it where BROKER_TEST_PROGRAM names the built program coord, and inside it
-where BROKER_TEST_LIBRARY names libmigwelun.so."""
+"""The program as it is run."""
 
 from __future__ import annotations
 
-import asyncio
 import contextlib
 import fcntl
 import json
@@ -20,12 +18,7 @@ import time
 import unittest
 import urllib.request
 from typing import IO, Iterator, List, Optional
-from unittest import mock
 
-from broker import groups
-from broker.__main__ import run
-from broker.command_line import parse
-from broker.starter import free_port
 from broker.tests.support import HOST, ORDERS, SECONDS, data
 from broker.tests.test_relay import WITH_REGEX
 
@@ -35,14 +28,8 @@ CLIENT = TOP / "examples/client.py"
 F_SETPIPE_SZ, PIPE_BYTES = 1031, 4096
 # How long a program has to go on that has nowhere to print.
 FULL_SECONDS = 3
-PROGRAM = os.environ.get("BROKER_TEST_PROGRAM", "")
-COORDINATORS = 3
-GROUPS = [f"group-{number}" for number in range(9)]
-needs_program = unittest.skipUnless(PROGRAM, "it needs the built program coord")
-LIBRARY = os.environ.get("BROKER_TEST_LIBRARY", "")
-needs_library = unittest.skipUnless(LIBRARY, "it needs the built library, which tools/check-library gives it")
 
-# What the front end prints of the two members of examples/client.py, in group G.
+# What it prints of the two members of examples/client.py, in group G.
 OF_TWO_MEMBERS = [
     "G  000001  epoch 1  joins; subscribes t; is assigned t[0..1]",
     "G  000002  epoch 2  joins; subscribes t",
@@ -55,24 +42,23 @@ OF_TWO_MEMBERS = [
 ]
 # Command lines that are refused, and a part of why.
 REFUSED = [
-    (["--start", "t:11:2", "--port", "0"], "argument TOPIC: 't:11:2' wants a UUID after its first colon"),
-    (["--start", "--port", "0"], "the following arguments are required: TOPIC"),
-    (["--port", "0", f"t:{ORDERS}:2"], "wants --start-rules, --start-unproved, --start, --coordinator HOST:PORT, --embedded or --etcd HOST:PORT"),
+    (["--start-rules", "t:11:2", "--port", "0"], "argument TOPIC: 't:11:2' wants a UUID after its first colon"),
+    (["--start-rules", "--port", "0"], "the following arguments are required: TOPIC"),
+    (["--port", "0", f"t:{ORDERS}:2"], "wants --start-rules or --etcd HOST:PORT; `coord broker` is the broker that is proved"),
     (["--etcd", "127.0.0.1:2379", f"t:{ORDERS}:2"], "--etcd wants --advertise HOST:PORT and --parts N"),
     (["--etcd", "127.0.0.1:2379,x", f"t:{ORDERS}:2"], "'x' is no HOST:PORT"),
     (["--etcd", "https://127.0.0.1:2379", f"t:{ORDERS}:2"], "'https://127.0.0.1:2379' is no HOST:PORT"),
     (["--etcd", "http://127.0.0.1:2379/v3", f"t:{ORDERS}:2"], "'127.0.0.1:2379/v3' is no HOST:PORT"),
     (["--etcd", "http://127.0.0.1:2379/,127.0.0.1:2380", f"t:{ORDERS}:2"], "--etcd wants --advertise HOST:PORT and --parts N"),
-    (["--etcd", "127.0.0.1:2379", "--start", "--port", "0", f"t:{ORDERS}:2"], "go with none of --coordinator, --start, --start-unproved, --start-rules and --embedded"),
+    (["--etcd", "127.0.0.1:2379", "--start-rules", "--port", "0", f"t:{ORDERS}:2"], "--etcd, --advertise and --parts don't go with --start-rules"),
     (["--etcd", "127.0.0.1:2379", "--parts", "0", f"t:{ORDERS}:2"], "'0' is no number from 1 to 1000"),
-    (["--start", f"t:{ORDERS}:2"], "the following arguments are required: --port"),
-    (["--start", "--port", "0", f"t:{ORDERS}:0"], "wants a number of partitions from 1 to 100000 at its end"),
-    (["--start", "--port", "0", f"a b:{ORDERS}:1"], "wants a name of 1 to 249 letters"),
-    (["--start", "--port", "0", f"t:{ORDERS}:2", f"u:{ORDERS}:2"], "two topics have the same name or the same id"),
-    (["--start", "--port", "65536", f"t:{ORDERS}:2"], "'65536' is no number from 0 to 65535"),
-    (["--start", "--start", "--port", "65535", f"t:{ORDERS}:2"], "--port 65535 leaves no ports for 2 brokers"),
-    (["--coordinator", "127.0.0.1", "--port", "0", f"t:{ORDERS}:2"], "'127.0.0.1' is no HOST:PORT"),
-    (["--start", "--rate", "fast", "--port", "0", f"t:{ORDERS}:2"], "'fast' is no number from 0 to 10000"),
+    (["--start-rules", f"t:{ORDERS}:2"], "the following arguments are required: --port"),
+    (["--start-rules", "--port", "0", f"t:{ORDERS}:0"], "wants a number of partitions from 1 to 100000 at its end"),
+    (["--start-rules", "--port", "0", f"a b:{ORDERS}:1"], "wants a name of 1 to 249 letters"),
+    (["--start-rules", "--port", "0", f"t:{ORDERS}:2", f"u:{ORDERS}:2"], "two topics have the same name or the same id"),
+    (["--start-rules", "--port", "65536", f"t:{ORDERS}:2"], "'65536' is no number from 0 to 65535"),
+    (["--start-rules", "--rate", "fast", "--port", "0", f"t:{ORDERS}:2"], "'fast' is no number from 0 to 10000"),
+    (["--start-rules", "--session", "46", "--port", "0", f"t:{ORDERS}:2"], "'46' is no number from 0.1 to 45"),
 ]
 
 
@@ -87,32 +73,21 @@ def until_it_catches(pid: int, number: signal.Signals) -> None:
 
 
 class Broker:
-    """A running front end: its ports, and what it prints behind the lines that tell of them."""
+    """A running broker: its port, and what it prints after the lines that tell of its ports."""
 
     def __init__(self, words: List[str]) -> None:
-        command = [sys.executable, "-B", "-m", "broker", "--port", "0", "--status", "0", *words]
+        command = [sys.executable, "-B", "-m", "broker", "--start-rules", "--port", "0", "--status", "0", *words]
         self.process = subprocess.Popen(command, cwd=TOP, stdout=subprocess.PIPE, stderr=subprocess.PIPE, text=True)
         assert self.process.stdout is not None
         self.stdout: IO[str] = self.process.stdout
-        self.ports: List[int] = []
-        while not (line := self.stdout.readline()).startswith("status "):
-            self.ports.append(int(re.match(rf"listening {HOST}:(\d+)  coordinator ", line)[1]))  # type: ignore[index]
-        self.status = line.split(" ")[1].strip()
+        found = re.match(rf"listening {HOST}:(\d+)  coordinator rules in Python", self.stdout.readline())
+        assert found is not None
+        self.port, self.status = int(found[1]), self.stdout.readline().split(" ")[1].strip()
 
     def get(self, path: str) -> str:
         with urllib.request.urlopen(self.status + path, timeout=SECONDS) as answer:
             text: str = answer.read().decode()
             return text
-
-    def is_up(self, port: int) -> bool:
-        """Whether it says that the coordinator at a port can be reached."""
-        found = re.search(rf'^broker_coordinator_up{{coordinator="{HOST}:{port}"}} (\d)$', self.get("metrics"), re.M)
-        assert found is not None
-        return found[1] == "1"
-
-    def children(self) -> List[int]:
-        number = self.process.pid
-        return [int(word) for word in pathlib.Path(f"/proc/{number}/task/{number}/children").read_text().split()]
 
 
 @contextlib.contextmanager
@@ -125,21 +100,6 @@ def broker(*words: str) -> Iterator[Broker]:
         it.process.communicate(timeout=SECONDS)
 
 
-@contextlib.contextmanager
-def coordinator(port: int, *words: str) -> Iterator[None]:
-    """`coord serve` at a port."""
-    command = [PROGRAM, "serve", "--port", str(port), "--workers", "1", "--shards", "1", *words]
-    process = subprocess.Popen(command, stdout=subprocess.PIPE, text=True)
-    assert process.stdout is not None
-    try:
-        if process.stdout.readline() != f"listening {port}\n":
-            raise AssertionError("coord serve doesn't listen")
-        yield
-    finally:
-        process.terminate()
-        process.communicate(timeout=SECONDS)
-
-
 def closed_pipe() -> int:
     """The end of a pipe whose reader is gone."""
     reader, writer = os.pipe()
@@ -148,7 +108,7 @@ def closed_pipe() -> int:
 
 
 def ask(port: int, text: str) -> Optional[bytes]:
-    """A reply's body, or None where the connection is closed."""
+    """A reply's body, or None if the connection is closed."""
     try:
         with socket.create_connection((HOST, port), SECONDS) as connection, connection.makefile("rb") as stream:
             connection.sendall(struct.pack(">i", len(data(text))) + data(text))
@@ -156,30 +116,6 @@ def ask(port: int, text: str) -> Optional[bytes]:
             return stream.read(struct.unpack(">i", size)[0]) if size else None
     except ConnectionError:
         return None
-
-
-async def lines_until(words: List[str], request: str, last: str) -> List[str]:
-    """What the front end prints of a client's request, up to a line with this in it. It runs in this process."""
-    lines: List[str] = []
-    running = asyncio.ensure_future(run(parse(words), lines.append))
-    try:
-        while not lines:
-            await asyncio.sleep(0.01)
-        port = int(re.match(rf"listening {HOST}:(\d+) ", lines.pop())[1])  # type: ignore[index]
-        await asyncio.to_thread(ask, port, request)
-        while not any(last in line for line in lines):
-            await asyncio.sleep(0.01)
-    finally:
-        running.cancel()
-        await asyncio.gather(running, return_exceptions=True)
-    return lines
-
-
-def port_of(group: str, asked: int) -> int:
-    """The port of the group's coordinator, as the broker at another port names it."""
-    reply = ask(asked, f"000a 0000 00000001 ffff {len(group):04x} '{group}'") or b""
-    port: int = struct.unpack(">i", reply[-4:])[0]
-    return port
 
 
 def join(group: str) -> str:
@@ -198,18 +134,17 @@ class Program(unittest.TestCase):
         fits = [(status, out, said.startswith("broker: "), said.count("\n"), why in said) for (status, out, said), (_, why) in zip(found, REFUSED)]
         self.assertEqual(fits, [(2, "", True, 1, True)] * len(REFUSED), found)
 
-    def test_a_program_that_can_not_be_started_and_a_port_that_is_taken_are_said(self) -> None:
+    def test_what_can_not_be_had_is_said(self) -> None:
         with socket.create_server((HOST, 0)) as taken:
             port = str(taken.getsockname()[1])
             over_etcd = ["--etcd", f"{HOST}:9", "--parts", "1"]
             rows = [
-                (["--start", "--program", "/nowhere", "--port", "0"], "/nowhere can't be started"),
-                (["--start", "--port", port], f"broker: --port: {HOST}:{port}: Address already in use\n"),
-                (["--start", "--port", "0", "--status", port], f"broker: --status: {HOST}:{port}: Address already in use\n"),
+                (["--start-rules", "--port", port], f"broker: --port: {HOST}:{port}: Address already in use\n"),
+                (["--start-rules", "--port", "0", "--status", port], f"broker: --status: {HOST}:{port}: Address already in use\n"),
                 ([*over_etcd, "--advertise", f"{HOST}:{port}"], f"broker: --advertise: {HOST}:{port}: Address already in use\n"),
                 ([*over_etcd, "--advertise", "nobody.invalid:9093"], "broker: --advertise: nobody.invalid:9093: "),
-                (["--embedded", "--library", "/nowhere", "--port", "0"], "tools/build-library makes it"),
-                (["--start", "--record", "/nowhere/record", "--port", "0"], "No such file or directory: '/nowhere/record'"),
+                (["--etcd", f"{HOST}:9", "--parts", "1", "--advertise", f"{HOST}:9", "--port", "0", "--library", "/nowhere"], "tools/build-library makes it"),
+                (["--start-rules", "--record", "/nowhere/record", "--port", "0"], "No such file or directory: '/nowhere/record'"),
             ]
             for words, why in rows:
                 command = [sys.executable, "-B", "-m", "broker", *words, f"t:{ORDERS}:2"]
@@ -217,23 +152,22 @@ class Program(unittest.TestCase):
                 self.assertEqual((ran.returncode, ran.stdout, ran.stderr.count("\n"), why in ran.stderr), (1, "", 1, True), ran.stderr)
 
     def test_outputs_that_nobody_reads_hold_nobody_up(self) -> None:
-        # A coordinator that answers nothing. A request with a regular expression is refused before it, which a line on standard output
-        # says, and the end of a connection with other bytes one on standard error.
-        with socket.create_server((HOST, 0), backlog=200) as silent:
-            with broker("--coordinator", f"{HOST}:{silent.getsockname()[1]}", f"orders:{ORDERS}:2") as it:
-                assert it.process.stderr is not None
-                for pipe in (it.stdout, it.process.stderr):
-                    fcntl.fcntl(pipe, F_SETPIPE_SZ, PIPE_BYTES)
-                codes = {(ask(it.ports[0], WITH_REGEX) or b"")[9:11] for _ in range(100)}
-                closed = {ask(it.ports[0], "ffff ffff ffff ffff ffff ffff") for _ in range(60)}
-                metrics = it.get("metrics").splitlines()
-                it.process.terminate()
-                status = it.process.wait(SECONDS)
+        # A request with a regular expression is refused, which a line on standard output says, and the end of a connection with other bytes one on
+        # standard error.
+        with broker(f"orders:{ORDERS}:2") as it:
+            assert it.process.stderr is not None
+            for pipe in (it.stdout, it.process.stderr):
+                fcntl.fcntl(pipe, F_SETPIPE_SZ, PIPE_BYTES)
+            codes = {(ask(it.port, WITH_REGEX) or b"")[9:11] for _ in range(100)}
+            closed = {ask(it.port, "ffff ffff ffff ffff ffff ffff") for _ in range(60)}
+            metrics = it.get("metrics").splitlines()
+            it.process.terminate()
+            status = it.process.wait(SECONDS)
         self.assertEqual((codes, closed, status), ({data("002a")}, {None}, 0))
         self.assertIn('broker_heartbeats_total{code="42",error="INVALID_REQUEST"} 100', metrics)
 
     def test_a_full_disk_does_not_end_it_and_a_reader_that_is_gone_does(self) -> None:
-        command = [sys.executable, "-B", "-m", "broker", "--coordinator", f"{HOST}:9", "--port", "0", "--status", "0", f"orders:{ORDERS}:2"]
+        command = [sys.executable, "-B", "-m", "broker", "--start-rules", "--port", "0", "--status", "0", f"orders:{ORDERS}:2"]
         for number in (os.open("/dev/full", os.O_WRONLY), closed_pipe()):
             with subprocess.Popen(command, cwd=TOP, stdout=number, stderr=subprocess.DEVNULL) as process:
                 is_pipe = stat.S_ISFIFO(os.fstat(number).st_mode)
@@ -245,20 +179,9 @@ class Program(unittest.TestCase):
                     process.terminate()
                 self.assertEqual(process.wait(SECONDS), 0)
 
-    @needs_program
     def test_two_members_of_another_hand(self) -> None:
-        self.see_two_members("--start", "--program", PROGRAM)
-
-    def test_two_members_of_another_hand_by_the_rules(self) -> None:
-        self.see_two_members("--start-rules")
-
-    @needs_library
-    def test_two_members_of_another_hand_embedded(self) -> None:
-        self.see_two_members("--embedded", "--library", LIBRARY)
-
-    def see_two_members(self, *words: str) -> None:
-        with broker(*words, f"t:{ORDERS}:2") as it:
-            ran = subprocess.run([sys.executable, CLIENT, f"{HOST}:{it.ports[0]}"], capture_output=True, text=True, timeout=SECONDS, check=True)
+        with broker(f"t:{ORDERS}:2") as it:
+            ran = subprocess.run([sys.executable, CLIENT, f"{HOST}:{it.port}"], capture_output=True, text=True, timeout=SECONDS, check=True)
             known, metrics = json.loads(it.get("groups")), it.get("metrics").splitlines()
             group = known["groups"][0]
             printed = [it.stdout.readline() for _ in OF_TWO_MEMBERS]
@@ -269,61 +192,22 @@ class Program(unittest.TestCase):
         wanted = ['broker_heartbeats_total{code="0",error="NONE"} 8', 'broker_committed_partitions_total{code="0",error="NONE"} 3']
         self.assertEqual([line for line in wanted if line not in metrics], [])
 
-    @needs_program
-    def test_groups_over_three_coordinators(self) -> None:
-        with broker(*["--start"] * COORDINATORS, "--program", PROGRAM, f"orders:{ORDERS}:2") as it:
-            homes = {group: {port_of(group, asked) for asked in it.ports} for group in GROUPS}
-            codes = {(group, port): (ask(port, join(group)) or b"")[9:11] for group in GROUPS for port in it.ports}
-            known = json.loads(it.get("groups"))["groups"]
-        self.assertEqual({len(ports) for ports in homes.values()}, {1})
-        # The hash of group-0 is 293,427,298, whose rest by three is 1, and each next one's is one more.
-        self.assertEqual([homes[group] for group in GROUPS], [{it.ports[number]} for number in (1, 2, 0, 1, 2, 0, 1, 2, 0)])
-        self.assertEqual(codes, {(group, port): data("0000" if {port} == homes[group] else "0010") for group in GROUPS for port in it.ports})
-        self.assertEqual([(each["name"], {it.ports[each["node"]]}) for each in known], [(group, homes[group]) for group in GROUPS])
+    def test_a_session_and_topics_that_grow(self) -> None:
+        with broker("--session", "0.3", f"orders:{ORDERS}:2") as it:
+            codes = [(ask(it.port, join("g")) or b"")[9:11]]
+            it.process.send_signal(signal.SIGUSR1)
+            time.sleep(0.6)
+            reply = ask(it.port, join("g")) or b""
+            topics = json.loads(it.get("groups"))["topics"]
+        # The first member is removed, and the second one is assigned three partitions.
+        self.assertEqual((codes, reply[9:11], reply[-16:]), ([data("0000")], data("0000"), data("04 00000000 00000001 00000002 00 00 00")))
+        self.assertEqual([(it["name"], it["partitions"]) for it in topics], [("orders", 3)])
 
-    @needs_program
-    def test_a_coordinator_that_is_not_there_yet_or_not_any_more_is_said_although_no_client_comes(self) -> None:
-        with free_port() as port, broker("--coordinator", f"{HOST}:{port}", f"orders:{ORDERS}:2") as it:
-            states = [it.is_up(port)]
-            with coordinator(port, f"orders:{ORDERS}:2"):
-                while not it.is_up(port):
-                    time.sleep(0.01)
-                states.append((ask(it.ports[0], join("g")) or b"")[9:11] == b"\0\0")
-            while it.is_up(port):
-                time.sleep(0.01)
-            states.append(json.loads(it.get("groups"))["coordinators"][0]["is_there"])
-            it.process.terminate()
-            _, said = it.process.communicate(timeout=SECONDS)
-        self.assertEqual(states, [False, True, False])
-        gone, there = (f"broker: the coordinator {HOST}:{port} {what}" for what in ("can't be reached", "is there again"))
-        self.assertEqual([line.split(",")[0] for line in said.splitlines()], [gone, there, gone])
-
-    @needs_program
-    def test_a_topic_that_the_coordinator_has_under_another_id_is_said(self) -> None:
-        # Members are said to wait as soon as one looks.
-        other = "22222222-2222-2222-2222-222222222222"
-        with free_port() as port, coordinator(port, f"orders:{other}:2"), mock.patch.object(groups, "WAIT_SECONDS", 0):
-            words = ["--coordinator", f"{HOST}:{port}", "--port", "0", f"orders:{ORDERS}:2"]
-            lines = asyncio.run(asyncio.wait_for(lines_until(words, join("g"), "waits for"), SECONDS))
-        assigned = f"is assigned {other}[0..1], which isn't known here: the coordinator has other topics"
-        waits = f"waits for orders[0..1], which the coordinator assigns to nobody: does it have orders:{ORDERS}:2?"
-        self.assertEqual(lines, [f"g  000001  epoch 1  joins; subscribes orders; {assigned}", f"g  -  epoch 1  {waits}"])
-
-    @needs_program
-    def test_a_started_coordinator_that_ends_ends_the_front_end(self) -> None:
-        with broker("--start", "--program", PROGRAM, f"orders:{ORDERS}:2") as it:
-            os.kill(it.children()[0], signal.SIGKILL)
-            _, said = it.process.communicate(timeout=SECONDS)
-        self.assertEqual((it.process.returncode, said), (1, f"broker: {PROGRAM} serve ended with status -9\n"))
-
-    @needs_program
-    def test_a_signal_ends_all(self) -> None:
+    def test_a_signal_ends_it(self) -> None:
         for number in (signal.SIGINT, signal.SIGTERM):
-            with broker("--start", "--program", PROGRAM, f"orders:{ORDERS}:2") as it:
-                started = it.children()[0]
-                with socket.create_connection((HOST, it.ports[0]), SECONDS) as client:
-                    self.assertIsNotNone(ask(it.ports[0], join("g")))
+            with broker(f"orders:{ORDERS}:2") as it:
+                with socket.create_connection((HOST, it.port), SECONDS) as client:
+                    self.assertIsNotNone(ask(it.port, join("g")))
                     it.process.send_signal(number)
                     _, said = it.process.communicate(timeout=SECONDS)
                     self.assertEqual((client.recv(1), it.process.returncode, said), (b"", 0, ""))
-                self.assertFalse(pathlib.Path(f"/proc/{started}").exists())

@@ -58,7 +58,7 @@ class Quiet(unittest.IsolatedAsyncioTestCase):
         async with played_etcd() as (played, etcd):
             lease = Lease(etcd, 3)
             settings = await settings_of(etcd, own())
-            it = Members(lease, settings, Node(7, HOST, 1, Coordinator(HOST, 9)), [], Measures(), lambda: None)
+            it = Members(lease, settings, Node(7, HOST, 1, Coordinator()), [], Measures(), lambda: None)
             with mock.patch("broker.members.SILENT_SECONDS", 0.1), mock.patch("broker.members.AGAIN_SECONDS", 0.05):
                 watching = asyncio.ensure_future(it.watch())
                 await until(lambda: played.watches)

@@ -10,9 +10,8 @@ import unittest
 from typing import List, Optional, Tuple
 from unittest import mock
 
-from broker import link, relay
+from broker import relay
 from broker.frames import framed
-from broker.link import Coordinator
 from broker.tests.support import HOST, Client, accept_all, data, front, small_cluster
 
 # The headers have the correlation ids 1, 2 .. so that replies can be told apart.
@@ -39,7 +38,7 @@ FETCHERS = [
     ("01 00000002", "", STORED),
     ("02 'm' ffffffff", "", STORED),
 ]
-# What librdkafka 2.14.2 sent: version 1, with an empty regular expression behind the names; and the same request in version 0.
+# What librdkafka 2.14.2 sent: version 1, with an empty regular expression after the names; and the same request in version 0.
 JOIN_1 = "0044 0001 00000003 0005 'c-sid' 00 06 'g-sid' 17 '/3dPginAT4eUZTkRfdoe0w' 00000000 00 00 000493e0 02 07 'orders' 01 00 01 00"
 JOIN_0 = "0044 0000 00000003 0005 'c-sid' 00 06 'g-sid' 17 '/3dPginAT4eUZTkRfdoe0w' 00000000 00 00 000493e0 02 07 'orders' 00 01 00"
 BEAT_1 = "0044 0001 00000008 0005 'c-sid' 00 06 'g-sid' 17 '/3dPginAT4eUZTkRfdoe0w' 00000001 00 00 ffffffff 00 00 00 00 00"
@@ -139,15 +138,7 @@ class Relay(unittest.IsolatedAsyncioTestCase):
             await it.wait_for(lambda: cluster.nodes[0].connections == 1)
         self.assertEqual(it.said, [])
 
-    async def test_a_client_that_closes_closes_its_connection_to_the_coordinator(self) -> None:
-        async with front() as it:
-            client = await it.client()
-            await client.ask(HEARTBEAT.format(1))
-            client.close()
-            await asyncio.wait_for(it.coordinator.ended.wait(), 10)
-        self.assertEqual(it.said, [])
-
-    async def test_a_coordinator_that_closes_closes_the_client_behind_the_replies_before(self) -> None:
+    async def test_a_coordinator_that_closes_closes_the_client_after_the_replies_before(self) -> None:
         def answer(number: int, body: bytes) -> Optional[bytes]:
             return None if body[7] == 3 else accept_all(number, body)
 
@@ -162,30 +153,10 @@ class Relay(unittest.IsolatedAsyncioTestCase):
     async def test_a_coordinator_that_ends_closes_quiet_clients(self) -> None:
         async with front() as it:
             client = await it.client()
-            await it.wait_for(lambda: it.coordinator.opened == 1)
-            it.coordinator.writers[0].close()
+            await it.wait_for(lambda: it.coordinator.links)
+            it.coordinator.links[0].end()
             self.assertEqual(await client.body(), None)
             self.assertIn("the coordinator closed its side", it.said[0])
-
-    async def test_a_coordinator_that_is_not_there_is_said_once_a_time(self) -> None:
-        cluster = small_cluster()
-        async with front(cluster=cluster) as it:
-            there = cluster.nodes[0].coordinator
-            with _closed_port() as nowhere:
-                cluster.nodes[0].coordinator = Coordinator(*nowhere.getsockname()[:2])
-                self.assertEqual([await (await it.client()).body() for _ in range(2)], [None, None])
-                cluster.nodes[0].coordinator.host, cluster.nodes[0].coordinator.port = there.host, there.port
-            self.assertIsNotNone(await (await it.client()).ask(VERSIONS.format(1)))
-        said = it.said
-        self.assertEqual((len(said), "can't be reached" in said[0], "is there again" in said[1]), (2, True, True))
-
-    async def test_where_no_file_is_left_for_the_coordinator_the_client_is_closed(self) -> None:
-        no_files = mock.Mock(**{"socket.side_effect": OSError("Too many open files")})
-        async with front() as it:
-            with mock.patch.object(link, "socket", no_files):
-                self.assertIsNone(await (await it.client()).body())
-            self.assertIsNotNone(await (await it.client()).ask(VERSIONS.format(1)))
-            self.assertIn("none to the coordinator can be made for it: Too many open files", it.said[0])
 
     async def test_a_pause_of_this_process_ends_no_connection(self) -> None:
         async with front() as it:
@@ -222,7 +193,7 @@ class Relay(unittest.IsolatedAsyncioTestCase):
                 await clients[1].ask(VERSIONS.format(1))
                 clients[2].send(VERSIONS.format(2))
                 await it.wait_for(lambda: "further ones wait" in "".join(it.said))
-                opened = it.coordinator.opened
+                opened = len(it.coordinator.links)
                 clients[0].close()
                 self.assertIsNotNone(await clients[2].body())
         self.assertEqual(opened, 2)
@@ -234,10 +205,3 @@ class Relay(unittest.IsolatedAsyncioTestCase):
             for number, client in reversed(list(enumerate(clients))):
                 await client.ask(HEARTBEAT.format(number))
             self.assertEqual([(number, body[7]) for number, body in it.coordinator.bodies], [(number, number) for number in range(39, -1, -1)])
-
-
-def _closed_port() -> socket.socket:
-    """A socket that has a port and doesn't listen."""
-    taken = socket.socket()
-    taken.bind((HOST, 0))
-    return taken

@@ -50,7 +50,7 @@ class Fault(NamedTuple):
 
 @dataclasses.dataclass
 class Place:
-    """Where a consumer stands in a partition: the next offset and the one that was committed, None where there is none."""
+    """Where a consumer stands in a partition: the next offset and the one that was committed, None if there is none."""
 
     next: Optional[int] = None
     committed: Optional[int] = None
@@ -272,7 +272,7 @@ class Library:
             self.tell_commit(code, parts)
 
     def rebalance(self, _: int, code: int, parts: LIST, __: object) -> None:
-        """The calls of the classic eager protocol, which 2.8.0 wants where no assignor is set, replace all that is owned."""
+        """The calls of the classic eager protocol, which 2.8.0 wants if no assignor is set, replace all that is owned."""
         is_eager, assigns = self.calls.rebalance_protocol(self.kafka) == b"EAGER", code == ASSIGNS
         if assigns and is_eager and self.of.owned:
             self.of.gives_up([*self.of.owned], False)

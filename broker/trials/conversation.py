@@ -1,11 +1,11 @@
-"""Recorded conversations: clients with a front end, and the front end with a coordinator.
+"""Recorded conversations of clients with a broker.
 
-A file has lines `# TEXT`, which say what happens, then `topic NAME:UUID:COUNT` for each topic, where moments matter the line `paced`, and a
-line for each event: the milliseconds since the first one, and side, connection and what happened as the relay of broker/trials records them. These
-values of frames aren't as they were, since they differ from run to run:
+A file has lines `# TEXT`, which say what happens, then `topic NAME:UUID:COUNT` for each topic, if moments matter the line `paced`, and a line
+for each event: the milliseconds since the first one, and connection and what happened as the relay of broker/trials records them. These values
+of frames aren't as they were, since they differ from run to run:
 
-    ports           of the front end, where it says to clients what its address is, are PORT
-    salts           that a coordinator puts into the ids of the members that it names itself are zeros
+    ports           of the broker, in what it says to clients of its address, are PORT
+    salts           that the coordinator puts into the ids of the members that it names itself are zeros
 
 and a Fetch that was answered without records is left out with its reply.
 """
@@ -21,7 +21,7 @@ from clients.stand import HOST, Topic
 
 PORT, FETCH = 9093, 1
 # Each partition has a few records from the start, and none comes meanwhile, so that what is fetched doesn't hang on time.
-FRONT_END = ("--records", "5", "--rate", "0")
+RECORDS = ("--records", "5", "--rate", "0")
 # Salt and serial of an id that a coordinator made, and the salt that is written in its place.
 MADE = re.compile(rb"([0-9a-f]{8}-[0-9a-f]{4}-[0-9a-f]{4}-)(?=[0-9a-f]{4}-[0-9a-f]{12})")
 NO_SALT = b"00000000-0000-0000-"
@@ -33,9 +33,6 @@ class Conversation:
     topics: List[Topic]
     paced: bool
     events: List[Event]
-
-    def of(self, side: str) -> List[Event]:
-        return [it for it in self.events if it.side == side]
 
 
 class Pins:
@@ -68,7 +65,7 @@ def without_empty_fetches(events: List[Event], topics: List[Topic]) -> List[Even
 def write(path: pathlib.Path, it: Conversation) -> None:
     lines = [f"# {text}" for text in it.title] + [f"topic {topic.word()}" for topic in it.topics] + ["paced"] * it.paced
     for event in it.events:
-        lines.append(f"{event.moment:.0f} {event.side} {event.connection} {event.what} {event.frame.hex()}".rstrip())
+        lines.append(f"{event.moment:.0f} {event.connection} {event.what} {event.frame.hex()}".rstrip())
     path.write_text("\n".join(lines) + "\n", encoding="utf-8")
 
 

@@ -1,4 +1,4 @@
-"""Who may read which partition, as the frames at a coordinator alone tell it."""
+"""Who may read which partition, as the heartbeats and commits alone tell it."""
 
 import collections
 import functools

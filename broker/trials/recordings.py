@@ -13,7 +13,7 @@ NAMES = ("orders",)
 
 
 def come(t: Trial, name: str, what: str, **settings: Any) -> Consumers:
-    """A consumer that commits where it is asked to alone."""
+    """A consumer that commits only if it is asked to."""
     return t.come(name, what, "-c", 0, topics="orders", **settings)
 
 
@@ -108,7 +108,7 @@ def wait_for_heartbeat(t: Trial) -> None:
 
 
 def codes_of(t: Trial) -> List[int]:
-    """The codes of c1's commits, each once where its partitions have one."""
+    """The codes of c1's commits, each once if its partitions have one."""
     return [code for it in t.commits("c1") for code in sorted({*it.codes})]
 
 

@@ -1,11 +1,10 @@
-"""Stands on both sides of a front end: passes frames on, records them, and loses or delays some on demand.
+"""Stands before brokers: passes frames on, records them, and loses or delays some on demand.
 
-usage: relay.py --record FILE --control PORT [--serial] [--fetches] SIDE:PORT:TARGET..
+usage: relay.py --record FILE --control PORT [--serial] [--fetches] PORT:TARGET..
 
-Each SIDE:PORT:TARGET listens on a port of 127.0.0.1, and opens a connection to port TARGET there for each connection that comes,
-in their order. SIDE is `client` where clients come to the front end, and `coordinator` where the front end comes to a coordinator.
+Each PORT:TARGET listens on a port of 127.0.0.1, and opens a connection to port TARGET there for each connection that comes, in their order.
 
-FILE gets a line for each event: seconds, side, number of the connection on its side, and what happened:
+FILE gets a line for each event: seconds, number of the connection, and what happened:
 
     open TARGET    a connection
     > HEX          a request, as it goes on
@@ -13,11 +12,10 @@ FILE gets a line for each event: seconds, side, number of the connection on its 
     end near       the connection's end by who opened it, or by a cut
     end far        by who was connected to
 
-The frames of Fetch are passed on and not recorded, unless `--fetches` is given. Metadata and FindCoordinator name the front end's
-ports to clients; so that their connections come through here, TARGET is replaced by PORT in what a front end replies.
+The frames of Fetch are passed on and not recorded, unless `--fetches` is given. Metadata and FindCoordinator name the brokers' ports to
+clients; so that their connections come through here, TARGET is replaced by PORT in what a broker replies.
 
-With `--serial` one request at a time is under way on the side of the clients, but for Fetch, so that the record's order is the order
-in which all was done.
+With `--serial` one request at a time is under way, but for Fetch, so that the record's order is the order in which all was done.
 
 The control port takes lines, and answers each with one:
 
@@ -25,7 +23,7 @@ The control port takes lines, and answers each with one:
     cut CLIENT before|after     its next heartbeat is lost and the connection ends; or the heartbeat's reply
     cut CLIENT after-commit     the reply to its next commit
     cut-all                     ends all connections
-    hold CLIENT heartbeat|commit SECONDS   its next one goes on so much later, and what comes behind it on its connection too
+    hold CLIENT heartbeat|commit SECONDS   its next one goes on so much later, and what comes after it on its connection too
     hold-reply CLIENT heartbeat|commit SECONDS   the same for the reply to its next one
 """
 
@@ -48,7 +46,7 @@ Side = Tuple[asyncio.StreamReader, asyncio.StreamWriter]
 
 
 async def read_frame(reader: asyncio.StreamReader) -> bytes:
-    """A whole frame; no bytes where the stream ends."""
+    """A whole frame; no bytes if the stream ends."""
     try:
         size = await reader.readexactly(4)
         count = struct.unpack(">i", size)[0]
@@ -67,7 +65,7 @@ class Relay:
     def __init__(self, record: TextIO, serial: bool, fetches: bool) -> None:
         self.record, self.serial, self.fetches = record, serial, fetches
         self.ports: Dict[bytes, bytes] = {}
-        self.counts: Dict[str, int] = collections.Counter()
+        self.opened = 0
         self.opening, self.turn = asyncio.Lock(), asyncio.Lock()
         self.connections: Set[Connection] = set()
         # For each client, and the API's key: how its next request is cut, by how many seconds it is held, and its reply.
@@ -75,9 +73,8 @@ class Relay:
         self.holds: Dict[Tuple[str, int], float] = {}
         self.reply_holds: Dict[Tuple[str, int], float] = {}
 
-    async def listen(self, side: str, port: int, target: int) -> None:
-        if side == "client":
-            self.ports[HOST.encode() + struct.pack(">i", target)] = HOST.encode() + struct.pack(">i", port)
+    async def listen(self, port: int, target: int) -> None:
+        self.ports[HOST.encode() + struct.pack(">i", target)] = HOST.encode() + struct.pack(">i", port)
 
         async def accept(*near: object) -> None:
             async with self.opening:
@@ -86,8 +83,8 @@ class Relay:
                 except OSError:
                     near[1].close()
                     return
-                self.counts[side] += 1
-                connection = Connection(self, side, self.counts[side], near, far)
+                self.opened += 1
+                connection = Connection(self, self.opened, near, far)
                 self.connections.add(connection)
                 connection.say("open", target)
             await connection.run()
@@ -116,8 +113,8 @@ class Relay:
 class Connection:
     """One that came, and the one that was opened for it."""
 
-    def __init__(self, relay: Relay, side: str, number: int, near: Side, far: Side) -> None:
-        self.relay, self.side, self.number = relay, side, number
+    def __init__(self, relay: Relay, number: int, near: Side, far: Side) -> None:
+        self.relay, self.number = relay, number
         (self.near_reader, self.near), (self.far_reader, self.far) = near, far
         # The client that sent heartbeats or commits over it; the keys of the requests under way, and by how many seconds their
         # replies are late, or LOST.
@@ -127,7 +124,7 @@ class Connection:
         self.replied = asyncio.Event()
 
     def say(self, *words: object) -> None:
-        self.relay.record.write(f"{time.time():.6f} {self.side} {self.number} {' '.join(map(str, words))}\n")
+        self.relay.record.write(f"{time.time():.6f} {self.number} {' '.join(map(str, words))}\n")
 
     def say_frame(self, mark: str, key: int, frame: bytes) -> None:
         if key != FETCH or self.relay.fetches:
@@ -155,7 +152,7 @@ class Connection:
     async def pass_requests(self) -> None:
         while frame := await read_frame(self.near_reader):
             key, client = head_of(frame)
-            if self.side == "client" and key in KINDS.values():
+            if key in KINDS.values():
                 self.client = client
                 await asyncio.sleep(self.relay.holds.pop((client, key), 0.0))
             cut = self.relay.cuts.pop((self.client, key), "")
@@ -164,7 +161,7 @@ class Connection:
             if self.ended:
                 return
             late = LOST if cut else self.relay.reply_holds.pop((self.client, key), 0.0)
-            if self.relay.serial and self.side == "client" and key != FETCH:
+            if self.relay.serial and key != FETCH:
                 async with self.relay.turn:
                     await self.send(frame, key, late)
                     await self.replied.wait()
@@ -193,7 +190,7 @@ class Connection:
             if late == LOST:
                 return self.cut()
             await asyncio.sleep(late)
-            for old, new in self.relay.ports.items() if self.side == "client" else ():
+            for old, new in self.relay.ports.items():
                 frame = frame.replace(old, new)
             with contextlib.suppress(ConnectionError):
                 self.near.write(frame)
@@ -208,12 +205,12 @@ async def main() -> None:
     words.add_argument("--control", type=int, required=True)
     words.add_argument("--serial", action="store_true")
     words.add_argument("--fetches", action="store_true")
-    words.add_argument("sides", nargs="+", metavar="SIDE:PORT:TARGET")
+    words.add_argument("ways", nargs="+", metavar="PORT:TARGET")
     options = words.parse_args()
     with open(options.record, "w", buffering=1, encoding="utf-8") as record:
         relay = Relay(record, options.serial, options.fetches)
-        for side, port, target in (word.split(":") for word in options.sides):
-            await relay.listen(side, int(port), int(target))
+        for port, target in (word.split(":") for word in options.ways):
+            await relay.listen(int(port), int(target))
         control = await asyncio.start_server(relay.control, HOST, options.control)
         print("listening", flush=True)
         await control.serve_forever()

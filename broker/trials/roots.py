@@ -16,14 +16,14 @@ INSTALL_SECONDS = 1_800
 
 @dataclasses.dataclass(frozen=True)
 class Client:
-    """The release whose root has it, words for consumer.py, and settings that it is given where a scenario names no assignor."""
+    """The release whose root has it, words for consumer.py, and settings that it is given if a scenario names no assignor."""
 
     release: str
     words: Tuple[str, ...] = ()
     settings: Tuple[str, ...] = ()
 
 
-# 2.8.0 calls its application in the classic way where it is told of no assignor.
+# 2.8.0 calls its application in the classic way if it is told of no assignor.
 CLIENTS = {
     "trixie": Client("trixie", (), ("group.remote.assignor=uniform",)),
     "sid": Client("sid"),

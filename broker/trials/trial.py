@@ -18,7 +18,9 @@ from clients.stand import HOST, Stand, Topic
 ORDERS = Topic("orders", "aaaaaaaa-0000-4000-8000-000000000001", 12)
 BILLS = Topic("bills", "bbbbbbbb-0000-4000-8000-000000000002", 7)
 WIDE = Topic("wide", "cccccccc-0000-4000-8000-000000000003", 200)
-TOPICS = (ORDERS, BILLS, WIDE)
+# Those that a regular expression names.
+MATCHED = (Topic("orders-eu", "dddddddd-0000-4000-8000-000000000004", 4), Topic("orders-us", "eeeeeeee-0000-4000-8000-000000000005", 3))
+TOPICS = (ORDERS, BILLS, WIDE, *MATCHED)
 BOTH = ("orders", "bills")
 # How many seconds without a change are quiet: a heartbeat's interval, and some.
 QUIET = 6.5
@@ -26,9 +28,9 @@ QUIET = 6.5
 
 @dataclasses.dataclass(frozen=True)
 class Setting:
-    """What all trials share: the coordinator's program, the folder of the roots, and the one for what is recorded."""
+    """What all trials share: the command of the broker, the folder of the roots, and the one for what is recorded."""
 
-    program: str
+    broker: Sequence[str]
     roots: pathlib.Path
     out: pathlib.Path
 
@@ -144,7 +146,7 @@ class Crowd:
         return True
 
     def problem(self, topics: Sequence[str], names: Sequence[str] = ()) -> str:
-        """Why it isn't so that each partition of these topics has exactly one owner; nothing where it is."""
+        """Why it isn't so that each partition of these topics has exactly one owner; nothing if it is."""
         with self.lock:
             every = {f"{name}:{index}" for name in topics for index in range(self.topics[name].count)}
             owners = collections.Counter(p for name, parts in self.owned.items() if not names or name in names for p in parts)
@@ -157,7 +159,7 @@ class Crowd:
             return collections.Counter(len(parts) for name, parts in self.owned.items() if not names or name in names)
 
     def uneven(self, names: Sequence[str] = ()) -> str:
-        """How many partitions how many consumers own, where that is more or less than one apart."""
+        """How many partitions how many consumers own, if that is more or less than one apart."""
         counts = self.counts(names)
         return f"the counts are {dict(counts)}" if counts and max(counts) - min(counts) > 1 else ""
 
@@ -184,13 +186,14 @@ class Crowd:
 
 
 class Trial(Crowd):
-    def __init__(self, scenario: str, client: str, setting: Setting, topics: Sequence[Topic] = TOPICS, **stand: Any) -> None:
+    def __init__(self, scenario: str, client: str, setting: Setting, topics: Sequence[Topic] = TOPICS, more: Sequence[str] = (), relay: Sequence[str] = ()) -> None:
+        """`more` and `relay` are further words for the broker and for the relay."""
         super().__init__(client, setting.roots, setting.out / f"{scenario}-{client}", topics)
         self.scenario = scenario
-        # Moments at which the groups were lost, and whether the coordinator may close connections.
+        # Moments at which the groups were lost, and whether the broker may close connections.
         self.restarts: List[float] = []
         self.may_close = False
-        self.stand = Stand(setting.program, topics, self.folder, **stand)
+        self.stand = Stand([*setting.broker, *more], topics, self.folder, relay)
         self.bootstrap = f"{HOST}:{self.stand.port}"
 
     def is_old(self) -> bool:
@@ -198,7 +201,7 @@ class Trial(Crowd):
         return any(it.text.startswith("2.8.") for it in self.of("START"))
 
     def exchanges(self, client: str = "", since: float = 0.0) -> List[Exchange]:
-        """What has come to the coordinator from this client id, and wasn't answered before a moment."""
+        """The heartbeats and commits of this client id that weren't answered before a moment."""
         found = read_exchanges(str(self.folder / "frames.log"))
         return [it for it in found if client in ("", it.head.client) and it.answered >= since]
 
@@ -213,7 +216,7 @@ class Trial(Crowd):
     def end(self) -> None:
         self.close_all()
         gone = self.stand.end()
-        self.check(not gone, "coordinator, front end and relay went on to the end" + f" ({', '.join(gone)} didn't)" * bool(gone))
+        self.check(not gone, "the broker and the relay went on to the end" + f" ({', '.join(gone)} didn't)" * bool(gone))
 
 
 @contextlib.contextmanager

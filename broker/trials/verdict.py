@@ -31,9 +31,9 @@ def judge_prints(trial: Crowd) -> Dict[str, List[Print]]:
     if late:
         trial.note(f"consumers that were closing were assigned {late} partitions, which isn't counted")
     trial.check(not faults, f"each gave up what it had, and was assigned what it hadn't{told(faults)}")
-    wrong = [it for it in trial.prints if it.kind == "WRONG" or it.kind == "RECORD" and not is_right(it)]
+    wrong = [it for it in trial.prints if it.kind == "RECORD" and not is_right(it)]
     trial.check(not wrong, f"each record was the right one{told(wrong)}")
-    errors = [it for it in trial.prints if it.kind in ("ERROR", "FATAL") and not any(word in it.text for word in trial.expected)]
+    errors = [it for it in trial.prints if it.kind in ("ERROR", "FATAL", "WRONG") and not any(word in it.text for word in trial.expected)]
     trial.check(not errors, f"no error but those that belong here{told(errors)}")
     return by_group
 
@@ -50,7 +50,7 @@ def judge_frames(trial: Trial, exchanges: List[Exchange]) -> None:
     trial.note(f"heartbeat codes {dict(sorted(holds.heartbeat_codes.items()))}, commit codes {dict(sorted(holds.commit_codes.items()))}")
     closes = [it.connection for it in exchanges if it.closes]
     if not trial.may_close:
-        trial.check(not closes, f"the coordinator closed no connection{told(closes)}")
+        trial.check(not closes, f"the broker closed no connection over a heartbeat or a commit{told(closes)}")
 
 
 def judge_reading(trial: Trial, group: str, prints: List[Print], exchanges: List[Exchange]) -> None:

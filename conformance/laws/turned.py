@@ -26,7 +26,7 @@ def code_of(path: pathlib.Path, text: str) -> types.CodeType:
 
 @functools.lru_cache(maxsize=None)
 def text_of(name: str) -> str:
-    return (RULES / f"{name}.py").read_text(encoding="utf-8")
+    return (TOP / RULES / f"{name}.py").read_text(encoding="utf-8")
 
 
 def rules_with(fault: Fault) -> types.ModuleType:
@@ -45,7 +45,7 @@ def rules_with(fault: Fault) -> types.ModuleType:
         module.__package__ = "turned_rules"
         sys.modules[module.__name__] = module
         setattr(package, name, module)
-        exec(code_of(RULES / f"{name}.py", text), module.__dict__)  # pylint: disable=exec-used
+        exec(code_of(TOP / RULES / f"{name}.py", text), module.__dict__)  # pylint: disable=exec-used
     return package
 
 

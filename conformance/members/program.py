@@ -98,7 +98,7 @@ class Program:
         self.is_read.clear()
 
     def fill(self) -> None:
-        """Fills the pipe: whatever it prints next waits. (Where the system lets us; what is written here isn't its output.)"""
+        """Fills the pipe: whatever it prints next waits. (If the system lets us; what is written here isn't its output.)"""
         # (Twice: the reader may have been waiting for the first one.)
         for _ in range(2):
             with contextlib.suppress(OSError), open(f"/proc/{self.process.pid}/fd/1", "wb", buffering=0, opener=unblocked) as pipe:

@@ -63,7 +63,7 @@ class Printed(NamedTuple):
 
 class Record:
     def __init__(self, most: int = MOST_FRAMES) -> None:
-        """Keeps so many requests at most; none where nobody judges them."""
+        """Keeps so many requests at most; none if nobody judges them."""
         self.began, self.most = time.monotonic(), most
         self.changed = threading.Condition()
         self.frames: List[Frame] = []

@@ -5,7 +5,6 @@
     kafka         a model of Apache Kafka's coordinator, which is one of these
     found.json    by which cases each fault was found
     faults        reads them, and makes copies of the rules with one
-    serve         answers frames by the rules in Python
-    stand         that, with the front end before it: a broker
+    stand         starts the broker in Python with one
     __main__      the command
 """

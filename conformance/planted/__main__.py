@@ -15,7 +15,7 @@ from typing import List, NamedTuple, Sequence, Set, Tuple
 from conformance.broker import NoBroker
 from conformance.case import FREE, MUST, Case
 from conformance.cases import load
-from conformance.planted.faults import RULES, BadFault, Fault, found_before, plant, read, variants, write_found
+from conformance.planted.faults import TOP, BadFault, Fault, found_before, plant, read, variants, write_found
 from conformance.planted.stand import SESSION_SECONDS, Broken, Stand, over_rules, stop
 from conformance.play import Settings
 from conformance.report import KNOWN, counts, known_in, story
@@ -23,7 +23,7 @@ from conformance.runner import FAILED, Result, Runner
 from conformance.starter import Starter
 
 TIMEOUT, PATIENCE, VARIANT_PATIENCE = 5.0, 1.5, 10.0
-# The session timeout where slow cases are played, and how much later its end may be noticed.
+# The session timeout if slow cases are played, and how much later its end may be noticed.
 SHORT_SESSION, LATE = 3.0, 3.0
 # After so many cases that failed no more are played against a fault.
 MOST_FAILED = 12
@@ -71,19 +71,19 @@ def serve(faults: Sequence[Fault]) -> int:
         for fault in faults:
             plant(fault, pathlib.Path(folder))
         sessions = [float(fault.words["session"]) for fault in faults if "session" in fault.words]
-        with over_rules(pathlib.Path(folder) if faults else RULES.parent, *sessions) as stand:
-            print(stand.addresses[0], flush=True)
+        with over_rules(pathlib.Path(folder) if faults else TOP, *sessions) as stand:
+            print("%s:%d" % stand.address, flush=True)
             signal.pause()
     return 0
 
 
 def show(faults: Sequence[Fault], cases: Sequence[Case], options: argparse.Namespace) -> int:
-    """Status 0 where each fault is found by the case that names it."""
+    """Status 0 if each fault is found by the case that names it."""
     finders: Set[str] = set()
     unfound, kept = 0, found_before()
     with contextlib.ExitStack() as stack:
         pool = concurrent.futures.ThreadPoolExecutor(max(1, options.jobs))
-        # (Where this is stopped, what isn't begun yet never is.)
+        # (If this is stopped, what isn't begun yet never is.)
         stack.callback(pool.shutdown, cancel_futures=True)
         for found in pool.map(lambda fault: try_fault(fault, cases, options.named), faults):
             unfound += found.fault.case not in found.cases
@@ -120,15 +120,14 @@ def try_variant(variant: Fault, cases: Sequence[Case], options: argparse.Namespa
     with tempfile.TemporaryDirectory() as folder:
         plant(variant, pathlib.Path(folder))
         with over_rules(pathlib.Path(folder), session) as stand:
-            settings = Settings(VARIANT_PATIENCE, session, LATE, f"kill -USR1 {stand.coordinators[0]}", rounds=options.variants)
+            settings = Settings(VARIANT_PATIENCE, session, LATE, f"kill -USR1 {stand.process}", rounds=options.variants)
             results = [*runner_of(stand, settings, variant).run([case for case in cases if options.slow or not case.is_slow])]
     return variant, results, time.monotonic() - began
 
 
 def runner_of(stand: Stand, settings: Settings, fault: Fault) -> Runner:
-    host, _, port = stand.addresses[0].rpartition(":")
     version = int(fault.words["heartbeat"]) if "heartbeat" in fault.words else None
-    return Runner(Starter((host, int(port)), None, TIMEOUT), settings, TIMEOUT, version, None)
+    return Runner(Starter(stand.address, None, TIMEOUT), settings, TIMEOUT, version, None)
 
 
 def tell(found: Found) -> None:
@@ -148,7 +147,7 @@ def try_fault(fault: Fault, cases: Sequence[Case], named: bool) -> Found:
     with tempfile.TemporaryDirectory() as folder:
         plant(fault, pathlib.Path(folder))
         with over_rules(pathlib.Path(folder), session) as stand:
-            settings = Settings(PATIENCE, session, LATE, f"kill -USR1 {stand.coordinators[0]}")
+            settings = Settings(PATIENCE, session, LATE, f"kill -USR1 {stand.process}")
             runner = runner_of(stand, settings, fault)
             results = [*runner.run(first)]
             results += runner.run_side_by_side(others) if is_slow else []

@@ -1,4 +1,4 @@
-"""The planted faults and the variants, and copies of the rules and of the front end that have one."""
+"""The planted faults and the variants, and copies of the rules and of the broker in Python that have one."""
 
 from __future__ import annotations
 
@@ -15,7 +15,7 @@ VARIANTS, KAFKA = FILE.with_name("variants.txt"), FILE.with_name("kafka.py")
 SWITCHES = ("STEP_EPOCH", "AWAY_DROPS_PENDING", "REJOIN_FIXED", "KIP_1251")
 FOUND = FILE.with_name("found.json")
 TOP = FILE.parents[2]
-RULES, BROKER = TOP / "conformance/rules", TOP / "broker"
+RULES, BROKER = "conformance/rules", "broker"
 
 
 @dataclasses.dataclass
@@ -94,11 +94,12 @@ def write_found(found: Dict[str, List[str]]) -> None:
 
 
 def plant(fault: Fault, folder: pathlib.Path) -> None:
-    """Makes copies of the rules and of the front end with the fault in a folder."""
+    """Makes copies of the rules and of the broker with the fault in a folder, as they lie in the repository."""
     for source in (RULES, BROKER):
-        shutil.copytree(source, folder / source.name, ignore=shutil.ignore_patterns("__pycache__", "tests"))
+        shutil.copytree(TOP / source, folder / source, ignore=shutil.ignore_patterns("__pycache__", "tests"))
+    shutil.copy(TOP / "conformance/__init__.py", folder / "conformance")
     if fault.words.get("base") == "kafka":
-        shutil.copy(KAFKA, folder / RULES.name / "group.py")
+        shutil.copy(KAFKA, folder / RULES / "group.py")
     for edit in fault.edits:
-        path = folder / (edit.file if edit.file.startswith(BROKER.name + "/") else f"{RULES.name}/{edit.file}")
+        path = folder / (edit.file if edit.file.startswith(f"{BROKER}/") else f"{RULES}/{edit.file}")
         path.write_text(edit.made_in(path.read_text(encoding="utf-8"), fault.name), encoding="utf-8")

@@ -1,20 +1,18 @@
-"""A broker: the rules in Python over sockets, and the front end before them."""
+"""A broker in Python, with its rules."""
 
 from __future__ import annotations
 
 import contextlib
-import os
 import pathlib
 import re
 import subprocess
 import sys
-from typing import IO, Iterator, List, NamedTuple, NoReturn, Sequence, Set, Tuple
+import threading
+from typing import Iterator, NamedTuple, NoReturn, Set, Tuple
 
-from conformance.planted.faults import BROKER, TOP
+from conformance.planted.faults import TOP
+from conformance.starter import drain
 
-# The folder in which `python3 -m broker` finds the front end.
-FRONT_END = BROKER.parent
-SERVE = pathlib.Path(__file__).resolve().parent / "serve.py"
 TOPICS = (
     "orders:11111111-1111-1111-1111-111111111111:4",
     "bills:22222222-2222-2222-2222-222222222222:3",
@@ -33,34 +31,10 @@ class Broken(Exception):
 
 
 class Stand(NamedTuple):
-    """Where the broker's nodes listen, and the process ids of the coordinators."""
+    """Where the broker listens, and its process id."""
 
-    addresses: List[str]
-    coordinators: List[int]
-
-
-def begin(stack: contextlib.ExitStack, words: Sequence[str], folder: pathlib.Path, lines: int = 1) -> Tuple[int, List[str]]:
-    """Starts a program that ends with the stack. Gives its process id and its first lines."""
-    # (The rules' server ends with its standard input.)
-    environment = {**os.environ, "PYTHONDONTWRITEBYTECODE": "1"}
-    pipe = subprocess.PIPE
-    process = subprocess.Popen(words, cwd=folder, stdin=pipe, stdout=pipe, stderr=subprocess.DEVNULL, env=environment)
-    LIVE.add(process)
-    stack.callback(end, process)
-    assert process.stdout is not None
-    printed = [process.stdout.readline().decode().strip() for _ in range(lines)]
-    if not all(line.startswith("listening ") for line in printed):
-        raise Broken(f"{' '.join(words)} didn't begin to listen")
-    drain(stack, process.stdout)
-    return process.pid, printed
-
-
-def drain(stack: contextlib.ExitStack, output: IO[bytes]) -> None:
-    """What it prints further is thrown away, so that it never waits for a reader."""
-    stack.callback(output.close)
-    sink = subprocess.Popen(["cat"], stdin=output, stdout=subprocess.DEVNULL)
-    LIVE.add(sink)
-    stack.callback(end, sink)
+    address: Tuple[str, int]
+    process: int
 
 
 def stop(*_: object) -> NoReturn:
@@ -81,22 +55,17 @@ def end(process: subprocess.Popen[bytes]) -> None:
 
 
 @contextlib.contextmanager
-def over_rules(rules: pathlib.Path, session: float = SESSION_SECONDS) -> Iterator[Stand]:
-    """A broker over the rules in a folder, with the front end that is there, if one is."""
-    with contextlib.ExitStack() as stack:
-        pid, lines = begin(stack, [sys.executable, str(SERVE), str(rules), str(session), *TOPICS], TOP)
-        port = lines[0].split()[1]
-        folder = rules if (rules / BROKER.name).is_dir() else FRONT_END
-        yield Stand(front_end(stack, ["--coordinator", f"127.0.0.1:{port}"], 1, folder), [pid])
-
-
-@contextlib.contextmanager
-def over_program(program: str, count: int = 1) -> Iterator[Stand]:
-    """A broker of so many nodes over the program `coord`."""
-    with contextlib.ExitStack() as stack:
-        yield Stand(front_end(stack, ["--program", program, *["--start"] * count], count), [])
-
-
-def front_end(stack: contextlib.ExitStack, words: Sequence[str], count: int, folder: pathlib.Path = FRONT_END) -> List[str]:
-    _, lines = begin(stack, [sys.executable, "-m", "broker", "--port", "0", *words, *TOPICS], folder, count)
-    return [re.split(r"\s+", line)[1] for line in lines]
+def over_rules(folder: pathlib.Path = TOP, session: float = SESSION_SECONDS) -> Iterator[Stand]:
+    """The broker in Python of a folder, with the rules that are there. What it prints further is thrown away."""
+    words = [sys.executable, "-B", "-m", "broker", "--start-rules", "--session", str(session), "--port", "0", *TOPICS]
+    process = subprocess.Popen(words, cwd=folder, stdout=subprocess.PIPE, stderr=subprocess.DEVNULL)
+    LIVE.add(process)
+    try:
+        assert process.stdout is not None
+        found = re.match(rb"listening (\S+):(\d+) ", process.stdout.readline())
+        if not found:
+            raise Broken(f"{' '.join(words)} didn't begin to listen")
+        threading.Thread(target=drain, args=(process.stdout,), daemon=True).start()
+        yield Stand((found[1].decode(), int(found[2])), process.pid)
+    finally:
+        end(process)

@@ -1,4 +1,4 @@
-"""What the checks share that start programs which serve: `stand` has ports, the programs on them, and a front end with coordinators and a relay."""
+"""What the checks share that start programs which serve: `stand` has ports, the programs on them, and a broker with a relay before it."""
 
 import sys
 

@@ -1,4 +1,4 @@
-"""Coordinators, a front end and a relay on both sides of it, on ports of their own."""
+"""A broker and a relay before it, on ports of their own."""
 
 import contextlib
 import dataclasses
@@ -95,10 +95,10 @@ class Programs:
         if which in (signal.SIGKILL, signal.SIGTERM):
             self.running.pop(name).wait()
 
-    def relay(self, control: int, sides: Sequence[str], *options: str) -> None:
+    def relay(self, control: int, ways: Sequence[str], *options: str) -> None:
         """Starts a relay that records frames.log in the folder."""
         record = ["--record", str(self.folder / "frames.log"), "--control", str(control)]
-        self.start("relay", "listening", [sys.executable, "-B", str(RELAY), *record, *options, *sides])
+        self.start("relay", "listening", [sys.executable, "-B", str(RELAY), *record, *options, *ways])
 
     def end(self) -> List[str]:
         """Ends all programs. Names those that had ended before."""
@@ -115,32 +115,23 @@ class Programs:
 
 
 class Stand(Programs):
-    """What clients connect to, at `port`, through a relay, unless that is left out."""
+    """A broker, which clients reach at `port`: through a relay with these options, or directly if they are None."""
 
-    def __init__(self, program: str, topics: Sequence[Topic], folder: pathlib.Path, coordinators: int = 1, **how: Optional[Sequence[str]]) -> None:
-        """`relay` and `front_end` are words more for these; no relay where it is None."""
+    def __init__(self, broker: Sequence[str], topics: Sequence[Topic], folder: pathlib.Path, relay: Optional[Sequence[str]] = ()) -> None:
+        """The broker is a command that is given its port and the topics."""
         super().__init__(folder)
-        relay, front_end = how.get("relay", ()), how.get("front_end") or ()
-        self.program, self.topic_words = program, [topic.word() for topic in topics]
-        self.ports = Ports(4 * coordinators + 1)
-        *ports, self.control = self.ports.numbers
-        self.backs, taps, fronts, doors = (ports[at * coordinators : (at + 1) * coordinators] for at in range(4))
-        self.tap, self.front = taps[0], fronts[0]
-        self.port = fronts[0] if relay is None else doors[0]
-        for number in range(coordinators):
-            self.serve(number)
-        if relay is not None:
-            sides = [f"coordinator:{tap}:{back}" for tap, back in zip(taps, self.backs)]
-            self.relay(self.control, [*sides, *(f"client:{door}:{front}" for door, front in zip(doors, fronts))], *relay)
-        several = [word for port in (self.backs if relay is None else taps) for word in ("--coordinator", f"{HOST}:{port}")]
-        words = [sys.executable, "-B", "-m", "broker", *several, "--port", str(fronts[0]), *front_end]
-        self.start("front-end", f"listening {HOST}:{fronts[0]} ", [*words, *self.topic_words])
+        self.ports = Ports(3)
+        self.own, self.port, self.control = self.ports.numbers
+        self.words = [*broker, "--port", str(self.own), *(topic.word() for topic in topics)]
+        self.serve()
+        if relay is None:
+            self.port = self.own
+        else:
+            self.relay(self.control, [f"{self.port}:{self.own}"], *relay)
 
-    def serve(self, number: int = 0) -> None:
-        """Starts a coordinator, for the first time or again."""
-        port = self.backs[number]
-        words = [self.program, "serve", "--port", str(port), "--workers", "4", "--shards", "4", "--connections", "1000000"]
-        self.start(f"coordinator-{number}", f"listening {port}\n", [*words, *self.topic_words])
+    def serve(self) -> None:
+        """Starts the broker, for the first time or again."""
+        self.start("broker", f"listening {HOST}:{self.own}", self.words)
 
     def tell_relay(self, line: str) -> None:
         with socket.create_connection((HOST, self.control), END_SECONDS) as connection:
@@ -150,16 +141,10 @@ class Stand(Programs):
             raise Failed(f"the relay answers {answer} to {line}")
 
     def send(self, frame: bytes) -> bytes:
-        """The coordinator's reply to a frame that comes over a new connection; none where it closes."""
-        with socket.create_connection((HOST, self.tap), END_SECONDS) as connection:
+        """The reply to a frame that comes over a new connection; none if it is closed."""
+        with socket.create_connection((HOST, self.port), END_SECONDS) as connection:
             connection.sendall(frame)
             return read_frame(connection)
-
-    def complaints(self) -> List[str]:
-        """What the front end said on standard error, and the programs that have ended."""
-        said = (self.folder / "front-end.txt").read_text(encoding="utf-8").splitlines()
-        gone = [f"{name} has ended" for name, process in self.running.items() if process.poll() is not None]
-        return [line for line in said if line.startswith("broker: ")] + gone
 
     def end(self) -> List[str]:
         gone = super().end()

@@ -31,7 +31,7 @@ PROGRAM_CRATE = "scenario_cli"
 # How long a case may take, in seconds, and how much of a difference is shown, in lines.
 LIMIT, SHOWN = 300, 40
 ENDINGS = (".in", ".out", ".err", ".status", ".args", ".made")
-# A folder in cases/ that isn't a subcommand's: tools/check-conversations plays what is in it.
+# A folder in cases/ that isn't a subcommand's: tools/check-coord-broker plays what is in it.
 CONVERSATIONS = "conversations"
 # The words by which the program is started for a case with these words; none where the case isn't for it.
 Program = Callable[[Sequence[str]], Sequence[str]]

@@ -22,10 +22,8 @@ LIST = """
 ahead: edits --tests
 in turn: check-launcher *
 in turn: check-server PROGRAM *
-in turn: check-broker PROGRAM *
-in turn: check-coord-broker BROKER
-in turn: check-conversations PROGRAM *
-in turn: check-conformance PROGRAM *
+in turn: check-broker *
+in turn: check-coord-broker BROKER *
 in turn: check-members *
 in turn: check-failover --short
 beside: cases PROGRAM *
@@ -33,7 +31,7 @@ beside: cases BY_RATTLE
 beside: check-readme PROGRAM *
 beside: refuse-growths --short
 beside: check-library
-beside: check-package PROGRAM
+beside: check-package PROGRAM BROKER
 beside: check-model *
 beside: check-laws *
 beside: check-pictures PROGRAM *
@@ -46,7 +44,9 @@ proved: edits --accepted
 """
 CHECKS = [tuple(line.removesuffix(" *").split(": ")) for line in LIST.strip().splitlines()]
 WITHOUT_PROOFS = [it for it, line in zip(CHECKS, LIST.strip().splitlines()) if line.endswith(" *")]
-# How many run at once behind `rt ci`, what leaves the processors to others, and how long a check may take, in seconds.
+# How the programs are built without proofs.
+UNPROVED = {"PROGRAM": ["./coord", "--unproved", "reply"], "BROKER": ["./coord", "--unproved", "broker", "--version"]}
+# How many run at once after `rt ci`, what leaves the processors to others, and how long a check may take, in seconds.
 AT_ONCE, NICE, LIMIT = 4, 10, 7_200
 # What `rt ci` says where all is well; everything else that it writes is shown as it comes.
 NOISE = re.compile(
@@ -76,7 +76,7 @@ def say(line: str) -> None:
 
 
 def outcome(name: str, lines: List[str], status: int, began: float, processor: float, more: str = "") -> Outcome:
-    """By the last line of a check, and its status; a failure where the line says neither how many passed nor how many failed."""
+    """By the last line of a check, and its status; a failure if the line says neither how many passed nor how many failed."""
     found = LAST_LINE.fullmatch(lines[-1])
     passed, failed = (int(found[1]) - int(found[3]) * (found[2] == "scripts"), int(found[3])) if found else (0, 1)
     failed = max(failed, int(status != 0))
@@ -102,8 +102,8 @@ def prove(words: List[str]) -> Tuple[Outcome, List[str]]:
 
 
 def run(when: str, text: str, nice: Optional[int] = None) -> Outcome:
-    """Runs a check: its lines are shown where it fails, else its last one."""
-    began, name = time.monotonic(), re.sub("PROGRAM ?", "", text).strip()
+    """Runs a check: its lines are shown if it fails, else its last one."""
+    began, name = time.monotonic(), re.sub("(PROGRAM|BROKER) ?", "", text).strip()
     words = [MEANINGS.get(word, word) for word in text.split()]
     if any(word.startswith((BUILT, BROKER)) and not os.path.isfile(word) for word in words):
         return Outcome(name, note="not run: no program")
@@ -122,7 +122,7 @@ def run_in(pool: concurrent.futures.Executor, whens: Tuple[str, ...]) -> List["c
 
 
 def with_proofs(command: List[str]) -> int:
-    """Runs `rt ci` and every check. The status is 0 only where nothing failed."""
+    """Runs `rt ci` and every check. The status is 0 only if nothing failed."""
     with concurrent.futures.ThreadPoolExecutor(AT_ONCE) as pool:
         begun = run_in(pool, (AHEAD,))
         first, spent = prove(command)
@@ -135,18 +135,21 @@ def with_proofs(command: List[str]) -> int:
     return told(done)
 
 
-def without_proofs(build: List[str]) -> int:
-    """Builds the program without proofs, and runs every check that needs none. The status is 0 only where nothing failed."""
-    MEANINGS["PROGRAM"] = f"{ROOT}/out/coord-unproved"
+def without_proofs() -> int:
+    """Builds the programs without proofs, and runs every check that needs none. The status is 0 only if nothing failed."""
+    MEANINGS.update({"PROGRAM": f"{ROOT}/out/coord-unproved", "BROKER": f"{ROOT}/out/coord-broker-unproved"})
+    done = []
     with concurrent.futures.ThreadPoolExecutor(AT_ONCE) as pool:
-        begun = [pool.submit(run, *it, 0) for it in WITHOUT_PROOFS if "PROGRAM" not in it[1]]
-        say(" ".join(build))
-        ran = commands.run(build, ROOT, limit=LIMIT)
-        say(f"{' '.join(build)}: {ran.lines()[-1]}")
-        first = Outcome("the program, not proved", int(not ran.status), int(ran.status != 0), ran.wall, ran.processor, "FAILED" * (ran.status != 0))
-        begun += [pool.submit(run, *it, 0) for it in WITHOUT_PROOFS if "PROGRAM" in it[1] and not ran.status]
-        done = [first, *(it.result() for it in begun)]
-    others = ", ".join(re.sub(" ?PROGRAM", "", text) for when, text in CHECKS if (when, text) not in WITHOUT_PROOFS)
+        begun = [pool.submit(run, *it, 0) for it in WITHOUT_PROOFS if not {*UNPROVED} & {*it[1].split()}]
+        for word, build in UNPROVED.items():
+            say(" ".join(build))
+            ran = commands.run(build, ROOT, limit=LIMIT)
+            name, failed = " ".join(build), int(ran.status != 0)
+            say(f"{name}: {ran.lines()[-1]}")
+            done.append(Outcome(name, 1 - failed, failed, ran.wall, ran.processor, "FAILED" * failed))
+            begun += [pool.submit(run, *it, 0) for it in WITHOUT_PROOFS if word in it[1].split() and not failed]
+        done += [it.result() for it in begun]
+    others = ", ".join(re.sub(" ?(PROGRAM|BROKER)", "", text) for when, text in CHECKS if (when, text) not in WITHOUT_PROOFS)
     return told(done, [f"what proofs show, for which `bash .ci/run` is: rt ci, {others}"])
 
 

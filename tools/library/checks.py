@@ -132,14 +132,13 @@ def of_examples(library: Library) -> Iterator[Check]:
     embed = TOP / "examples/embed"
     yield "examples/embed/broker.c", serves(library.compiled("examples/embed/broker.c", "-D_GNU_SOURCE"))
     python = [sys.executable, "-B", "-m", "unittest"]
-    os.environ["MIGWELUN_LIBRARY"] = os.environ["BROKER_TEST_LIBRARY"] = str(library.archive.with_suffix(".so"))
+    os.environ["MIGWELUN_LIBRARY"] = str(library.archive.with_suffix(".so"))
     os.environ["MIGWELUN_JOURNAL"] = str(library.compiled("examples/embed/journal.c", "-D_GNU_SOURCE", "-DMOST_LOG=2000"))
     os.environ["MIGWELUN_REFUSING"] = str(library.compiled("examples/embed/refusals.c", *REFUSING))
     yield "replicas that are restored", run(["env", f"PYTHONPATH={TOP / 'conformance'}", *python, "test_snapshots"], embed / "python")
     yield "examples/embed/snapshots.c", run([str(library.compiled("examples/embed/snapshots.c", "-D_GNU_SOURCE")), "10", "10", "20"])
     yield "examples/embed/journal.c, killed", run([*python, "test_journal"], embed / "python")
     yield "examples/embed/python", run([*python, "test_migwelun"], embed / "python")
-    yield "broker --embedded", run([*python, "broker.tests.test_program.Program.test_two_members_of_another_hand_embedded"], TOP)
     if shutil.which("cargo") is None:
         yield "examples/embed/rust", f"{commands.NOT_RUN}there is no cargo"
         return

@@ -10,7 +10,7 @@ from typing import Dict, List, Tuple
 
 from gate import commands, crates
 from gate.checks import TOP
-from launch import answers
+from launch import answers, sources
 from packages import manual, options
 from packages.archives import Entry, Files, zipped
 
@@ -18,7 +18,12 @@ FILES = TOP / "tools/packages/files"
 ANSWERS = answers.of_help(str(TOP))
 VERSION = ANSWERS["--version",].split()[1]
 SUBCOMMANDS = ("reply", "frame", "run", "serve")
-# Programs in Python, with the document that their man pages have, and its sections where that isn't all. They are commands migwelun-NAME of the
+# The services, by the names of their units: what is started, and what it is.
+UNITS = {
+    "migwelun": ("coord serve", "Migwelun, a coordinator of Kafka consumer groups"),
+    "coord-broker": ("coord-broker", "Migwelun's broker for clients of Kafka, with topics in memory"),
+}
+# Programs in Python, with the document that their man pages have, and its sections if that isn't all. They are commands migwelun-NAME of the
 # package, and so are the tools that need only Python. Some of these have their parts in the folder `stories`.
 PAGES = {
     "broker": ("broker/README.md", ("The command line", "A record of the frames", "What a broker does for a consumer")),
@@ -35,9 +40,10 @@ EXAMPLES = ("*.md", "*.py", "run/*", "reply/*", "frame/*", "capture/*", "embed/*
 # The newest C library that may be needed: Debian 11's.
 NEWEST_GLIBC = (2, 31)
 DESCRIPTION = """Kafka consumer group coordinator (KIP-848), proved
- Coordinates Kafka consumer groups by the KIP-848 rebalance protocol: a server
- on 127.0.0.1, a program that answers frames and scripts line by line, a C
- library, and a small broker in Python (migwelun-broker) for stock consumers.
+ Coordinates Kafka consumer groups by the KIP-848 rebalance protocol: a broker
+ for stock clients with topics in memory (coord-broker), a server and a program
+ that answer frames and scripts (coord), a C library, and brokers in Python over
+ etcd (migwelun-broker).
  Each reply is proved, byte by byte, to be the reply that the definitions of
  the protocol prescribe. Groups are in memory: it isn't for production."""
 
@@ -46,9 +52,9 @@ class NotMade(Exception):
     """Why there is no package."""
 
 
-def linked(module: pathlib.Path, folder: pathlib.Path) -> pathlib.Path:
+def linked(module: pathlib.Path, program: pathlib.Path) -> pathlib.Path:
     """The proved module as a program that has its C library inside, so that it runs on every Linux."""
-    kit, program = crates.kit_folder(), folder / "coord"
+    kit = crates.kit_folder()
     words = ["cc", "-static-pie", "-Wl,-s,--gc-sections,-z,relro,-z,now,-z,noexecstack", "-o", str(program), str(module)]
     ran = commands.run([*words, f"{kit}/c/libos_c.a", f"{kit}/c/liblibc_c.a"])
     if ran.status:
@@ -68,17 +74,16 @@ def want_old_glibc(*files: pathlib.Path) -> None:
             raise NotMade(f"{it.name} needs glibc {'.'.join(map(str, glibc_of(it)))}, newer than {'.'.join(map(str, NEWEST_GLIBC))}")
 
 
-def files_of(program: pathlib.Path, library: pathlib.Path, version: str, seconds: int) -> Files:
-    """All files below /usr, with the program and the two libraries of a folder."""
+def files_of(programs: Dict[str, pathlib.Path], library: pathlib.Path, version: str, seconds: int) -> Files:
+    """All files below /usr, with the programs by their names, and the two libraries of a folder."""
     files = {
-        "bin/coord": Entry(program.read_bytes(), 0o755),
+        **{f"bin/{name}": Entry(file.read_bytes(), 0o755) for name, file in programs.items()},
+        **{f"lib/systemd/system/{unit}.service": Entry(service(unit).encode()) for unit in UNITS},
         "lib/libmigwelun.so": Entry((library / "libmigwelun.so").read_bytes()),
         "lib/libmigwelun.a": Entry((library / "libmigwelun.a").read_bytes()),
         "lib/pkgconfig/migwelun.pc": Entry((FILES / "migwelun.pc").read_bytes().replace(b"VERSION", version.encode())),
-        "lib/systemd/system/migwelun.service": Entry((FILES / "migwelun.service").read_bytes()),
         "include/migwelun.h": taken(TOP / "include/migwelun.h"),
         # Where the Python programs look for what this repository builds.
-        "share/migwelun/coord": Entry(link="../../bin/coord"),
         "share/migwelun/out/libmigwelun.so": Entry(link="../../../lib/libmigwelun.so"),
         "share/migwelun/out/libmigwelun.a": Entry(link="../../../lib/libmigwelun.a"),
         "share/migwelun/tools/rules": Entry(link="../conformance/rules"),
@@ -97,20 +102,29 @@ def files_of(program: pathlib.Path, library: pathlib.Path, version: str, seconds
     files.update({f"share/migwelun/{it.relative_to(TOP)}": taken(it) for it in shared if it.is_file()})
     documents = [TOP / "README.md", TOP / "CHANGELOG.md", *(TOP / "docs").glob("*.md"), *(TOP / "docs/pictures").glob("*")]
     files.update({f"share/doc/migwelun/{it.relative_to(TOP)}": taken(it) for it in documents})
-    return {**files, **of_options(version, seconds)}
+    return {**files, **of_options(str(programs[sources.BROKER]), version, seconds)}
+
+
+def service(unit: str) -> str:
+    """A unit of systemd."""
+    command, about = UNITS[unit]
+    words = {"UNIT": unit, "COMMAND": command, "PAGE": command.replace(" ", "-"), "ABOUT": about}
+    return re.sub("|".join(words), lambda found: words[found[0]], (FILES / "service").read_text())
 
 
 def taken(path: pathlib.Path) -> Entry:
     return Entry(path.read_bytes(), 0o755 if os.access(path, os.X_OK) else 0o644)
 
 
-def of_options(version: str, seconds: int) -> Files:
-    """Man pages and completions."""
+def of_options(broker: str, version: str, seconds: int) -> Files:
+    """Man pages and completions. The broker is asked for its own help."""
     document = as_installed((TOP / "docs/COMMANDS.md").read_text())
     more = "".join(f"### {it}\n{manual.section(document, it)}" for it in ("Lines", "Reasons"))
     # Each command's help, and the text of its page.
     found = [(options.read("coord", ANSWERS["--help",]), "\n\n".join(document.split("\n\n")[1:3]) + "\n" + more)]
     found += [(options.read(f"coord {it}", ANSWERS[it, "--help"]), manual.section(document, f"`coord {it}`")) for it in SUBCOMMANDS]
+    said = subprocess.run([broker, "--help"], stdout=subprocess.PIPE, text=True, check=True).stdout
+    found.append((options.read(sources.BROKER, said), manual.section(document, f"`{sources.BROKER}`")))
     for name, (path, titles) in PAGES.items():
         own = ["-m", name] if name in PROGRAMS else [f"tools/{name}"]
         words = {**os.environ, "COLUMNS": "1000", "PROGRAM_NAME": f"migwelun-{name}"}
@@ -121,12 +135,12 @@ def of_options(version: str, seconds: int) -> Files:
     pages = {it.command.replace(" ", "-"): (it, part) for it, part in found}
     made = {own: manual.page(it, version, seconds, part, [name for name in pages if name != own]) for own, (it, part) in pages.items()}
     files = {f"share/man/man1/{own}.1.gz": Entry(zipped(text.encode())) for own, text in made.items()}
-    return {**files, **completions_of(["coord", *(f"migwelun-{it}" for it in PAGES)])}
+    return {**files, **completions_of([*sources.PROGRAMS, *(f"migwelun-{it}" for it in PAGES)])}
 
 
 def as_installed(text: str) -> str:
     """A document with the commands of the package in place of those of the repository."""
-    names = {"./coord": "coord", **{f"python3 -m {it} ": f"migwelun-{it} " for it in PROGRAMS}, **{f"tools/{it}": f"migwelun-{it}" for it in TOOLS}}
+    names = {"./coord broker": sources.BROKER, "`coord broker`": f"`{sources.BROKER}`", "./coord": "coord", **{f"python3 -m {it} ": f"migwelun-{it} " for it in PROGRAMS}, **{f"tools/{it}": f"migwelun-{it}" for it in TOOLS}}
     for here, there in names.items():
         text = text.replace(here, there)
     return text
